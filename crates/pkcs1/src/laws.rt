@@ -63,8 +63,8 @@ pub fn lemma_same_keys_have_the_same_encoding()
     ensures private { SameByShortest PrivateKeyEncoding }
 {}
 
-/// The borrowed and the owned form of a type have the encodings of the statement: so a clause of `Decode` or `Encode` at
-/// one of these types is about the encodings that the other laws here are about.
+/// The borrowed and the owned form of a type have the encodings of the statement: so a clause of `Decode` or `Encode`
+/// at one of these types is about the encodings that the other laws here are about.
 pub fn lemma_forms_share_the_grammars()
     ensures public { let borrowed = ⟦<RsaPublicKey<UintRef<'static>> as Encoding>⟧ in
         let owned = ⟦<RsaPublicKey<Uint> as Encoding>⟧ in

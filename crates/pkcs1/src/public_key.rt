@@ -1,5 +1,5 @@
-//! RSA public keys. `try_from` reads one. It calls `from_der` of `der_core/src/decode.rt`. `record.rt` and `parts.rt` there
-//! read the row of parts that `Record` names. `traits.rt` has the calls for owned keys.
+//! RSA public keys. `try_from` reads one. It calls `from_der` of `der_core/src/decode.rt`. `record.rt` and `parts.rt`
+//! there read the row of parts that `Record` names. `traits.rt` has the calls for owned keys.
 ghost use Rattle.pkcs1.specs.Words.{public_row};
 
 use der_core::{

@@ -1,5 +1,5 @@
-//! Parameters in their algorithm identifier (RFC 8017 A.2.3, A.2.1; RFC 5280 4.1.1.2). `AlgorithmView::from_der` reads one, and
-//! `reading.rt` the parameters in it.
+//! Parameters in their algorithm identifier (RFC 8017 A.2.3, A.2.1; RFC 5280 4.1.1.2). `AlgorithmView::from_der` reads
+//! one, and `reading.rt` the parameters in it.
 ghost use Rattle.std.specs.Prelude.{◌≡◌, ◌++◌, ⊤, drop, length, Err, IfErr, IfOk};
 ghost use Rattle.der_core.specs.Words.{Reading, ok_of, sequence_tag as sequence_kind, tlv};
 ghost use Rattle.spki_core.specs.Words.{algorithm_in, algorithm_of, any_as, any_of, record_read, record_strictly};

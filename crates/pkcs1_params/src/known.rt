@@ -208,10 +208,10 @@ fn label_front(count: u8) -> [u8; 17]
 }
 
 /// Writes the shortest encoding of RSASSA-PSS parameters with these identifiers and this salt length to the front of a
-/// slice, if it is known and there is room. Both hash functions have NULL. Some(Ok(n)): it is the first n octets.
-/// Some(Err(n)): it has n octets, the slice is shorter, and is as it was. None: the slice is as it was. Some exactly if
-/// the mask generation function is MGF1, and both hash functions are SHA-1 or in NIST's arc of hash functions, with a
-/// number below 128.
+/// slice, alone or in their algorithm identifier, if it is known and there is room. Both hash functions have NULL.
+/// Some(Ok(n)): it is the first n octets. Some(Err(n)): it has n octets, the slice is shorter, and is as it was. None:
+/// the slice is as it was. Some exactly if the mask generation function is MGF1, and both hash functions are SHA-1 or
+/// in NIST's arc of hash functions, with a number below 128.
 #[inline(always)]
 pub fn encode_known_pss(
     hash: &[u8],

@@ -1,4 +1,5 @@
-//! Parameters of RSASSA-PSS (RFC 8017 A.2.3). `try_from` and `from_der_strict` read them by the functions of `reading.rt`.
+//! Parameters of RSASSA-PSS (RFC 8017 A.2.3). `try_from` and `from_der_strict` read them by the functions of
+//! `reading.rt`.
 ghost use Rattle.std.specs.Prelude.{◌≡◌, ◌↔◌, None, refl};
 ghost use Rattle.pkcs1_params.specs.Words.{IsEncoded, PssParameters, fault_in, id_mgf1, pss_in, pss_kinds, pss_of, pss_read, pss_record, pss_with, rsa_pss_params, strict_pss_params, with_parameters};
 ghost use Rattle.spki_core.specs.Words.{AreSpelled, Spelling, any_of, null_value, record_alike, record_law, record_means, record_shortest, record_under, spelling_printed, spelling_read};

@@ -1,5 +1,5 @@
-//! What `reading.rt` calls of RSASSA-PSS parameters: octets that are known, in `usual.rt`; fields that are read quickly, in
-//! `quick.rt`; each field by `read_field` of `spki_core`; and defaults that are written, in `strict.rt`.
+//! What `reading.rt` calls of RSASSA-PSS parameters: octets that are known, in `usual.rt`; fields that are read
+//! quickly, in `quick.rt`; each field by `read_field` of `spki_core`; and defaults that are written, in `strict.rt`.
 ghost use Rattle.der_core.specs.Words.{nothing_asked};
 ghost use Rattle.pkcs1_params.specs.Words.{PssParameters, pss_in, pss_record};
 ghost use Rattle.spki_core.specs.Words.{any_of};

@@ -97,9 +97,8 @@ impl<O: IdentifierValue, P: AnyValue> PssParamsOf<O, P> {
         count_defaults(self)
     }
 
-    /// Like `encode_spelling_into`, but returns the part of the slice that was written, which is no longer than the
-    /// slice. That it is the front of it, and that after an error all of the slice is as it was, is only tested. A
-    /// caller that needs in a proof what the slice holds calls `encode_spelling_into`.
+    /// As `encode_spelling_to_slice`. A caller that needs in a proof what the rest of the slice holds calls
+    /// `encode_spelling_into`.
     pub fn encode_spelling<'b>(&self, mask: u8, out: &'b mut [u8]) -> Result<&'b [u8]>
         requires { IsMask (pss_fields (pss_in O.octets P.any self.now)) mask }
         ensures written { let Encoding = SequenceOf IsPss pss_fields (FieldsUnder mask) in

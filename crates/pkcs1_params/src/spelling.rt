@@ -89,7 +89,8 @@ pub trait EncodeParams: Copy + Drop {
     }
 
     /// Like `encode_spelling_into`, but returns the part of the slice that was written, as `encode_to_slice` does. It
-    /// is no longer than the slice.
+    /// is no longer than the slice. That it is the front of it, and that after an error all of the slice is as it was,
+    /// is only tested.
     final fn encode_spelling_to_slice<'b>(self, mask: u8, out: &'b mut [u8]) -> Result<&'b [u8]>
         requires { IsMask (Self.fields_of (Self.params self)) mask }
         ensures written { let Encoding = EncodingUnderMask mask Self.Is Self.fields_of in

@@ -1,5 +1,5 @@
-//! Parameters that begin with a SHA-2 or SHA-3 hash function with NULL, and MGF1 with the same hash function, or have a salt length
-//! alone. Most are such, so their octets are compared before they are read field by field.
+//! Parameters that begin with a SHA-2 or SHA-3 hash function with NULL, and MGF1 with the same hash function, or have a
+//! salt length alone. Most are such, so their octets are compared before they are read field by field.
 ghost use Rattle.std.specs.Prelude.{◌≡◌, ◌<◌, ◌∷◌, ◌&&◌, [], eqb, false, length, IfSome, IsTrue};
 ghost use Rattle.der_core.specs.Words.{sequence_octet};
 ghost use Rattle.spki_core.specs.Words.{any_of, identifier_octets, mask_gen_in, viewed_with};

@@ -10,8 +10,8 @@ fn place_of(byte: u8, bytes: &[u8]) -> Option<usize>
     bytes.iter().position(|other| *other == byte)
 }
 
-/// Returns the first line of bytes of which there is one, without its line feed, and what follows the line feed, which
-/// is shorter than the bytes.
+/// Returns the first line, without its line feed, and what follows the line feed, which is shorter than the bytes.
+/// Requires that there is a byte.
 pub fn split_line(bytes: &[u8]) -> (&[u8], &[u8])
     requires { 0 < length bytes.now }
     ensures lines { lines_of bytes.now ≡ result.0.now ∷ lines_of result.1.now }

@@ -1,5 +1,5 @@
-//! A private key as it is written: a row of its parts. The compiler takes rows of seven parts at most, so the end of the
-//! row is a type of its own.
+//! A private key as it is written: a row of its parts. The compiler takes rows of seven parts at most, so the end of
+//! the row is a type of its own.
 ghost use Rattle.std.specs.Prelude.{◌≡◌, ◌≤◌, ◌⊎◌, Option, length, option_map};
 ghost use Rattle.der_core.specs.Words.{Appends, Counts, Prepends, RefusedAs, free_of, last, last_alike, last_law, last_shortest, limit, parts, row_alike, row_law, row_shortest};
 ghost use Rattle.pkcs1.specs.Words.{RowIsValid, ThreeNumbersAreValid, ThreeNumbersThen, crt_with, key_row, parts_row, row_as, row_printed, three_numbers_as, three_numbers_printed};

@@ -1,5 +1,5 @@
-//! Which calls on files are made, in order: no file is created before what goes into it is there, none is renamed before it
-//! is whole, and no other file is touched.
+//! Which calls on files are made, in order: no file is created before what goes into it is there, none is renamed
+//! before it is whole, and no other file is touched.
 use crate::tests::checks::{equal, holds};
 use crate::tests::key_files::{PRIVATE, PUBLIC};
 use crate::tests::recorded::{Call, Calls, Recorder};
