@@ -1,4 +1,4 @@
-# Builds libpkcs1 and pkcs1_tool with a C compiler, from what ffi/generated holds of the proved code.
+# Builds libpkcs1 and pkcs1_tool with a C compiler, from what ffi/lib/generated holds of the proved code.
 #
 #     make              out/libpkcs1.a, out/libpkcs1.so and, where there is assembly for the machine, out/pkcs1_tool;
 #                       for Windows out/libpkcs1.a, out/libpkcs1-1.dll and out/libpkcs1.dll.a; elsewhere, as for
@@ -17,7 +17,7 @@
 # GENERATED                 the folder of the generated files
 PREFIX ?= /usr/local
 OUT ?= out
-GENERATED ?= ffi/generated
+GENERATED ?= ffi/lib/generated
 # What was built is tested and installed, if nothing else is asked for.
 ifeq ($(filter-out check test install,$(or $(MAKECMDGOALS),all)),)
 -include $(OUT)/told
@@ -32,11 +32,11 @@ endif
 ifneq ($(word 2,$(OUT)),)
 $(error OUT can't have a space: name another folder than $(OUT))
 endif
-version := $(shell sed -n 's/^.define PKCS1_VERSION_[A-Z]* //p' ffi/include/pkcs1.h | paste -s -d .)
+version := $(shell sed -n 's/^.define PKCS1_VERSION_[A-Z]* //p' ffi/lib/include/pkcs1.h | paste -s -d .)
 
 # What can't be built stops here, in one line, before anything is made.
 ifneq ($(filter-out amalgamation clean uninstall,$(or $(MAKECMDGOALS),all)),)
-machine := $(shell ffi/machine.sh $(CC) $(CFLAGS))
+machine := $(shell ffi/lib/machine.sh $(CC) $(CFLAGS))
 ifeq ($(filter x86_64 aarch64 other windows archive,$(machine)),)
 $(error $(machine))
 endif
@@ -65,7 +65,7 @@ tool := $(if $(wildcard $(GENERATED)/$(machine)/pkcs1_tool.s),$(OUT)/pkcs1_tool)
 # What is left to the link can't be made local; debuggers go back from each call; a program need not keep all of them.
 library := $(if $(filter windows archive,$(machine)),,-fPIC) -fno-lto -fasynchronous-unwind-tables \
     -ffunction-sections -fdata-sections
-compile = $(CC) -std=c99 $(CFLAGS) $(library) -Iffi/include -c $< -o $@
+compile = $(CC) -std=c99 $(CFLAGS) $(library) -Iffi/lib/include -c $< -o $@
 assemble = $(CC) $(CFLAGS) -g0 -Wno-unused-command-line-argument -c $< -o $@
 
 all: fresh $(OUT)/libpkcs1.a $(tool)
@@ -93,29 +93,29 @@ $(OUT)/proved.o: $(code) $(OUT)/settings
 	$(if $(filter c,$(CODE)),$(compile),$(assemble))
 $(OUT)/tool.o: $(GENERATED)/$(machine)/pkcs1_tool.s $(OUT)/settings
 	$(assemble)
-$(OUT)/calls.o: ffi/c/pkcs1.c ffi/include/pkcs1.h ffi/include/pkcs1_c.h $(OUT)/settings
+$(OUT)/calls.o: ffi/lib/pkcs1.c ffi/lib/include/pkcs1.h ffi/lib/include/pkcs1_c.h $(OUT)/settings
 	$(compile)
-$(OUT)/os.o: ffi/c/os.c $(OUT)/settings
+$(OUT)/os.o: ffi/lib/os.c $(OUT)/settings
 	$(compile)
-$(OUT)/libpkcs1.a: $(OUT)/proved.o $(OUT)/calls.o ffi/link.sh
-	ffi/link.sh $(OUT)
+$(OUT)/libpkcs1.a: $(OUT)/proved.o $(OUT)/calls.o ffi/lib/link.sh
+	ffi/lib/link.sh $(OUT)
 $(OUT)/pkcs1_tool: $(OUT)/tool.o $(OUT)/os.o
 	$(CC) $(CFLAGS) -fno-lto $(LDFLAGS) -Wl,-z,relro,-z,now -o $@ $^
 
 # Made for whatever compiler comes: the compiler that is here isn't asked.
 amalgamation:
 	@mkdir -p $(OUT)
-	ffi/amalgamation.sh $(GENERATED) > $(OUT)/pkcs1_all.c
-	cp ffi/include/pkcs1.h $(OUT)
+	ffi/lib/amalgamation.sh $(GENERATED) > $(OUT)/pkcs1_all.c
+	cp ffi/lib/include/pkcs1.h $(OUT)
 
 check test: all
-	ffi/check.sh $(OUT)
-	ffi/check_sizes.sh $(OUT)
+	ffi/tests/check.sh $(OUT)
+	ffi/tests/check_sizes.sh $(OUT)
 
 install: all
-	DESTDIR='$(DESTDIR)' LIBDIR='$(LIBDIR)' ffi/install.sh add '$(PREFIX)' $(version) $(OUT) $(tool)
+	DESTDIR='$(DESTDIR)' LIBDIR='$(LIBDIR)' ffi/lib/install.sh add '$(PREFIX)' $(version) $(OUT) $(tool)
 uninstall:
-	DESTDIR='$(DESTDIR)' LIBDIR='$(LIBDIR)' ffi/install.sh remove '$(PREFIX)' $(version)
+	DESTDIR='$(DESTDIR)' LIBDIR='$(LIBDIR)' ffi/lib/install.sh remove '$(PREFIX)' $(version)
 
 clean:
 	rm -rf $(OUT)

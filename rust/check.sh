@@ -9,8 +9,8 @@
 #     preconditions    no function with a `requires` is reached from outside
 #     rows             the worked rows, the tests in Rattle and the tool, erased
 #     beside           COUNT inputs by chance, beside the library that rt compiles, the other compiler of the same proof:
-#                      ffi/build.sh --library leaves it. Where it isn't, beside the one that make builds, and a line says
-#                      so. The SEED is another one each day
+#                      ffi/proof/build.sh --library leaves it. Where it isn't, beside the one that make builds, and a
+#                      line says so. The SEED is another one each day
 #     memory           each request for memory refused
 #     secrets          the path on a private key, under valgrind
 #     oldest           the crate and the rows, by Debian's rustc 1.85
@@ -127,7 +127,7 @@ with_c() {
 }
 # with_built COMPILER FOLDER: the folder has what calls its library for programs.
 with_built() {
-    "$1" -std=c99 -O2 -Wall -Wextra -Werror -pedantic -Iffi/include -c rust/check/built.c -o "$2/built.o"
+    "$1" -std=c99 -O2 -Wall -Wextra -Werror -pedantic -Iffi/lib/include -c rust/check/built.c -o "$2/built.o"
     cp "$2/libpkcs1.a" "$2/libbuilt.a"
     ar rs "$2/libbuilt.a" "$2/built.o" 2> "$OUT/log"
 }
@@ -140,10 +140,10 @@ beside() {
     if [ -e $proved ]; then
         needs gcc ar ld objcopy
         mkdir -p "$folder"
-        quietly ffi/link_proved.sh ffi/link_proved.sh $proved "$folder"
+        quietly ffi/proof/link_proved.sh ffi/proof/link_proved.sh $proved "$folder"
         with_built gcc "$folder"
     else
-        of="that make builds, as $proved isn't there: ffi/build.sh --library has rt compile it" folder=$OUT/c
+        of="that make builds, as $proved isn't there: ffi/proof/build.sh --library has rt compile it" folder=$OUT/c
         with_c gcc "$folder"
     fi
     linked beside "$folder" --profile checked

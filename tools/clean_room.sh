@@ -49,9 +49,9 @@ c_program() {
     [ "$(find "$prefix" -type f ! -perm 644 -printf '%P %m')" = 'bin/pkcs1_tool 755' ] || stop "what is installed has other modes"
     export PKG_CONFIG_PATH=$prefix/lib/pkgconfig
     # shellcheck disable=SC2046 # words
-    cc ffi/c/modulus.c $(pkg-config --cflags --libs libpkcs1) -Wl,-rpath,"$prefix/lib" -o "$room/shared"
+    cc ffi/examples/modulus.c $(pkg-config --cflags --libs libpkcs1) -Wl,-rpath,"$prefix/lib" -o "$room/shared"
     # shellcheck disable=SC2046 # words
-    cc -static ffi/c/modulus.c $(pkg-config --static --cflags --libs libpkcs1) -o "$room/static"
+    cc -static ffi/examples/modulus.c $(pkg-config --static --cflags --libs libpkcs1) -o "$room/static"
     prints "$room/shared"
     prints "$room/static"
     readelf -d "$room/shared" | grep -q 'NEEDED.*libpkcs1\.so\.1' || stop "libpkcs1.so isn't linked"
@@ -148,8 +148,8 @@ musl() {
 llvm() {
     export CC=clang NM=llvm-nm READELF=llvm-readelf
     make OUT=out/llvm AR=llvm-ar OBJCOPY=llvm-objcopy
-    ffi/check_object.sh out/llvm
-    ffi/check_abi.sh
+    ffi/tests/check_object.sh out/llvm
+    ffi/tests/check_abi.sh
 }
 # A folder with a space is refused, in one line, before anything is made. `clean` is through before the others begin.
 goals() {
@@ -165,7 +165,7 @@ goals() {
     make OUT=out/again
     PATH=$room/slow:$PATH make -j8 OUT=out/again clean all
     [ -e out/again/libpkcs1.a ] || stop "make -j clean all removes what it makes"
-    make -n test | grep -q ffi/check.sh || stop "make test runs no tests"
+    make -n test | grep -q ffi/tests/check.sh || stop "make test runs no tests"
     ! PROGRAMS=none crates/pkcs1_tool/run_built.sh > "$room/printed" || stop "a tool that isn't there passes its tests"
     ! grep -w rt "$room/printed" || stop "users are told to use the toolchain"
 }
@@ -174,10 +174,10 @@ goals() {
 shared_library() {
     local prefix=$room/seven
     make install PREFIX="$room/one"
-    cc ffi/c/modulus.c "-I$room/one/include" "-L$room/one/lib" -lpkcs1 -o "$room/of_one"
+    cc ffi/examples/modulus.c "-I$room/one/include" "-L$room/one/lib" -lpkcs1 -o "$room/of_one"
     LD_LIBRARY_PATH=$room/one/lib prints "$room/of_one"
     git clone --quiet . "$room/other"
-    sed -i 's/^\(#define PKCS1_ABI\) .*/\1 7/' "$room/other/ffi/include/pkcs1.h"
+    sed -i 's/^\(#define PKCS1_ABI\) .*/\1 7/' "$room/other/ffi/lib/include/pkcs1.h"
     make -C "$room/other" install PREFIX="$prefix"
     readelf -d "$prefix/lib/libpkcs1.so" | grep -q 'SONAME.*\.so\.7\]' || stop "the soname has another number"
     nm -D "$prefix/lib/libpkcs1.so" | grep -q ' pkcs1_version@@PKCS1_7$' || stop "calls have another version"
@@ -190,29 +190,31 @@ shared_library() {
     make -C "$room/other" uninstall PREFIX="$prefix"
     [ -z "$(find "$prefix" ! -type d)" ] || stop "uninstall leaves a library of another number"
     objcopy --redefine-sym pkcs1_c_bit_len=call_of_none "$room/other/out/calls.o"
-    ! CC=cc ffi/link.sh "$room/other/out" 2> "$room/printed" || stop "a call that isn't defined is linked"
+    ! CC=cc ffi/lib/link.sh "$room/other/out" 2> "$room/printed" || stop "a call that isn't defined is linked"
     grep -q call_of_none "$room/printed" || stop "a call that isn't defined isn't named"
 }
 # changes EDIT..: these edits of pkcs1.h are refused, but with another number they are kept.
 changes() {
     local tree=$room/changed edit
     for edit; do
-        rm -rf "$tree" && mkdir -p "$tree" && cp -r ffi/include ffi/abi ffi/machine.sh ffi/check_abi.sh "$tree"
-        sed -i "$edit" "$tree"/include/*.h
-        ! "$tree/check_abi.sh" --write 2> "$room/printed" || stop "$edit is kept without another number"
+        rm -rf "$tree" && mkdir -p "$tree"/{lib,tests}
+        cp -r ffi/lib/{include,machine.sh} "$tree/lib"
+        cp ffi/tests/{abi,check_abi.sh} "$tree/tests"
+        sed -i "$edit" "$tree"/lib/include/*.h
+        ! "$tree/tests/check_abi.sh" --write 2> "$room/printed" || stop "$edit is kept without another number"
         grep -q 'raise PKCS1_ABI' "$room/printed" || stop "$edit: the message doesn't say what to do"
-        sed -i 's/^#define PKCS1_ABI .*/#define PKCS1_ABI 9/' "$tree/include/pkcs1.h"
-        "$tree/check_abi.sh" --write
+        sed -i 's/^#define PKCS1_ABI .*/#define PKCS1_ABI 9/' "$tree/lib/include/pkcs1.h"
+        "$tree/tests/check_abi.sh" --write
     done
 }
 interface() {
     changes 's/uint8_t salt_len;/uint16_t salt_len;/' 's/\(prime1\), \(prime2\)/\2, \1/' 's/size_t others_room/uint32_t others_room/' \
         's/struct pkcs1_bytes \*listed/struct pkcs1_other_prime *listed/' '/^const char \*pkcs1_version/d' \
         's/PKCS1_VALUE = 14/PKCS1_VALUE = 18/' 's/^bool pkcs1_pss_is/int pkcs1_pss_is/' 's/pkcs1_oid_mgf1, //'
-    "$room/changed/check_abi.sh"
-    sed -i 's/^uint64_t pkcs1_bit_len/uint64_t pkcs1_new(void);\n&/' "$room/changed/include/pkcs1.h"
-    ! "$room/changed/check_abi.sh" || stop "an added call isn't noticed"
-    "$room/changed/check_abi.sh" --write
+    "$room/changed/tests/check_abi.sh"
+    sed -i 's/^uint64_t pkcs1_bit_len/uint64_t pkcs1_new(void);\n&/' "$room/changed/lib/include/pkcs1.h"
+    ! "$room/changed/tests/check_abi.sh" || stop "an added call isn't noticed"
+    "$room/changed/tests/check_abi.sh" --write
 }
 # plain_program KEY: installed by a root whose PATH lacks the folder of ldconfig, the library is found by a program that
 # prints the modulus. What is written goes away with the mounts.
@@ -226,7 +228,7 @@ plain_program() {
         mount --bind "$1" /etc
         PATH=/usr/bin:/bin
         make install > "$1/log"
-        cc ffi/c/modulus.c -lpkcs1 -o "$1/plain"
+        cc ffi/examples/modulus.c -lpkcs1 -o "$1/plain"
         "$1/plain" "$2"' sh "$room/etc" "$1"
 }
 crate_tests() {
@@ -268,16 +270,17 @@ release() {
         [ ! -d "$it" ] || diff -r "$it" "$room/unpacked/$it"
     done
     tools/docs/check_names.sh "$room/unpacked" README.md
-    grep -qx "commit: $(git rev-parse HEAD)" "$room/unpacked/ffi/generated/PROVENANCE" || stop "no commit is named"
+    grep -qx "commit: $(git rev-parse HEAD)" "$room/unpacked/ffi/lib/generated/PROVENANCE" || stop "no commit is named"
     parts "$room/unpacked"
 }
 # The one file of a release, which is that of make too: in a program of one's own, and under the C test.
 one_file() {
     make amalgamation OUT="$room/amalgamation"
     diff "$room/amalgamation/pkcs1_all.c" "$room/one file/pkcs1_all.c"
-    cc ffi/c/modulus.c "$room/one file/pkcs1_all.c" "-I$room/one file" -o "$room/own"
+    cc ffi/examples/modulus.c "$room/one file/pkcs1_all.c" "-I$room/one file" -o "$room/own"
     prints "$room/own"
-    cc ffi/c/{test,rows,large}.c "$room/one file/pkcs1_all.c" "-I$room/one file" -Iffi/include -o "$room/own_test"
+    cc ffi/tests/{test,rows,large}.c "$room/one file/pkcs1_all.c" "-I$room/one file" -Iffi/lib/include \
+        -o "$room/own_test"
     "$room/own_test" crates/pkcs1_vectors/stdin
 }
 # parts FOLDER: the list of a release's parts has each crate that is built in, what rustc took in of Rust's own, and the
@@ -285,7 +288,7 @@ one_file() {
 parts() {
     python3 - "$1" << 'END'
 import json, os, re, sys
-list_, said = (open(f"{sys.argv[1]}/{it}").read() for it in ("SBOM.spdx.json", "ffi/generated/PROVENANCE"))
+list_, said = (open(f"{sys.argv[1]}/{it}").read() for it in ("SBOM.spdx.json", "ffi/lib/generated/PROVENANCE"))
 list_ = json.loads(list_)
 parts = {it["name"]: it for it in list_["packages"]}
 folders = "src/proved", "c/src/calls", "src/bin/pkcs1_tool/tool"

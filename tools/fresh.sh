@@ -1,11 +1,11 @@
 #!/bin/sh
-# Is ffi/generated made of the text that is here? If not, one line says so, and the status is 1. Where sha256sum is
+# Is ffi/lib/generated made of the text that is here? If not, one line says so, and the status is 1. Where sha256sum is
 # missing nothing is said. make, release.sh and generate.sh call it.
 #
 #     tools/fresh.sh [--hash]    the hash of what the files are made of, and of what makes them, alone
 set -eu
 cd "$(dirname "$0")/.."
-generated=ffi/generated
+generated=ffi/lib/generated
 text='rust/src/clones.rs rust/src/proved rust/src/rattle_std rust/src/bin/pkcs1_tool/rattle_std
     rust/src/bin/pkcs1_tool/tool rust/c/src rust/tool/src'
 makers='tools/generate.sh tools/debian_rust.sh tools/generate/plain.py tools/generate/marks.py

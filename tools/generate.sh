@@ -1,6 +1,6 @@
 #!/usr/bin/env bash
-# Makes ffi/generated, of which a C compiler builds the library and the tool: what Debian's rustc 1.85 makes of the text
-# in rust, as assembly and as C. tools/erase/compare.py says that this text is that of the proved crates. So it needs
+# Makes ffi/lib/generated, of which a C compiler builds the library and the tool: what Debian's rustc 1.85 makes of the
+# text in rust, as assembly and as C. tools/erase/compare.py says that this text is that of the proved crates. So it needs
 # neither the toolchain nor a proof, but python3, sha256sum, and what debian_rust.sh needs.
 #
 #     tools/generate.sh            makes it
@@ -9,13 +9,13 @@
 #     tools/generate.sh --fresh    whether it is made of the text that is here (fresh.sh), in a second
 #
 # DEBIAN: the folder of rustc, ~/.cache/pkcs1-gate/debian unless said; rust/check.sh takes the same. The status is 1 if
-# files differ or can't be made. ffi/generated is replaced in the end, and stays as it is if anything fails.
+# files differ or can't be made. ffi/lib/generated is replaced in the end, and stays as it is if anything fails.
 set -eu
 cd "$(dirname "$0")/.."
 . tools/shell.sh
 . tools/debian_rust.sh
 parts=tools/generate
-generated=ffi/generated
+generated=ffi/lib/generated
 export PYTHONDONTWRITEBYTECODE=1
 
 say() {

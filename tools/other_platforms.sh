@@ -14,7 +14,7 @@ leave() {
 }
 trap leave EXIT
 rows=$PWD/crates/pkcs1_vectors/stdin
-tests=(-Iffi/include ffi/c/{test,rows,large}.c)
+tests=(-Iffi/lib/include ffi/tests/{test,rows,large}.c)
 wasi=(clang --target=wasm32-wasi --sysroot=/usr -I/usr/include/wasm32-wasi)
 node=(node --no-warnings "$PWD/tools/wasi.mjs")
 
@@ -35,7 +35,7 @@ by_tcc() {
 in_dialect() {
     local windows=x86_64-w64-mingw32-gcc
     clang --target=x86_64-pc-windows-msvc -std=c99 -Wall -Wextra -Werror -O1 -ffreestanding "-I$room/few" \
-        -Iffi/include -c "$room/pkcs1_all.c" -o "$room/dialect.o"
+        -Iffi/lib/include -c "$room/pkcs1_all.c" -o "$room/dialect.o"
     "$windows" "${tests[@]}" "$room/dialect.o" -o "$room/dialect.exe"
     wine "$room/dialect.exe" "$rows"
 }
@@ -83,14 +83,14 @@ for_wasi() {
 }
 # without_library OPTION..: each kind of call in a program that has the four functions and nothing else of C.
 without_library() {
-    clang "$@" -std=c99 -Wall -Wextra -Werror -O2 -ffreestanding "-I$room/few" -Iffi/include -c "$room/pkcs1_all.c" \
+    clang "$@" -std=c99 -Wall -Wextra -Werror -O2 -ffreestanding "-I$room/few" -Iffi/lib/include -c "$room/pkcs1_all.c" \
         -o "$room/free.o"
-    clang "$@" -std=c99 -O2 -ffreestanding "-I$room/few" -Iffi/include -c ffi/c/freestanding.c -o "$room/program.o"
+    clang "$@" -std=c99 -O2 -ffreestanding "-I$room/few" -Iffi/lib/include -c ffi/tests/freestanding.c -o "$room/program.o"
 }
 on_arm() {
     without_library --target=arm-linux-gnueabihf -mthumb
     arm-linux-gnueabihf-gcc -nostdlib -static "$room"/{program,free}.o -lgcc -o "$room/on_arm"
-    qemu-arm "$room/on_arm" || stop "the check in line $? of ffi/c/freestanding.c fails"
+    qemu-arm "$room/on_arm" || stop "the check in line $? of ffi/tests/freestanding.c fails"
 }
 on_wasm() {
     without_library --target=wasm32-unknown-unknown
@@ -100,7 +100,7 @@ on_wasm() {
 }
 # alone TARGET: compiled without a warning, and no more.
 alone() {
-    clang "--target=$1" -std=c99 -Wall -Wextra -Werror -ffreestanding "-I$room/few" -Iffi/include \
+    clang "--target=$1" -std=c99 -Wall -Wextra -Werror -ffreestanding "-I$room/few" -Iffi/lib/include \
         -c "$room/pkcs1_all.c" -o "$room/alone.o"
 }
 
@@ -122,7 +122,7 @@ if(PART)
 else()
     find_package(pkcs1 0.8 REQUIRED)
 endif()
-add_executable(program $PWD/ffi/c/modulus.c)
+add_executable(program $PWD/ffi/examples/modulus.c)
 target_link_libraries(program pkcs1::pkcs1)
 enable_testing()
 add_test(NAME program COMMAND program $room/key.der)

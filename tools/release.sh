@@ -10,16 +10,15 @@ failure=2
 contents=(
     Makefile CMakeLists.txt README.md CHANGELOG.md SECURITY.md LICENSE-APACHE LICENSE-MIT
     docs/{USING,PROMISES,DECISIONS,RELEASE}.md
-    ffi/{machine,link,install,amalgamation,check,check_abi,check_object,check_passed,check_freestanding,check_sizes}.sh
-    ffi/{abi,copyright,libpkcs1.pc.in}
-    ffi/{include,generated,tests} rust :!rust/{check,check.sh,preconditions.py} tools/erase/{README.md,{compare,erase,forms,tokens}.py}
-    ffi/c/{pkcs1,os,test,rows,large,passed,freestanding,modulus,read_key,public_half}.c ffi/c/test.h
-    docs/CLAIM.md ffi/c/bits.c ffi/{python,go}
-    ffi/c/{many_keys,open_container,make_container,make_params,signature_algorithm}.c
+    ffi/{lib,examples} ffi/tests/{check,check_abi,check_object,check_passed,check_freestanding,check_sizes}.sh
+    ffi/tests/{abi,keys,test.h,{test,rows,large,passed,freestanding}.c}
+    rust :!rust/{check,check.sh,preconditions.py} tools/erase/{README.md,{compare,erase,forms,tokens}.py}
+    docs/CLAIM.md
     crates/pkcs1_tool/{run_built,copies,refuse_memory,all_rows}.sh
     crates/pkcs1_tool/{refuse_memory.c,rows,stdin,stdout,pkcs1_tool.1}
     crates/pkcs1_vectors/stdin
-    crates.txt ffi/prove.sh ffi/proof tools/{fresh,debian_rust,generate,install}.sh tools/{generate,count_definitions.py}
+    crates.txt ffi/proof :!ffi/proof/{seam,build.sh,link_proved.sh}
+    tools/{fresh,debian_rust,generate,install}.sh tools/{generate,count_definitions.py}
     tools/{shell.sh,platforms.sh,other_platforms.sh,wasi.mjs}
 )
 
@@ -50,7 +49,7 @@ needs python3
 tools/fresh.sh || exit 2
 commit=$(git rev-parse HEAD)
 date=$(git log -1 --format=%ct)
-version=$(sed -n 's/^#define PKCS1_VERSION_[A-Z]* //p' ffi/include/pkcs1.h | paste -s -d .)
+version=$(sed -n 's/^#define PKCS1_VERSION_[A-Z]* //p' ffi/lib/include/pkcs1.h | paste -s -d .)
 name=pkcs1-proved-$version
 room=$(mktemp -d)
 trap 'rm -rf "$room"' EXIT
@@ -59,7 +58,7 @@ export LC_ALL=C
 git archive --prefix="$name/" HEAD "${contents[@]}" crates/*/{src,specs,proofs} | tar x -C "$room"
 tools/sbom.py "$version" "$commit" "$date" > "$room/$name/SBOM.spdx.json"
 cd "$room/$name"
-sed -i "s/^sources: .*/&\ncommit: $commit/" ffi/generated/PROVENANCE
+sed -i "s/^sources: .*/&\ncommit: $commit/" ffi/lib/generated/PROVENANCE
 readme
 # A link to what isn't packed is its text alone.
 for document in *.md docs/*.md rust/README.md tools/erase/README.md; do
@@ -70,7 +69,7 @@ done
 find . -type f ! -name SHA256SUMS | sed 's,^\./,,' | sort | tr '\n' '\0' | xargs -0 sha256sum > SHA256SUMS
 cd "$room"
 mkdir -p "$out" "$name-one-file"
-cp "$name"/{LICENSE-APACHE,LICENSE-MIT,ffi/copyright,ffi/include/pkcs1.h,ffi/generated/PROVENANCE} "$name-one-file"
-"$name/ffi/amalgamation.sh" "$name/ffi/generated" > "$name-one-file/pkcs1_all.c"
+cp "$name"/{LICENSE-APACHE,LICENSE-MIT,ffi/lib/{copyright,include/pkcs1.h,generated/PROVENANCE}} "$name-one-file"
+"$name/ffi/lib/amalgamation.sh" "$name/ffi/lib/generated" > "$name-one-file/pkcs1_all.c"
 pack "$name"
 pack "$name-one-file"

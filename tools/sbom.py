@@ -18,7 +18,7 @@ FOLDERS = ("rust/src/proved", "rust/c/src/calls", "rust/src/bin/pkcs1_tool/tool"
 
 def provenance():
     """What PROVENANCE says: the words behind each name in front of a colon."""
-    with open("ffi/generated/PROVENANCE", encoding="utf-8") as it:
+    with open("ffi/lib/generated/PROVENANCE", encoding="utf-8") as it:
         return dict(re.findall(r"^(rustc|driver|LLVM): (.*)$", it.read(), re.M))
 
 

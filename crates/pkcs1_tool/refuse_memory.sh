@@ -3,8 +3,8 @@
 # no more. A run with a failed allocation must report that it is out of memory and exit with 1. Of the stored input, and
 # of the rows, it has then written the whole output for the first lines, however many; when it copies a key, OUT is
 # unchanged; allocations for the arguments fail too. A run without a failed allocation must do what was asked. Called by
-# .ci/run and ffi/check.sh after run_built.sh; it needs gcc. It prints any other result, and then exits with 1; the last
-# line counts.
+# .ci/run and ffi/tests/check.sh after run_built.sh; it needs gcc. It prints any other result, and then exits with 1; the
+# last line counts.
 set -u
 # All of it ends in ten minutes, of which it takes seconds.
 [ -n "${LIMITED-}" ] || LIMITED=1 exec timeout 600 "$0" "$@"

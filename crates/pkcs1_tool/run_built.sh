@@ -79,7 +79,7 @@ runs_to_each_status() {
 # The man page names each word that has an answer, and the version of the header of the library.
 manual_is_right() {
     local version
-    version=$(sed -n 's/^#define PKCS1_VERSION_[A-Z]* //p' ../../ffi/include/pkcs1.h | paste -s -d .)
+    version=$(sed -n 's/^#define PKCS1_VERSION_[A-Z]* //p' ../../ffi/lib/include/pkcs1.h | paste -s -d .)
     grep '^\.TH ' pkcs1_tool.1 | grep -q "\"pkcs1 $version\"" || fails "pkcs1_tool.1 has another version than $version"
     grep -v '=> bad line' "$room/rows" | sed -n 's/^\([a-z][a-z0-9-]*\) .*/\1/p' | sort -u > "$room/words"
     grep '^\.BI ' pkcs1_tool.1 | grep -oE '[a-z][a-z0-9-]* "' | tr -d ' "' | sort | diff "$room/words" - ||

@@ -10,7 +10,7 @@ import re
 import sys
 
 TOP = os.path.join(os.path.dirname(os.path.abspath(__file__)), "..", "..")
-sys.path.insert(0, f"{TOP}/ffi/seam")
+sys.path.insert(0, f"{TOP}/ffi/proof/seam")
 import acsl  # noqa: E402
 
 EXPORT = r'#\[unsafe\(no_mangle\)\]\s*pub extern "C" fn (\w+)(?:<[^>]*>)?\(.*?\)(?: -> \w+)?\n(.*?)\n?\{\n'

@@ -1,7 +1,7 @@
 #!/usr/bin/env python3
-"""Plants each mistake of the file `mistakes` in a copy of ffi/c/pkcs1.c, and lets ffi/prove.sh look at the function
-that it is in. Each must be refused: a goal isn't proved that is proved without it, in as many seconds. Prints these
-goals, or that it passed. The status is 1 if one passed. Run by hand: it takes 20 minutes.
+"""Plants each mistake of the file `mistakes` in a copy of ffi/lib/pkcs1.c, and lets ffi/proof/prove.sh look at the
+function that it is in. Each must be refused: a goal isn't proved that is proved without it, in as many seconds. Prints
+these goals, or that it passed. The status is 1 if one passed. Run by hand: it takes 20 minutes.
 
     mistakes.py [SECONDS [FILE]]    how long the prover may take for a goal: 4, if it isn't said. FILE: the names of the
                                     goals that are proved without a mistake, if that was looked at before
@@ -16,7 +16,7 @@ import tempfile
 
 HERE = os.path.dirname(os.path.abspath(__file__))
 SECONDS = sys.argv[1] if len(sys.argv) > 1 else "4"
-whole = open(f"{HERE}/../c/pkcs1.c", encoding="utf-8").read()
+whole = open(f"{HERE}/../lib/pkcs1.c", encoding="utf-8").read()
 
 
 def mistakes():
@@ -45,14 +45,13 @@ def plant(text, function, old, new):
 def prove(text, functions):
     """The names of the goals of these functions that are proved, and of those that aren't."""
     with tempfile.TemporaryDirectory() as room:
-        for name in ("c", "include", "proof", "prove.sh"):
-            copy = shutil.copytree if os.path.isdir(f"{HERE}/../{name}") else shutil.copy
-            copy(f"{HERE}/../{name}", f"{room}/ffi/{name}" if name != "prove.sh" else f"{room}/ffi")
-        with open(f"{room}/ffi/c/pkcs1.c", "w", encoding="utf-8") as it:
+        for name in ("lib", "proof"):
+            shutil.copytree(f"{HERE}/../{name}", f"{room}/ffi/{name}", ignore=shutil.ignore_patterns("generated"))
+        with open(f"{room}/ffi/lib/pkcs1.c", "w", encoding="utf-8") as it:
             it.write(text)
         words = ["-wp-init-const"] if functions == ["identifiers"] else []
-        run = subprocess.run([f"{room}/ffi/prove.sh", "-wp-fct", ",".join(functions), *words], capture_output=True,
-                             text=True, env={**os.environ, "GIVE_UP": SECONDS, "KEEP": room})
+        run = subprocess.run([f"{room}/ffi/proof/prove.sh", "-wp-fct", ",".join(functions), *words],
+                             capture_output=True, text=True, env={**os.environ, "GIVE_UP": SECONDS, "KEEP": room})
         if not os.path.exists(f"{room}/proved"):
             sys.exit(f"{functions}: {run.stdout}{run.stderr}")
         return [set(open(f"{room}/{it}", encoding="utf-8").read().split()) for it in ("proved", "open")]

@@ -1,6 +1,6 @@
-/* What ffi/prove.sh proves: pkcs1.c as it is, and the octets of its identifiers. */
+/* What ffi/proof/prove.sh proves: pkcs1.c as it is, and the octets of its identifiers. */
 #include "pkcs1.acsl.h"
-#include "../c/pkcs1.c"
+#include "../lib/pkcs1.c"
 
 /* The arcs as RFC 8017 and RFC 5758 have them, in octets as X.690 8.19 says: 840 and 113549 take two and three. */
 /*@ predicate is_nist_hash{L}(struct pkcs1_bytes s, integer last) = s.len == 9 && s.data[0] == 2 * 40 + 16 &&

@@ -114,7 +114,7 @@ converts() {
 }
 # conversions: each command of OpenSSL with -out, of the header too, does what it is for.
 conversions() {
-    local header=$top/ffi/include/pkcs1.h command
+    local header=$top/ffi/lib/include/pkcs1.h command
     openssl rsa -in key.pem -traditional -out traditional.pem 2> log
     openssl pkey -in pss.pem -pubout -out pss_public.pem
     for command in 'rsa -in' 'rsa -pubin'; do
@@ -165,7 +165,7 @@ make OUT="$room/out" PREFIX="$PREFIX" install > "$room/log" 2>&1 || stop "make f
 bin
 blocks README.md docs/USING.md crates/pkcs1_tool/pkcs1_tool.1
 ln -s "$PWD/ffi" "$room/out" "$room/files"
-cp ffi/c/modulus.c "$room/files/program.c"
+cp ffi/examples/modulus.c "$room/files/program.c"
 
 cd "$room/files"
 PATH=$room/out:$PATH

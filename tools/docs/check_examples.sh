@@ -7,9 +7,9 @@ cd "$(dirname "$0")/../.."
 exec python3 - <<'END'
 import glob, re, sys
 
-CODE = {'rattle': ['crates/*/src/*.rt'], 'antt': ['crates/*/[ps]*/**/*.antt'], 'c': ['ffi/c/*.c'],
+CODE = {'rattle': ['crates/*/src/*.rt'], 'antt': ['crates/*/[ps]*/**/*.antt'], 'c': ['ffi/*/*.c'],
         'rust': ['rust/examples/*.rs'], 'toml': ['rust/README.md'],
-        'python': ['ffi/python/*.py'], 'go': ['ffi/go/*.go']}
+        'python': ['ffi/examples/*.py'], 'go': ['ffi/examples/*.go']}
 RUN = 'sh', 'cmake', 'meson', 'text'
 
 def plain(text):

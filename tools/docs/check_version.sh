@@ -1,11 +1,11 @@
 #!/usr/bin/env bash
-# Fails where the version isn't that of the macros in ffi/include/pkcs1.h, from which make, the `.pc` file, a release and
-# its list of parts have theirs. That of the built library is compared by ffi/c/test.c.
+# Fails where the version isn't that of the macros in ffi/lib/include/pkcs1.h, from which make, the `.pc` file, a release
+# and its list of parts have theirs. That of the built library is compared by ffi/tests/test.c.
 #     check_version.sh [--write VERSION]    writes it in all places. Then tools/erase/erase.py && tools/generate.sh, as
 #                                           the proved code has it too. CHANGELOG gets its heading by hand.
 set -eu
 cd "$(dirname "$0")/../.."
-header=ffi/include/pkcs1.h
+header=ffi/lib/include/pkcs1.h
 # The places, each with what stands in front of the version and behind it, in Perl.
 places=(
     "$header" 'static string, "' '"'

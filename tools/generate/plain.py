@@ -29,7 +29,7 @@ OBJECT = re.compile(r"^\t\.type\t(\S+),@object\n(?:.*\n)*?\t\.size\t\1, \d+\n", 
 # Hashes in names, with what stands before and behind them.
 HASHES = (("[A-Za-z]Cs", "[0-9A-Za-z]{9,}", r"_\d"), ("17h", "[0-9a-f]{16}", "E"))
 HASHED = re.compile(r"17h[0-9a-f]{16}E|\.L\w+")
-# What C has, and what ffi/c/os.c has.
+# What C has, and what ffi/lib/os.c has.
 OF_C = re.compile(r"mem(?:cpy|move|set|cmp)|malloc|realloc|free|strlen|pkcs1_os_\w+")
 
 

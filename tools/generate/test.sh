@@ -1,5 +1,5 @@
 #!/usr/bin/env bash
-# test.sh [FOLDER]: tests the files that generate.sh made there, else in ffi/generated: the objects are such that
+# test.sh [FOLDER]: tests the files that generate.sh made there, else in ffi/lib/generated: the objects are such that
 # they link with anything, and the C passes the test of the library as the assembly does. And what makes and compares
 # them: a panic is a trap, and what isn't known is refused. It needs gcc, clang, llc, binutils and python3, and for the
 # other processor its gcc and qemu.
@@ -8,7 +8,7 @@ here=$(cd "$(dirname "$0")" && pwd)
 . "$here/../shell.sh"
 ffi=$here/../../ffi
 rows=$here/../../crates/pkcs1_vectors/stdin
-generated=$(realpath "${1:-$ffi/generated}")
+generated=$(realpath "${1:-$ffi/lib/generated}")
 room=$(mktemp -d)
 trap 'rm -rf "$room"' EXIT
 ulimit -t 300 # no test runs forever
@@ -46,13 +46,13 @@ leads_back() {
         }
     fi
     "$2" "${words[@]}" -std=c99 -O1 -fasynchronous-unwind-tables -Wl,--wrap=memcpy,--wrap=memmove \
-        "-I$ffi/include" "$here/way_back.c" "$ffi/c/pkcs1.c" "$room/c.o" -o "$room/way_back"
+        "-I$ffi/lib/include" "$here/way_back.c" "$ffi/lib/pkcs1.c" "$room/c.o" -o "$room/way_back"
     "${run[@]}" "$room/way_back" || stop "$1: a debugger doesn't come back to main"
 }
 # calls_run OUT CC OPTION: the library there runs where the processor looks for marks, and each call goes to an address.
 calls_run() {
     CC=$2 CFLAGS="-O2 -fPIC -fno-plt $3 -Wl,-z,force-bti" RUN='qemu-aarch64 -cpu max' \
-        "$ffi/check_freestanding.sh" "$1" "$1/program" > "$room/said" 2>&1
+        "$ffi/tests/check_freestanding.sh" "$1" "$1/program" > "$room/said" 2>&1
 }
 # library_is_marked PROCESSOR CC OPTION: by a compiler with this option, the library has the marks of its calls and of
 # the assembly. Where those of the assembly are gone, the linker misses them, and so does the processor.
@@ -86,7 +86,7 @@ tool_is_marked() {
     "$ffi/../crates/pkcs1_tool/all_rows.sh" > "$room/rows"
     for it in "$generated/aarch64/pkcs1_tool.s" "$room/unmarked.s"; do
         aarch64-linux-gnu-gcc -O2 -mbranch-protection=bti -nostartfiles -Wl,-z,force-bti "$room/start.s" "$it" \
-            "$ffi/c/os.c" -o "$room/tool" 2> "$room/said"
+            "$ffi/lib/os.c" -o "$room/tool" 2> "$room/said"
         sed 's/ => .*//' "$room/rows" > "$room/lines"
         { qemu-aarch64 -cpu max -L /usr/aarch64-linux-gnu "$room/tool" < "$room/lines" > "$room/printed" || break; } \
             2> "$room/said"
@@ -99,7 +99,7 @@ objects_are_right() {
     local calls='pkcs1_c_[a-z0-9_]*' processor cc option asked marking
     local of_c='memcpy|memmove|memset|memcmp' of_tool
     of_tool="$of_c|strlen|malloc|realloc|free|_GLOBAL_OFFSET_TABLE_"
-    of_tool="$of_tool|$(grep -oE 'pkcs1_os_\w+' "$ffi/c/os.c" | sort -u | paste -sd '|')"
+    of_tool="$of_tool|$(grep -oE 'pkcs1_os_\w+' "$ffi/lib/os.c" | sort -u | paste -sd '|')"
     for processor in x86_64 aarch64; do
         cc=$processor-linux-gnu-gcc
         [ $processor != "$(uname -m)" ] || cc=gcc
@@ -119,7 +119,7 @@ objects_are_right() {
         library_is_marked $processor $cc $marking
         [ $processor != aarch64 ] || tool_is_marked
         for option in -UPKCS1_FOREIGN -DPKCS1_FOREIGN; do
-            $cc -std=c99 -Wall -Wextra -Werror -pedantic -O2 -fPIC $marking $option "-I$ffi/include" \
+            $cc -std=c99 -Wall -Wextra -Werror -pedantic -O2 -fPIC $marking $option "-I$ffi/lib/include" \
                 -c "$generated/pkcs1_c.c" -o "$room/portable.o"
             object_is_right "$room/portable.o" $cc "$calls" "$of_c"
         done
@@ -130,7 +130,7 @@ objects_are_right() {
 # as one file that the link looks into.
 library_passes() {
     local compiler flags sanitized='-O0 -fsanitize=address,undefined -fno-sanitize-recover=all'
-    local files=("-I$ffi/include" "$ffi"/c/{test,rows,large,pkcs1}.c)
+    local files=("-I$ffi/lib/include" "$ffi/lib/pkcs1.c" "$ffi"/tests/{test,rows,large}.c)
     gcc -O1 "${files[@]}" "$generated/$(uname -m)/pkcs1_c.s" -o "$room/test"
     "$room/test" "$rows" > /dev/null
     for compiler in gcc clang; do
@@ -141,17 +141,17 @@ library_passes() {
             "$room/test" "$rows" > /dev/null
         done
     done
-    "$ffi/amalgamation.sh" "$generated" > "$room/pkcs1_all.c"
+    "$ffi/lib/amalgamation.sh" "$generated" > "$room/pkcs1_all.c"
     for compiler in gcc clang; do
-        $compiler -std=c99 -Wall -Wextra -Werror -pedantic -O3 -flto=auto -fstrict-aliasing "-I$ffi/include" \
-            "$ffi"/c/{test,rows,large}.c "$room/pkcs1_all.c" -o "$room/test"
+        $compiler -std=c99 -Wall -Wextra -Werror -pedantic -O3 -flto=auto -fstrict-aliasing "-I$ffi/lib/include" \
+            "$ffi"/tests/{test,rows,large}.c "$room/pkcs1_all.c" -o "$room/test"
         "$room/test" "$rows" > /dev/null
     done
 }
 
 # Where an int has 16 bits, the C isn't compiled.
 small_machines_are_refused() {
-    clang --target=msp430 -ffreestanding -w -fsyntax-only "-I$ffi/include" "$generated/pkcs1_c.c" 2> "$room/error" &&
+    clang --target=msp430 -ffreestanding -w -fsyntax-only "-I$ffi/lib/include" "$generated/pkcs1_c.c" 2> "$room/error" &&
         stop "the C is compiled for 16 bits"
     grep -q '#error "pkcs1.*int has 32 bits' "$room/error" || stop "16 bits stop elsewhere: $(head -n 3 "$room/error")"
 }

@@ -8,7 +8,7 @@ room=$(mktemp -d)
 trap 'rm -rf "$room"' EXIT
 tree=$room/tree
 export DEBIAN=$room/debian
-made=$tree/ffi/generated
+made=$tree/ffi/lib/generated
 
 # A rustc that is called as the file `name` says. It fails where there is a file `fails`.
 stand_in() {
@@ -39,7 +39,7 @@ END
     chmod +x "$DEBIAN/12/usr/bin/rustc"
 }
 make_tree() {
-    mkdir -p "$tree/ffi"
+    mkdir -p "$tree/ffi/lib"
     (cd "$here/../.." && tar c --exclude=target crates.txt crates/*/src rust \
         tools/{generate,fresh,debian_rust,shell}.sh tools/{generate,erase}) | tar x -C "$tree"
     printf '#!/bin/sh\necho tested\n' > "$tree/tools/generate/test.sh"
@@ -66,7 +66,7 @@ spoiled() {
 
 stand_in
 make_tree
-makes 0 'ffi/generated, after'
+makes 0 'ffi/lib/generated, after'
 makes 0 'is tested' --check
 "$tree/tools/generate.sh" --fresh || stop "what was made isn't fresh"
 spoiled rust/src/proved/der_core/length.rs 's/0x80/0x81/' "isn't that of the crates"
@@ -74,7 +74,7 @@ spoiled rust/src/proved/der_core/length.rs 's/0x80/0x81/' 'made of other sources
 spoiled crates/der_core/src/length.rt 's/0x80/0x81/' "isn't that of the crates" --check
 echo > "$tree/tools/erase/compare.py" # which takes some seconds, and has said what it has to
 for it in pkcs1_c.c {x86_64,aarch64}/pkcs1_{c,tool}.s PROVENANCE; do
-    spoiled "ffi/generated/$it" 3s/./_/ "isn't what rustc makes" --check
+    spoiled "ffi/lib/generated/$it" 3s/./_/ "isn't what rustc makes" --check
 done
 mv "$made/aarch64" "$room/aarch64"
 makes 1 "isn't what rustc makes" --check

@@ -49,7 +49,7 @@ objects() {
     local it
     for it; do
         made+=("$(basename "$it").o")
-        gcc -std=gnu11 -O2 -Wall -Wextra $alone -I"$here/harness" -I"$top/ffi/include" -c "$it" -o "${made[-1]}"
+        gcc -std=gnu11 -O2 -Wall -Wextra $alone -I"$here/harness" -I"$top/ffi/lib/include" -c "$it" -o "${made[-1]}"
     done
 }
 # plain_rust WORD..: builds the plain Rust, by the rustc that is found first.

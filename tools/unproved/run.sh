@@ -1,7 +1,7 @@
 #!/usr/bin/env bash
 # Does everything work? Builds and runs what is tested, in a copy of the tree, and proves nothing: the layout that
 # `rt ci` asks for, shellcheck, the documents' checks, the worked rows, the tests, the tool, and of the library for C
-# what `make check` does. .ci/run proves all, and has the library's other tests, those of ffi/test.sh.
+# what `make check` does. .ci/run proves all, and has the library's other tests, those of ffi/tests/test.sh.
 #
 #     tools/unproved/run.sh [layout|documents|rows|tests|tool|ffi|clean_room|rust].. [--keep PREFIX]
 #
@@ -121,7 +121,7 @@ tool() {
 }
 ffi() {
     needs python3 ar "${CC:-gcc}"
-    ffi/check_layout.py
+    ffi/tests/check_layout.py
     ffi/proof/check_requires.py
     ffi/proof/check_ensures.py
     cp -r "$tree" "$room/exports"
@@ -130,8 +130,8 @@ ffi() {
     mkdir -p ffi/out
     ar rcs ffi/out/libpkcs1_c.a "$room/library.o"
     export UNPROVED=$tree/ffi/out
-    ffi/build.sh
-    [ -z "$keep" ] || ffi/build.sh install-unproved "$keep"
+    ffi/proof/build.sh
+    [ -z "$keep" ] || ffi/proof/build.sh install-unproved "$keep"
 }
 
 clean_room() {

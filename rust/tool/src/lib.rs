@@ -1,6 +1,6 @@
 //! The tool over the C library: the text of `pkcs1_tool` without what is there for the proof. C's `main` calls it.
 //!
-//! Of Rust's library only `core` and `alloc` are in it. What the text asks for besides is written over `ffi/c/os.c`.
+//! Of Rust's library only `core` and `alloc` are in it. What the text asks for besides is written over `ffi/lib/os.c`.
 #![no_std]
 #![deny(unsafe_code, clippy::undocumented_unsafe_blocks)]
 // Cargo's tool and the check use more of what they share with this one.

@@ -1,4 +1,4 @@
-//! What the tool asks of the C library, and of `ffi/c/os.c` over it.
+//! What the tool asks of the C library, and of `ffi/lib/os.c` over it.
 
 use super::io::{Error, ErrorKind, Result};
 use core::alloc::{GlobalAlloc, Layout};
@@ -50,7 +50,7 @@ unsafe impl GlobalAlloc for Malloc {
     }
 }
 
-/// What `ffi/c/os.c` returns where there was no memory. Of another failure it returns -1.
+/// What `ffi/lib/os.c` returns where there was no memory. Of another failure it returns -1.
 const NO_MEMORY: isize = -2;
 
 /// What a call returned, if it didn't fail.
@@ -91,7 +91,7 @@ impl Name {
     }
 }
 
-/// How a file is opened. `ffi/c/os.c` has the same numbers.
+/// How a file is opened. `ffi/lib/os.c` has the same numbers.
 #[derive(Clone, Copy)]
 pub enum How {
     /// For reading.

@@ -1,4 +1,4 @@
-/* What ffi/seam/seam.py takes as given: the words of ffi/proof/pkcs1.acsl.h of which nothing else is known there. */
+/* What seam.py takes as given: the words of ffi/proof/pkcs1.acsl.h of which nothing else is known there. */
 #ifndef TERMS_H
 #define TERMS_H
 

@@ -12,4 +12,4 @@ cat << END
 END
 awk '/^#include "pkcs1_c.h"$/ { while ((getline line < "include/pkcs1_c.h") > 0) print line; next } { print }' \
     "$generated/pkcs1_c.c"
-grep -vx '#include "pkcs1_c.h"' c/pkcs1.c
+grep -vx '#include "pkcs1_c.h"' pkcs1.c

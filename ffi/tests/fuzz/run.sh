@@ -4,14 +4,14 @@
 # are run, then the decoders are fuzzed for so long, a minute unless said, from the worked rows and the keys in
 # ffi/tests/keys. It needs clang with libFuzzer, and python3. With 0 seconds the rows and keys are tried alone.
 set -eu
-cd "$(dirname "$0")/../.."
+cd "$(dirname "$0")/../../.."
 seconds=${1:-60} out=${2:-out}
 room=$(mktemp -d)
 trap 'rm -rf "$room"' EXIT
 mkdir "$room/rows" "$room/found"
 python3 - "$room/rows" << 'END'
 import glob, re, sys
-tests = open("ffi/c/rows.c").read()
+tests = open("ffi/tests/rows.c").read()
 kinds = re.findall(r'"([a-z-]+)"', re.search(r"kinds\[KINDS\] = \{(.*?)\}", tests, re.S)[1])
 rows = [line.split()[:2] for line in open("crates/pkcs1_vectors/stdin") if line.split(" ")[0] in kinds]
 inputs = [(kinds.index(kind), b"" if der == "-" else bytes.fromhex(der)) for kind, der in rows]
@@ -20,17 +20,17 @@ for path in glob.glob("ffi/tests/keys/*.der"):
 for i, (kind, der) in enumerate(inputs):
     open(f"{sys.argv[1]}/{i}", "wb").write(bytes([kind]) + der)
 END
-ffi/seam/seam.py ffi/proof/pkcs1.acsl.h ffi/include/pkcs1.h > "$room/seam.c"
+ffi/proof/seam/seam.py ffi/proof/pkcs1.acsl.h ffi/lib/include/pkcs1.h > "$room/seam.c"
 mapfile -t wraps < <(sed -n 's/^[a-z0-9_]* __real_\(pkcs1_c_[a-z_]*\)(.*;$/-Wl,--wrap=\1/p' "$room/seam.c")
 # build PROGRAM FLAG.. SOURCE..: links it with the proved calls, which are watched.
 build() {
     clang -std=gnu11 -O1 -g -Wall -Wextra -Werror -Wno-unused-function -Wno-unused-parameter -DWATCHED \
-        -fsanitize="$2" -fno-sanitize-recover=all -Iffi/include -Iffi/c -Iffi/proof -Iffi/fuzz -Iffi/seam "${@:3}" \
-        "$room/seam.c" ffi/seam/{terms,meaning,writer}.c ffi/fuzz/{reference,elements,compare}.c ffi/c/rows.c \
-        "$out"/{calls,proved}.o "${wraps[@]}" -o "$room/$1"
+        -fsanitize="$2" -fno-sanitize-recover=all -Iffi/lib/include -Iffi/tests{,/fuzz} -Iffi/proof{,/seam} "${@:3}" \
+        "$room/seam.c" ffi/proof/seam/{terms,meaning,writer}.c ffi/tests/fuzz/{reference,elements,compare}.c \
+        ffi/tests/rows.c "$out"/{calls,proved}.o "${wraps[@]}" -o "$room/$1"
 }
-build test address,undefined ffi/c/{test,large}.c &
-build fuzz fuzzer,address,undefined ffi/fuzz/fuzz.c
+build test address,undefined ffi/tests/{test,large}.c &
+build fuzz fuzzer,address,undefined ffi/tests/fuzz/fuzz.c
 wait $!
 # try COMMAND..: shows the end of what it says if it fails.
 try() {

@@ -14,12 +14,12 @@ import tempfile
 from concurrent.futures import ThreadPoolExecutor
 
 HERE = os.path.dirname(os.path.abspath(__file__))
-TOP = os.path.normpath(f"{HERE}/../..")
+TOP = os.path.normpath(f"{HERE}/../../..")
 OUT = os.path.abspath(sys.argv[1])
-FLAGS = ["-std=gnu11", "-w", "-DWATCHED", *(f"-I{TOP}/ffi/{it}" for it in ("include", "c", "proof", "fuzz", "seam"))]
-SOURCES = [f"{TOP}/ffi/{it}.c" for it in (
-    "seam/terms", "seam/meaning", "seam/writer", "fuzz/reference", "fuzz/elements", "fuzz/compare", "c/rows", "c/large",
-    "c/test")]
+FLAGS = ["-std=gnu11", "-w", "-DWATCHED", *(f"-I{TOP}/ffi/{it}" for it in (
+    "lib/include", "tests", "tests/fuzz", "proof", "proof/seam"))]
+SOURCES = [*(f"{HERE}/{it}.c" for it in ("terms", "meaning", "writer")), *(f"{TOP}/ffi/tests/{it}.c" for it in (
+    "fuzz/reference", "fuzz/elements", "fuzz/compare", "rows", "large", "test"))]
 
 
 def mistakes():
@@ -65,7 +65,7 @@ def checked(check, acsl):
 
 def watched(acsl, made, test, objects):
     with open(made, "w", encoding="utf-8") as it:
-        it.write(run(f"{HERE}/seam.py", acsl, f"{TOP}/ffi/include/pkcs1.h").stdout)
+        it.write(run(f"{HERE}/seam.py", acsl, f"{TOP}/ffi/lib/include/pkcs1.h").stdout)
     wraps = [f"-Wl,--wrap={it}" for it in re.findall(r"^\w+ __real_(\w+)\(.*;$", open(made).read(), re.M)]
     built = run("gcc", "-O0", *FLAGS, made, *objects, *wraps, "-o", test)
     if built.returncode:

@@ -16,7 +16,7 @@ again() {
 # rejects NAME IN [OUT [TEXT]]: the example says that it can't read the file, by a line that has TEXT.
 rejects() {
     if "$examples/$1" "${@:2:2}" > "$room/text" 2>&1 || ! grep -q "$2: .*${4-}" "$room/text"; then
-        echo "ffi/openssl.sh: $examples/$1 reads $2, or doesn't say what is wrong: $(cat "$room/text")" >&2
+        echo "ffi/tests/openssl.sh: $examples/$1 reads $2, or doesn't say what is wrong: $(cat "$room/text")" >&2
         exit 1
     fi
 }

@@ -1,29 +1,29 @@
 #!/usr/bin/env bash
-# Counts the instructions of the calls in c/count.c, and compares them with the table ffi/counts. It fails where a call
-# has 3 % more or fewer, or where a row is missing or new. Contracts say nothing of time. Where a function is large,
+# Counts the instructions of the calls in count.c, and compares them with the table ffi/tests/counts. It fails where a
+# call has 3 % more or fewer, or where a row is missing or new. Contracts say nothing of time. Where a function is large,
 # rustc may leave another out of line, and a call takes a fifth more: it's seen here.
 #
-#     ffi/count.sh [LIBRARY]    LIBRARY: a libpkcs1.a, in place of those that make builds of ffi/generated, in assembly
-#                               and in C. It is compared with the first
-#     ffi/count.sh --write      writes the table anew
+#     ffi/tests/count.sh [LIBRARY]    LIBRARY: a libpkcs1.a, in place of those that make builds of ffi/lib/generated, in
+#                                     assembly and in C. It is compared with the first
+#     ffi/tests/count.sh --write      writes the table anew
 #
 # It needs make, gcc, binutils and valgrind, on x86-64. Counts depend neither on the processor nor on the C library, but
 # on the gcc that compiles pkcs1.c. The table names the one that it was made with.
 set -eu
 export LC_ALL=C
-. "$(dirname "$0")/../tools/shell.sh"
-table=ffi/counts
+. "$(dirname "$0")/../../tools/shell.sh"
+table=ffi/tests/counts
 tolerance=3
 
 library=
 case $#:${1-} in
     0: | 1:--write) ;;
     1:[!-]*) library=$(realpath "$1") ;;
-    *) stop "usage: ffi/count.sh [LIBRARY | --write]" ;;
+    *) stop "usage: ffi/tests/count.sh [LIBRARY | --write]" ;;
 esac
-cd "$(dirname "$0")/.."
+cd "$(dirname "$0")/../.."
 needs make gcc objcopy valgrind
-[ "$(ffi/machine.sh gcc)" = x86_64 ] || stop "the table is of x86-64, which gcc doesn't build for here"
+[ "$(ffi/lib/machine.sh gcc)" = x86_64 ] || stop "the table is of x86-64, which gcc doesn't build for here"
 room=$(mktemp -d)
 trap 'rm -rf "$room"' EXIT
 
@@ -37,9 +37,10 @@ quietly() {
 # count NAME LIBRARY: leaves a row for each call in $room/NAME, less what is counted without a call.
 count() {
     local wraps
-    wraps=$(sed -n 's/^UNCOUNTED([^,]*, \([a-z]*\),.*/-Wl,--wrap=\1/p' ffi/c/count.c)
+    wraps=$(sed -n 's/^UNCOUNTED([^,]*, \([a-z]*\),.*/-Wl,--wrap=\1/p' ffi/tests/count.c)
     # shellcheck disable=SC2086 # words
-    quietly gcc -std=c99 -O2 -Wall -Wextra -Werror -pedantic -Iffi/include ffi/c/count.c "$2" $wraps -o "$room/count"
+    quietly gcc -std=c99 -O2 -Wall -Wextra -Werror -pedantic -Iffi/lib/include ffi/tests/count.c "$2" $wraps \
+        -o "$room/count"
     quietly valgrind --tool=callgrind --collect-atstart=no --combine-dumps=yes --callgrind-out-file="$room/dumps" \
         "$room/count" ffi/tests/keys
     awk 'sub(/^desc: Trigger: Client Request: /, "") { call = $1; input = $2; next }

@@ -5,9 +5,10 @@
 # its tests are left out.
 set -eu
 here=$(cd "$(dirname "$0")" && pwd)
-. "$here/../tools/shell.sh"
-out=$here/out
-rows=$here/../crates/pkcs1_vectors/stdin
+. "$here/../../tools/shell.sh"
+ffi=$here/..
+out=$ffi/out
+rows=$ffi/../crates/pkcs1_vectors/stdin
 CC=${CC:-gcc} CXX=${CXX:-g++}
 room=$(mktemp -d)
 trap 'rm -rf "$room"' EXIT
@@ -17,8 +18,8 @@ have clang "the C tests are compiled by $CC alone" && clang='clang' || clang=
 have clang++ "the C++ test is compiled by $CXX alone" && clangxx='clang++' || clangxx=
 
 # C and C++.
-flags=(-O1 -g -Wall -Wextra -Werror -pedantic "-I$here/include")
-test=("$here/c/test.c" "$here/c/rows.c" "$here/c/large.c")
+flags=(-O1 -g -Wall -Wextra -Werror -pedantic "-I$ffi/lib/include")
+test=("$here/test.c" "$here/rows.c" "$here/large.c")
 printf '%s\n' '#include <pkcs1.h>' 'void ignore(struct pkcs1_public_key *key);' \
     'void ignore(struct pkcs1_public_key *key) { pkcs1_public_key_decode(0, 0, key); }' > "$room/ignored.c"
 # warns COMPILER..: it warns of a caller that ignores a status.
@@ -28,30 +29,30 @@ warns() {
         stop "$* doesn't warn of a status that is ignored"
     fi
 }
-[ -z "$(awk '/^uint32_t pkcs1_/ && before != "PKCS1_MUST_CHECK"; { before = $0 }' "$here/include/pkcs1.h")" ] ||
+[ -z "$(awk '/^uint32_t pkcs1_/ && before != "PKCS1_MUST_CHECK"; { before = $0 }' "$ffi/lib/include/pkcs1.h")" ] ||
     stop "pkcs1.h has a call whose status may be ignored"
 for compiler in "$CXX" $clangxx; do
     warns "$compiler" -x c++
-    "$compiler" -std=c++11 -Wold-style-cast "${flags[@]}" -x c++ "$here/c/header.cc" -x none "$out/libpkcs1.a" -o "$room/header"
+    "$compiler" -std=c++11 -Wold-style-cast "${flags[@]}" -x c++ "$here/header.cc" -x none "$out/libpkcs1.a" \
+        -o "$room/header"
     "$room/header"
 done
 for compiler in $clang "$CC"; do
     warns "$compiler"
-    "$compiler" -std=c99 "${flags[@]}" -fsyntax-only "$here"/c/{passed,freestanding}.c
+    "$compiler" -std=c99 "${flags[@]}" -fsyntax-only "$here"/{passed,freestanding}.c
     "$compiler" -std=c99 "${flags[@]}" "${test[@]}" "$out/libpkcs1.a" -o "$room/test"
-    for name in sizes many_keys bits modulus read_key public_half open_container make_container make_params \
-        signature_algorithm; do
-        "$compiler" -std=c99 "${flags[@]}" "$here/c/$name.c" "$out/libpkcs1.a" -o "$room/$name"
+    for source in "$here/sizes.c" "$ffi"/examples/*.c; do
+        "$compiler" -std=c99 "${flags[@]}" "$source" "$out/libpkcs1.a" -o "$room/$(basename "$source" .c)"
     done
     "$room/test" "$rows"
     "$room/sizes"
     "$room/many_keys" 2000 > "$room/log"
 done
-"$CC" -std=c11 "${flags[@]}" -fsanitize=address,undefined -fno-sanitize-recover=all "${test[@]}" "$here/c/pkcs1.c" \
+"$CC" -std=c11 "${flags[@]}" -fsanitize=address,undefined -fno-sanitize-recover=all "${test[@]}" "$ffi/lib/pkcs1.c" \
     "$out/proved.o" -o "$room/sanitized"
 "$room/sanitized" "$rows"
 CFLAGS=-O2 "$here/check.sh" "$out"
-"$CC" -std=c99 "${flags[@]}" "$here/c/dlopen.c" -ldl -o "$room/dlopen"
+"$CC" -std=c99 "${flags[@]}" "$here/dlopen.c" -ldl -o "$room/dlopen"
 "$room/dlopen" "$out/libpkcs1.so"
 if have valgrind "the C test runs under the sanitizers alone"; then
     valgrind --quiet --error-exitcode=9 --leak-check=full "$room/test" "$rows"
@@ -64,7 +65,7 @@ done
 [ -z "$conduct" ] || "$conduct"
 
 # Octets that change during a call; two threads a mode.
-"$CC" -std=c99 "${flags[@]}" "$here/c/races.c" "$out/libpkcs1.a" -lpthread -o "$room/races"
+"$CC" -std=c99 "${flags[@]}" "$here/races.c" "$out/libpkcs1.a" -lpthread -o "$room/races"
 "$room/races" | xargs -P $((($(nproc) + 1) / 2)) -n 1 timeout 60 "$room/races" > "$room/log" ||
     stop "octets that change during a call do harm"
 
@@ -72,28 +73,29 @@ done
 # in for the tool.
 version=$("$room/test" --version)
 export LIBDIR=$room/c/lib64
-(umask 077 && CFLAGS=-DNDEBUG LDFLAGS=-Wl,-z,nodelete "$here/build.sh" install "$room/c" > /dev/null)
+(umask 077 && CFLAGS=-DNDEBUG LDFLAGS=-Wl,-z,nodelete "$ffi/proof/build.sh" install "$room/c" > /dev/null)
 cp "$room/modulus" "$room/pkcs1_tool"
-"$here/install.sh" add "$room/c" "$version" "$out" "$room/pkcs1_tool" > /dev/null
+"$ffi/lib/install.sh" add "$room/c" "$version" "$out" "$room/pkcs1_tool" > /dev/null
 [ -z "$(find "$room/c" -type d ! -perm 755 -o -type f ! -perm 644 ! -path "*/bin/*" \
     -o -path "*/bin/*" ! -perm 755)" ] || stop "what is installed has other modes"
 readelf -d "$LIBDIR/libpkcs1.so" | grep -q NODELETE || stop "LDFLAGS aren't used"
 if have pkg-config "LIBDIR isn't tested"; then
     # shellcheck disable=SC2046 # words
-    "$CC" "$here/c/modulus.c" $(PKG_CONFIG_PATH=$LIBDIR/pkgconfig pkg-config --cflags --libs libpkcs1) -o "$room/shared"
+    "$CC" "$ffi/examples/modulus.c" $(PKG_CONFIG_PATH=$LIBDIR/pkgconfig pkg-config --cflags --libs libpkcs1) \
+        -o "$room/shared"
 fi
-"$here/build.sh" uninstall "$room/c"
+"$ffi/proof/build.sh" uninstall "$room/c"
 [ -z "$(find "$room/c" ! -type d)" ] || stop "uninstall leaves files"
 unset LIBDIR
-"$here/build.sh" uninstall "$room/c" 2> /dev/null && stop "what isn't installed is uninstalled"
+"$ffi/proof/build.sh" uninstall "$room/c" 2> /dev/null && stop "what isn't installed is uninstalled"
 # Installed into a folder with a space in its name, by itself and below DESTDIR; and again: files are replaced, not
 # changed, as a program may be running with them.
 printf '\060\010\002\003\000\301\177\002\001\003' > "$room/pub.der"
-DESTDIR=$room/stage "$here/build.sh" install /usr > /dev/null
-"$here/build.sh" install "$room/a b" > /dev/null
+DESTDIR=$room/stage "$ffi/proof/build.sh" install /usr > /dev/null
+"$ffi/proof/build.sh" install "$room/a b" > /dev/null
 diff -r "$room/a b" "$room/stage/usr"
 cp -al "$room/a b" "$room/old"
-"$here/build.sh" install "$room/a b" > /dev/null
+"$ffi/proof/build.sh" install "$room/a b" > /dev/null
 [ -z "$(find "$room/old" -type f -links +1)" ] || stop "an installed file is changed"
 if have pkg-config "libpkcs1.pc is not used"; then
     export PKG_CONFIG_PATH="$room/a b/lib/pkgconfig"
@@ -104,19 +106,19 @@ else
     shared="-I\"$room/a b/include\" -L\"$room/a b/lib\" -lpkcs1"
     static=$shared
 fi
-eval "\"$CC\" -Wall -Werror \"$here/c/modulus.c\" $shared -Wl,-rpath,\"$room/a b/lib\" -o \"$room/shared\""
+eval "\"$CC\" -Wall -Werror \"$ffi/examples/modulus.c\" $shared -Wl,-rpath,\"$room/a b/lib\" -o \"$room/shared\""
 if printf 'int main(void) { return 0; }' | "$CC" -static -x c - -o "$room/empty_program" 2> "$room/log"; then
-    eval "\"$CC\" -Wall -Werror -static \"$here/c/modulus.c\" $static -o \"$room/static\""
+    eval "\"$CC\" -Wall -Werror -static \"$ffi/examples/modulus.c\" $static -o \"$room/static\""
 else
-    printf 'ffi/test.sh: there is no static C library: no program is linked with -static\n' >&2
-    "$CC" "-I$room/a b/include" "$here/c/modulus.c" "$room/a b/lib/libpkcs1.a" -o "$room/static"
+    printf 'ffi/tests/test.sh: there is no static C library: no program is linked with -static\n' >&2
+    "$CC" "-I$room/a b/include" "$ffi/examples/modulus.c" "$room/a b/lib/libpkcs1.a" -o "$room/static"
 fi
-"$here/build.sh" install > /dev/null 2>&1 && stop "build.sh takes wrong arguments"
-UNPROVED=$out "$here/build.sh" install "$room/d" > /dev/null 2>&1 && stop "an unproved library is installed"
+"$ffi/proof/build.sh" install > /dev/null 2>&1 && stop "build.sh takes wrong arguments"
+UNPROVED=$out "$ffi/proof/build.sh" install "$room/d" > /dev/null 2>&1 && stop "an unproved library is installed"
 [ ! -e "$room/d" ] || stop "an unproved library is installed in part"
 mkdir "$room/unproved"
-cp "$here/../crates/pkcs1_c/out/libpkcs1_c.a" "$room/unproved"
-UNPROVED=$room/unproved "$here/build.sh" install-unproved "$room/d" > /dev/null
+cp "$ffi/../crates/pkcs1_c/out/libpkcs1_c.a" "$room/unproved"
+UNPROVED=$room/unproved "$ffi/proof/build.sh" install-unproved "$room/d" > /dev/null
 grep -qx "Version: $version-unproved" "$room/d/lib/pkgconfig/libpkcs1.pc" || stop "libpkcs1.pc doesn't say that it isn't proved"
 
 # The example in each language: it prints the key in a file, and rejects other files.
@@ -130,12 +132,12 @@ loads() {
     programs+=("$room/$1")
 }
 if have python3 "the program in Python isn't run"; then
-    loads python "python3 '$here/python/modulus.py'"
+    loads python "python3 '$ffi/examples/modulus.py'"
 fi
 if have go "the program in Go isn't run" && have pkg-config "the program in Go isn't run"; then
     # Go 1.19 can't take a folder with a space from pkg-config.
     GOCACHE=$room/cache PKG_CONFIG_PATH=$room/stage/usr/lib/pkgconfig go build -o "$room/public_key" \
-        "$here/go/public_key.go"
+        "$ffi/examples/public_key.go"
     loads go "'$room/public_key'"
 fi
 for program in "${programs[@]}"; do

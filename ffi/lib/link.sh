@@ -20,7 +20,7 @@ exports() {
 # same OF: whether the library of this kind exports what is declared.
 same() {
     diff "$out/declared" "$out/exports.$1" || {
-        echo "ffi/link.sh: what the headers declare (<) and what libpkcs1.$1 exports (>) differ" >&2
+        echo "ffi/lib/link.sh: what the headers declare (<) and what libpkcs1.$1 exports (>) differ" >&2
         exit 1
     }
 }

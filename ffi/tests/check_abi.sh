@@ -1,17 +1,18 @@
 #!/bin/sh
-# check_abi.sh [--write]: compares the binary interface that the headers declare with the list in ffi/abi: the number
+# check_abi.sh [--write]: compares the binary interface that the headers declare with the list in abi: the number
 # PKCS1_ABI, the size of each struct and where its fields stand, the types of each call, the values of statuses. The
 # number is in the soname and in the version of symbols. So what is in the list may change only with the number.
 # --write keeps the list anew, but refuses such a change. CC, CFLAGS and NM are as in the Makefile. The list is for machines on
 # which a size has 64 bits.
 set -eu
 here=$(dirname "$0")
+lib=$here/../lib
 room=$(mktemp -d)
 trap 'rm -rf "$room"' EXIT
 export LC_ALL=C
 
 stop() {
-    echo "ffi/check_abi.sh: $*" >&2
+    echo "ffi/tests/check_abi.sh: $*" >&2
     exit 1
 }
 # Of each struct and field a text, and behind | what its number is in C.
@@ -32,12 +33,12 @@ members() {
     }'
 }
 list() {
-    $CC -E -P "-I$here/include" "$here/include/pkcs1_c.h" | tr -s '\n ' ' ' | sed 's/\<_Bool\>/bool/g' > "$room/text"
+    $CC -E -P "-I$lib/include" "$lib/include/pkcs1_c.h" | tr -s '\n ' ' ' | sed 's/\<_Bool\>/bool/g' > "$room/text"
     members > "$room/members"
     # Compiled and not run: the size of each array tells a number.
     { echo '#include "pkcs1_c.h"' && awk -F '|' '{ print "char at_" NR "[" $2 " + 1];" }' "$room/members"; } > "$room/sizes.c"
-    $CC -fno-common "-I$here/include" -c "$room/sizes.c" -o "$room/sizes.o"
-    sed -n 's/^#define \(PKCS1_ABI\) \([0-9]*\)$/\1 = \2/p' "$here/include/pkcs1.h"
+    $CC -fno-common "-I$lib/include" -c "$room/sizes.c" -o "$room/sizes.o"
+    sed -n 's/^#define \(PKCS1_ABI\) \([0-9]*\)$/\1 = \2/p' "$lib/include/pkcs1.h"
     ${NM:-nm} -P -t d "$room/sizes.o" | sed -n 's/^at_//p' | sort -n | awk '{ print $NF - 1 }' |
         paste -d ' ' "$room/members" - | sed 's/|.* / /'
     grep -oE '(const )?[A-Za-z0-9_]+ \*?pkcs1_[a-z0-9_]+\([^)]*\);' "$room/text" |
@@ -48,16 +49,16 @@ list() {
 
 CC=${CC:-cc}
 # shellcheck disable=SC2086
-case $("$here/machine.sh" $CC ${CFLAGS-}) in other | windows | archive) exit 0 ;; esac
+case $("$lib/machine.sh" $CC ${CFLAGS-}) in other | windows | archive) exit 0 ;; esac
 list > "$room/abi"
 [ "$(wc -l < "$room/abi")" -gt 100 ] || stop "the headers can't be read"
 ! diff -N "$here/abi" "$room/abi" > "$room/differs" || exit 0
 if grep -q '^<' "$room/differs" && ! grep -q '^< PKCS1_ABI' "$room/differs"; then
     cat "$room/differs" >&2
-    stop "programs that are built for this number break: raise PKCS1_ABI in pkcs1.h, then call ffi/check_abi.sh --write"
+    stop "programs built for this number break: raise PKCS1_ABI in pkcs1.h, then call ffi/tests/check_abi.sh --write"
 fi
 [ "${1-}" = --write ] || {
     cat "$room/differs" >&2
-    stop "ffi/abi has another list: ffi/check_abi.sh --write keeps this one"
+    stop "ffi/tests/abi has another list: ffi/tests/check_abi.sh --write keeps this one"
 }
 cp "$room/abi" "$here/abi"

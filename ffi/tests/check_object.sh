@@ -9,7 +9,7 @@ readelf=${READELF:-readelf}
 export LC_ALL=C
 
 stop() {
-    echo "ffi/check_object.sh: $*" >&2
+    echo "ffi/tests/check_object.sh: $*" >&2
     exit 1
 }
 for object in "$out"/*.o; do

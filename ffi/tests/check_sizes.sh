@@ -1,5 +1,5 @@
 #!/bin/sh
-# check_sizes.sh OUT: a program that makes one call of OUT/libpkcs1.a, with the four functions of c/freestanding.c, has
+# check_sizes.sh OUT: a program that makes one call of OUT/libpkcs1.a, with the four functions of freestanding.c, has
 # no more octets than the table says, if it is linked with --gc-sections. The table is of x86-64 and -O2, and a fifth
 # above what the assembly and the C take by gcc and clang. CC, CFLAGS, NM and READELF are as in the Makefile.
 set -eu
@@ -9,7 +9,7 @@ room=$(mktemp -d)
 trap 'rm -rf "$room"' EXIT
 
 stop() {
-    echo "ffi/check_sizes.sh: $*" >&2
+    echo "ffi/tests/check_sizes.sh: $*" >&2
     exit 1
 }
 # octets CALL: how many the program has, with what a debugger needs to go back.
@@ -23,11 +23,11 @@ octets() {
 
 CC=${CC:-cc}
 # shellcheck disable=SC2086
-[ "$("$here/machine.sh" $CC ${CFLAGS-}) ${CFLAGS-}" = 'x86_64 -O2' ] || exit 0
+[ "$("$here/../lib/machine.sh" $CC ${CFLAGS-}) ${CFLAGS-}" = 'x86_64 -O2' ] || exit 0
 ! ${NM:-nm} -u "$out/libpkcs1.a" | grep -q ' __' || exit 0 # it guards its stack
 # shellcheck disable=SC2086
-$CC ${CFLAGS-} -fno-lto -std=c99 -ffreestanding -fno-stack-protector -ffunction-sections "-I$here/include" \
-    -c "$here/c/freestanding.c" -o "$room/own.o"
+$CC ${CFLAGS-} -fno-lto -std=c99 -ffreestanding -fno-stack-protector -ffunction-sections "-I$here/../lib/include" \
+    -c "$here/freestanding.c" -o "$room/own.o"
 cat > "$room/table" << 'TABLE'
 pkcs1_algorithm_is 1000
 pkcs1_algorithm_is_same_hash 1200

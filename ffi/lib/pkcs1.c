@@ -3,9 +3,9 @@
  * success. It reads the caller's struct if that is whole: nothing in it is null, and each flag is 1. Else it reads a
  * local copy. A container is always copied, as few have attributes. Nothing is allocated.
  *
- * ffi/prove.sh proves with Frama-C that each call does what the proved call does on what was given, stays in bounds,
- * ends, and leaves all else as it was. ffi/proof/pkcs1.acsl.h has the contracts. The comments with @ here are for that
- * proof. */
+ * ffi/proof/prove.sh proves with Frama-C that each call does what the proved call does on what was given, stays in
+ * bounds, ends, and leaves all else as it was. ffi/proof/pkcs1.acsl.h has the contracts. The comments with @ here are for
+ * that proof. */
 #include "pkcs1_c.h"
 #include <string.h>
 

@@ -6,12 +6,12 @@
 set -eu
 umask 022
 here=$(cd "$(dirname "$0")" && pwd)
-top=$here/..
+top=$here/../..
 action=$1 prefix=$2 version=$3
 case $prefix in
     /*) ;;
     '')
-        echo "ffi/install.sh: PREFIX is empty" >&2
+        echo "ffi/lib/install.sh: PREFIX is empty" >&2
         exit 1
         ;;
     *) prefix=$PWD/$prefix ;;
@@ -71,7 +71,7 @@ add() {
 }
 remove() {
     [ -e "$include/pkcs1.h" ] || {
-        echo "ffi/install.sh: libpkcs1 isn't installed below ${DESTDIR-}$prefix" >&2
+        echo "ffi/lib/install.sh: libpkcs1 isn't installed below ${DESTDIR-}$prefix" >&2
         exit 1
     }
     rm -f "$include/pkcs1.h" "$include/pkcs1_c.h" "$lib"/libpkcs1.{a,so,dll.a} "$lib/$soname" \

@@ -1,9 +1,9 @@
 #!/usr/bin/env bash
-# Proves ffi/c/pkcs1.c with Frama-C: that each call of pkcs1.h does what ffi/proof/pkcs1.acsl.h says, over the proved
+# Proves ffi/lib/pkcs1.c with Frama-C: that each call of pkcs1.h does what ffi/proof/pkcs1.acsl.h says, over the proved
 # calls, as gcc reads it for x86-64 and for x86 of 32 bits. Names each goal that isn't proved, says how many are, and
 # fails if one isn't.
 #
-#     ffi/prove.sh [--must] [WORD..]    WORDs go to Frama-C, such as -wp-fct NAME: then only their goals are proved
+#     ffi/proof/prove.sh [--must] [WORD..]    WORDs go to Frama-C, such as -wp-fct NAME: only their goals are proved then
 #
 # Where the variable SAMPLE is set, and no WORD is there, tools/verdicts.py draws the calls that are proved.
 # It needs frama-c, why3, z3 and cvc4, which tools/install.sh installs on Debian. If they aren't there, the proof is left
@@ -11,16 +11,16 @@
 # AT_ONCE: how many provers run at a time. GIVE_UP: in how many seconds, where it is known that goals are open. KEEP: a
 # folder for the names of the goals that are proved and open.
 set -eu
-cd "$(dirname "$0")/.."
+cd "$(dirname "$0")/../.."
 must=${CI-}
 [ "${1-}" != --must ] || {
     must=must
     shift
 }
 if [ $# = 0 ] && [ -n "${SAMPLE-}" ]; then
-    drawn=$(grep -oE '\bpkcs1_[a-z0-9_]+\(' ffi/include/pkcs1.h | tr -d '(' | sort -u | tools/verdicts.py drawn 3)
+    drawn=$(grep -oE '\bpkcs1_[a-z0-9_]+\(' ffi/lib/include/pkcs1.h | tr -d '(' | sort -u | tools/verdicts.py drawn 3)
     drawn=$(paste -s -d , <<< "$drawn")
-    echo "ffi/prove.sh: drawn: $drawn"
+    echo "ffi/proof/prove.sh: drawn: $drawn"
     set -- -wp-fct "$drawn"
 fi
 room=$(mktemp -d)
@@ -35,7 +35,7 @@ missing() {
     return 1
 }
 if missing; then
-    echo "ffi/prove.sh: frama-c, why3, z3 and cvc4 aren't all installed: the proof of pkcs1.c is left out" >&2
+    echo "ffi/proof/prove.sh: frama-c, why3, z3 and cvc4 aren't all installed: the proof of pkcs1.c is left out" >&2
     [ -z "$must" ] || exit 1
     exit 0
 fi
@@ -49,7 +49,7 @@ frama() {
     local log=$1
     shift
     frama-c -machdep "$machine" -no-frama-c-stdlib \
-        -cpp-extra-args="-nostdinc -I$source/ffi/proof/include -I$source/ffi/include" "$source/ffi/proof/proof.c" \
+        -cpp-extra-args="-nostdinc -I$source/ffi/proof/include -I$source/ffi/lib/include" "$source/ffi/proof/proof.c" \
         -wp -wp-rte -wp-par "$at_once" -wp-alias-vars pkcs1_oid_mgf1,pkcs1_oid_p_specified "$@" > "$log" 2>&1 || {
         cat "$log" >&2
         exit 1
@@ -114,11 +114,12 @@ smoke() {
 # Three false assertions are refused.
 refute() {
     source=$room/false
-    mkdir -p "$source/ffi"
-    cp -r ffi/c ffi/include ffi/proof "$source/ffi"
+    mkdir -p "$source/ffi/lib"
+    cp -r ffi/lib/{pkcs1.c,include} "$source/ffi/lib"
+    cp -r ffi/proof "$source/ffi"
     sed -i -e '/^    \*key = \*read;/a //@ check refused: key->modulus.len == 0;' \
         -e '/^    if (has_empty(/i //@ check refused: others_len == 0;' \
-        -e '/^    return given;/i //@ check refused: given.len != 0;' "$source/ffi/c/pkcs1.c"
+        -e '/^    return given;/i //@ check refused: given.len != 0;' "$source/ffi/lib/pkcs1.c"
     frama "$room/refused" -wp-no-init-const -wp-prop=refused -wp-prover cvc4 -wp-timeout 4
     source=.
     refused=$(goals ' : (Timeout|Unknown|Stepout).*' "$room/refused" | wc -l)

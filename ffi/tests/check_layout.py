@@ -1,12 +1,12 @@
 #!/usr/bin/env python3
-"""Compares what the calls for C declare in Rattle (crates/pkcs1_c/src) and in C (ffi/include): the fields of each struct,
-the types of each call, and the statuses. What differs is printed, and the status is 1 then."""
+"""Compares what the calls for C declare in Rattle (crates/pkcs1_c/src) and in C (ffi/lib/include): the fields of each
+struct, the types of each call, and the statuses. What differs is printed, and the status is 1 then."""
 import glob
 import os
 import re
 import sys
 
-TOP = os.path.join(os.path.dirname(os.path.abspath(__file__)), "..")
+TOP = os.path.join(os.path.dirname(os.path.abspath(__file__)), "..", "..")
 BYTES = [("data", "const u8*"), ("len", "usize")]
 C_TYPES = {"uint8_t": "u8", "uint32_t": "u32", "uint64_t": "u64", "size_t": "usize", "bool": "bool", "void": None}
 same_as = {}  # other names of a struct
@@ -61,7 +61,7 @@ def c_type(const, struct, word, star):
 
 
 def in_c():
-    source = text("ffi/include/*.h")
+    source = text("ffi/lib/include/*.h")
     structs, calls = {}, {}
     for name, body in re.findall(r"struct (pkcs1_\w+) \{(.*?)\};", source, re.S):
         fields = []

@@ -6,7 +6,7 @@ set -eu
 # shellcheck disable=SC3045 # dash has it, and bash
 ulimit -t 600 # no test runs forever
 out=$(cd "$1" && pwd)
-cd "$(dirname "$0")/.."
+cd "$(dirname "$0")/../.."
 tests=$out/tests
 mkdir -p "$tests"
 : > "$tests/none"
@@ -21,7 +21,7 @@ c_test() {
     name=$1
     shift
     # shellcheck disable=SC2086 # words
-    $CC ${CFLAGS-} -std=c99 -Iffi/include ffi/c/test.c ffi/c/rows.c ffi/c/large.c "$@" -o "$tests/$name"
+    $CC ${CFLAGS-} -std=c99 -Iffi/lib/include ffi/tests/test.c ffi/tests/rows.c ffi/tests/large.c "$@" -o "$tests/$name"
     ${RUN-} "$tests/$name" crates/pkcs1_vectors/stdin
 }
 # windows and archive: the C test with what was built for these.
@@ -38,7 +38,7 @@ archive() {
 # The C test in a program with functions of the proved calls' names, but for those that it calls itself: the shared
 # library calls its own.
 clash() {
-    own=$(grep -oh 'pkcs1_c_[a-z0-9_]*(' ffi/c/test.c ffi/c/rows.c | tr -d '(')
+    own=$(grep -oh 'pkcs1_c_[a-z0-9_]*(' ffi/tests/test.c ffi/tests/rows.c | tr -d '(')
     {
         echo '#include <stdlib.h>'
         grep '^pkcs1_c_' "$out/declared" | grep -vxF "$own" | sed 's/.*/void &(void);\nvoid &(void) { abort(); }/'
@@ -87,7 +87,7 @@ watched() {
 }
 
 # shellcheck disable=SC2086
-case $(ffi/machine.sh $CC ${CFLAGS-}) in
+case $(ffi/lib/machine.sh $CC ${CFLAGS-}) in
     windows)
         windows
         exit
@@ -97,12 +97,12 @@ case $(ffi/machine.sh $CC ${CFLAGS-}) in
         exit
         ;;
 esac
-ffi/check_abi.sh
-ffi/check_object.sh "$out"
+ffi/tests/check_abi.sh
+ffi/tests/check_object.sh "$out"
 c_test static "$out/libpkcs1.a"
 c_test shared "-L$out" -lpkcs1 "-Wl,-rpath,$out"
 clash
-ffi/check_passed.sh "$out" "$tests/passed"
+ffi/tests/check_passed.sh "$out" "$tests/passed"
 say "the C test, with the static and the shared library, and with a look at what is passed to the proved calls"
-ffi/check_freestanding.sh "$out" "$tests/freestanding"
+ffi/tests/check_freestanding.sh "$out" "$tests/freestanding"
 [ ! -x "$out/pkcs1_tool" ] || tool

@@ -21,7 +21,7 @@
  * It reads no salt length over 255. With SHA-256, OpenSSL 3.0 writes such a one by default for keys over 2313 bits.
  * What it writes with -sigopt rsa_pss_saltlen:digest is read.
  *
- * The calls of pkcs1_c.h are proved. These, in ffi/c/pkcs1.c, are proved over them: ffi/proof/pkcs1.acsl.h says what.
+ * The calls of pkcs1_c.h are proved. These, in ffi/lib/pkcs1.c, are proved over them: ffi/proof/pkcs1.acsl.h says what.
  *
  * Only the encoding is checked. Nothing checks that the modulus is the product of the primes, or that a key is strong.
  *

@@ -4,22 +4,24 @@
 # else it could use and doesn't find. No network. .ci/run calls it after rt ci, with --library and
 # --over-ci, which needs all of that too.
 set -eu
-usage="usage: ffi/build.sh                      builds libpkcs1 into ffi/out, and runs its tests
-       ffi/build.sh --library            builds crates/pkcs1_c/out/libpkcs1_c.a behind rt ci, over the libraries that it proved
-       ffi/build.sh --over-ci            builds libpkcs1 over that one, and runs its tests
-       ffi/build.sh --tools              whether all is installed that --over-ci needs
-       ffi/build.sh install PREFIX       builds it, and installs it below PREFIX; pkcs1_tool with its man page too, if
-                                         rt run built it in crates/pkcs1_tool
-       ffi/build.sh uninstall PREFIX     removes what install put there
-       UNPROVED=FOLDER ffi/build.sh install-unproved PREFIX
-                                         installs the library in FOLDER, whose libpkcs1_c.a isn't proved
+usage="usage: ffi/proof/build.sh                    builds libpkcs1 into ffi/out, and runs its tests
+       ffi/proof/build.sh --library          builds crates/pkcs1_c/out/libpkcs1_c.a behind rt ci, over the libraries
+                                             that it proved
+       ffi/proof/build.sh --over-ci          builds libpkcs1 over that one, and runs its tests
+       ffi/proof/build.sh --tools            whether all is installed that --over-ci needs
+       ffi/proof/build.sh install PREFIX     builds it, and installs it below PREFIX; pkcs1_tool with its man page too,
+                                             if rt run built it in crates/pkcs1_tool
+       ffi/proof/build.sh uninstall PREFIX   removes what install put there
+       UNPROVED=FOLDER ffi/proof/build.sh install-unproved PREFIX
+                                             installs the library in FOLDER, whose libpkcs1_c.a isn't proved
    CRATES: another folder of the same crates, with the libraries that rt ci proved, for --library
    DESTDIR, LIBDIR: a folder to install below, and the libraries' folder in place of PREFIX/lib
    CC, CFLAGS, LDFLAGS: the compiler, its options, and those for linking libpkcs1.so"
 here=$(cd "$(dirname "$0")" && pwd)
-. "$here/../tools/shell.sh"
-crate=$here/../crates/pkcs1_c
-out=${UNPROVED:-$here/out} # UNPROVED: a folder with a libpkcs1_c.a that is only to be tested
+ffi=$here/..
+. "$here/../../tools/shell.sh"
+crate=$ffi/../crates/pkcs1_c
+out=${UNPROVED:-$ffi/out} # UNPROVED: a folder with a libpkcs1_c.a that is only to be tested
 library=${UNPROVED:-$crate/out}/libpkcs1_c.a
 export CC=${CC:-gcc} CXX=${CXX:-g++}
 
@@ -48,10 +50,10 @@ say() {
     printf 'ffi: %s\n' "$*"
 }
 
-version=$(sed -n 's/^#define PKCS1_VERSION_[A-Z]* //p' "$here/include/pkcs1.h" | paste -s -d .)
+version=$(sed -n 's/^#define PKCS1_VERSION_[A-Z]* //p' "$ffi/lib/include/pkcs1.h" | paste -s -d .)
 case $action:$prefix in *install*:) stop "PREFIX is empty" ;; esac
 case $action:${UNPROVED:+unproved} in
-    uninstall:*) exec "$here/install.sh" remove "$prefix" "$version" ;;
+    uninstall:*) exec "$ffi/lib/install.sh" remove "$prefix" "$version" ;;
     install:unproved) stop "UNPROVED is set: its library isn't proved, and only install-unproved installs it" ;;
     install-unproved:) stop "UNPROVED isn't set to the folder of a library" ;;
 esac
@@ -64,15 +66,15 @@ esac
 needs "${tools[@]}"
 [ "$action" != tools ] || exit 0
 mkdir -p "$out"
-crates=$(realpath "${CRATES:-$here/../crates}")
+crates=$(realpath "${CRATES:-$ffi/../crates}")
 kit=$(dirname "$(rt doc)")
 
 # The hash of all that the proved library is made of, and of how it is made.
 inputs() {
     {
         rt version
-        cd "$here/.."
-        cat crates.txt ffi/build.sh
+        cd "$ffi/.."
+        cat crates.txt ffi/proof/build.sh
         for name in standard der_core spki_core pkcs1_params pkcs1 pkcs8_core pkcs1_c; do
             find "crates/$name/src" "crates/$name/specs" "crates/$name/proofs" -type f
         done | LC_ALL=C sort | tr '\n' '\0' | xargs -0 sha256sum
@@ -117,7 +119,7 @@ stamp() {
 build_library() {
     case ${UNPROVED:+unproved}:$action in
         unproved:*) return ;;
-        :over-ci) [ -e "$library" ] || stop "there is no $library: ffi/build.sh --library builds it" ;;
+        :over-ci) [ -e "$library" ] || stop "there is no $library: ffi/proof/build.sh --library builds it" ;;
         :library)
             prove build_over
             say "the library is proved and built, after $SECONDS seconds"
@@ -147,12 +149,12 @@ build_library
 link_library
 case $action in
     install*)
-        tool=$here/../crates/pkcs1_tool/out/pkcs1_tool
+        tool=$ffi/../crates/pkcs1_tool/out/pkcs1_tool
         [ -x "$tool" ] && [ "$action" = install ] || tool=
-        "$here/install.sh" add "$prefix" "$version${UNPROVED:+-unproved}" "$out" ${tool:+"$tool"}
+        "$ffi/lib/install.sh" add "$prefix" "$version${UNPROVED:+-unproved}" "$out" ${tool:+"$tool"}
         ;;
     *)
         say "testing, half a minute"
-        if [ -n "${UNPROVED-}" ]; then "$here/check.sh" "$out"; else "$here/test.sh"; fi
+        if [ -n "${UNPROVED-}" ]; then "$ffi/tests/check.sh" "$out"; else "$ffi/tests/test.sh"; fi
         ;;
 esac

@@ -4,13 +4,13 @@
 # more stack than is said; nothing is kept between calls, and nothing allocated. Then mistakes are planted in copies of
 # pkcs1.c, and each must be noticed. It needs make, gcc, binutils, python3 and valgrind, on x86-64.
 set -eu
-cd "$(dirname "$0")/.."
+cd "$(dirname "$0")/../.."
 . tools/shell.sh
 room=$(mktemp -d)
 trap 'rm -rf "$room"' EXIT
 export CC=gcc CFLAGS=-O2 LDFLAGS=
-warned='-std=c99 -Wall -Wextra -Werror -pedantic -Iffi/include'
-coders=$(grep -oE 'pkcs1_[a-z0-9_]*_(de|en)code(_strict)?\(' ffi/include/pkcs1.h | tr -d '(')
+warned='-std=c99 -Wall -Wextra -Werror -pedantic -Iffi/lib/include'
+coders=$(grep -oE 'pkcs1_[a-z0-9_]*_(de|en)code(_strict)?\(' ffi/lib/include/pkcs1.h | tr -d '(')
 
 # link FOLDER PROGRAM OBJECT..: links a test with the calls in the folder. The loader takes stack where it looks for a
 # function, so it has looked before.
@@ -43,11 +43,11 @@ takes() {
         END {
             print "calls take " decode " and " encode " octets of stack"
             exit !(0 < decode && decode + 0 <= may[2] + 0 && 0 < encode && encode + 0 <= may[3] + 0)
-        }' ffi/include/pkcs1.h
+        }' ffi/lib/include/pkcs1.h
 }
 stack_suffices() {
     # shellcheck disable=SC2046
-    takes "$1" $(ffi/deepest.py "$1/libpkcs1.so")
+    takes "$1" $(ffi/tests/deepest.py "$1/libpkcs1.so")
 }
 stack_suffices_in_tests() {
     # shellcheck disable=SC2046,SC2086
@@ -55,7 +55,7 @@ stack_suffices_in_tests() {
         "$1/stack" crates/pkcs1_vectors/stdin > "$1/taken" && takes "$1" $(sed -n 's/^stack //p' "$1/taken")
 }
 keeps_nothing() {
-    ffi/check_object.sh "$1"
+    ffi/tests/check_object.sh "$1"
 }
 
 # notices TEST TEXT WHERE MISTAKE: with the mistake planted behind each such line of pkcs1.c, the test prints this text.
@@ -64,17 +64,17 @@ notices() {
     mkdir -p "$planted"
     cp "$room/assembly/proved.o" "$planted"
     awk -v where="    $3" -v mistake="$4" '{ print } $0 == where { print mistake; count++ } END { exit count != 1 }' \
-        ffi/c/pkcs1.c > "$planted/pkcs1.c" || stop "pkcs1.c has no one line $3"
+        ffi/lib/pkcs1.c > "$planted/pkcs1.c" || stop "pkcs1.c has no one line $3"
     # shellcheck disable=SC2086
     gcc $warned -O2 -fPIC -fasynchronous-unwind-tables -c "$planted/pkcs1.c" -o "$planted/calls.o"
-    ffi/link.sh "$planted"
+    ffi/lib/link.sh "$planted"
     ! "$1" "$planted" > "$room/log" 2>&1 || stop "$1 doesn't notice $4"
     grep -qE "$2" "$room/log" || stop "$1 notices $4 otherwise: $(cat "$room/log")"
 }
 
 for name in painted secrets stack test rows large; do
     # shellcheck disable=SC2086
-    gcc $warned -O1 -g -c "ffi/c/$name.c" -o "$room/$name.o"
+    gcc $warned -O1 -g -c "ffi/tests/$name.c" -o "$room/$name.o"
 done
 for code in assembly c; do
     make --silent OUT="$room/$code" CODE=$code "$room/$code/libpkcs1.a"
