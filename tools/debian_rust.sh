@@ -2,7 +2,8 @@
 # Sourced by scripts, at the top of the repository, which have `stop` and `needs`: rustc 1.85 of Debian, in a folder of
 # its own, in DEBIAN. Nothing is installed. In Debian 12 it is rustc-web, which stays in the main part of the archive.
 # It has links, at which rt ci stops in the repository. So it is unpacked outside of it, once for all clones.
-DEBIAN=$(realpath -m "${DEBIAN:-${XDG_CACHE_HOME:-${HOME:?}/.cache}/pkcs1-gate/debian}")
+debian_cache=${XDG_CACHE_HOME:-~/.cache}/pkcs1-gate/debian
+DEBIAN=$(realpath -m "${DEBIAN:-$debian_cache}")
 debian_version=1.85.0+dfsg3-1~deb12u3
 debian_named='rustc 1.85.0 (4d91de4e4 2025-02-17) (built from a source tarball)'
 

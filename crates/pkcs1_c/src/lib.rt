@@ -1,5 +1,5 @@
-//! Keys and parameters of PKCS #1 for C: the calls that `ffi/include/pkcs1_c.h` declares, with the structs and statuses
-//! of `ffi/include/pkcs1.h`.
+//! Keys and parameters of PKCS #1 for C: the calls that `ffi/lib/include/pkcs1_c.h` declares, with the structs and
+//! statuses of `ffi/lib/include/pkcs1.h`.
 #![tactic(auto)]
 
 mod algorithm;
