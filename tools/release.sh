@@ -18,7 +18,7 @@ contents=(
     crates/pkcs1_tool/{refuse_memory.c,rows,stdin,stdout,pkcs1_tool.1}
     crates/pkcs1_vectors/stdin
     crates.txt ffi/proof :!ffi/proof/{seam,build.sh,link_proved.sh}
-    tools/{fresh,debian_rust,generate,install}.sh tools/{generate,count_definitions.py}
+    tools/{fresh,debian_rust,generate,install}.sh tools/generate
     tools/{shell.sh,platforms.sh,other_platforms.sh,wasi.mjs}
 )
 
