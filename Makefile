@@ -110,7 +110,6 @@ amalgamation:
 
 check test: all
 	ffi/tests/check.sh $(OUT)
-	ffi/tests/check_sizes.sh $(OUT)
 
 install: all
 	DESTDIR='$(DESTDIR)' LIBDIR='$(LIBDIR)' ffi/lib/install.sh add '$(PREFIX)' $(version) $(OUT) $(tool)

@@ -148,7 +148,7 @@ musl() {
 llvm() {
     export CC=clang NM=llvm-nm READELF=llvm-readelf
     make OUT=out/llvm AR=llvm-ar OBJCOPY=llvm-objcopy
-    ffi/tests/check_object.sh out/llvm
+    ffi/tests/check.sh out/llvm objects
     ffi/tests/check_abi.sh
 }
 # A folder with a space is refused, in one line, before anything is made. `clean` is through before the others begin.

@@ -1,12 +1,15 @@
 #!/bin/sh
-# check.sh OUT: tests what make left in this folder: the C test over the static and the shared library, what the calls
-# of pkcs1.h pass to the proved ones, a program without a C library, and the tool. Where there is no ELF it is the C
-# test alone, for Windows over the DLL too. CC, CFLAGS, NM and RUN are as in the Makefile, which calls this.
+# check.sh OUT [PART]: tests what make left in this folder: what a linker, a loader and a debugger ask of it, the C test
+# over the static and the shared library, a program without a C library, and the tool. Where there is no ELF it is the C
+# test alone, for Windows over the DLL too. PART is one of the functions here: `objects` or `freestanding`. CC, CFLAGS,
+# NM, READELF and RUN are as in the Makefile, which calls this.
 set -eu
 # shellcheck disable=SC3045 # dash has it, and bash
 ulimit -t 600 # no test runs forever
 out=$(cd "$1" && pwd)
 cd "$(dirname "$0")/../.."
+export LC_ALL=C
+CC=${CC:-cc} nm=${NM:-nm} readelf=${READELF:-readelf}
 tests=$out/tests
 mkdir -p "$tests"
 : > "$tests/none"
@@ -15,6 +18,15 @@ mkdir -p "$tests"
 
 say() {
     echo "check: $*"
+}
+stop() {
+    echo "ffi/tests/check.sh: $*" >&2
+    exit 1
+}
+# compile OPTION..: in C99, and without what is left to the link.
+compile() {
+    # shellcheck disable=SC2086 # words
+    $CC ${CFLAGS-} -fno-lto -std=c99 -Iffi/lib/include "$@"
 }
 # c_test NAME WORD..: the C test with the library that these words name.
 c_test() {
@@ -35,6 +47,44 @@ archive() {
     c_test static "$out/libpkcs1.a"
     say "the C test, with the static library"
 }
+# The library keeps nothing between calls. It asks for four functions of C alone, and for what a compiler calls by
+# itself: to find addresses, to guard the stack, for numbers that the machine has no instruction for, and where CFLAGS
+# ask for it. So it allocates nothing.
+asks_for_little() {
+    own='\.TOC\.|_GLOBAL_OFFSET_TABLE_|_gp_disp|__aeabi_.*|__stack_chk_(fail|guard)|__mem[a-z]*_chk|__[a-z]*[sdt]i[2-4]'
+    case "$CC ${CFLAGS-}" in
+        *-fsanitize=* | *--coverage*) own="$own|__.*" ;;
+        *)
+            # A compiler's own constants are called .LC, and may stand there if they have addresses.
+            ! $nm -f sysv "$out/pkcs1.o" | grep -E '\|(\.data|\.bss|\*COM\*)[.a-z0-9_]*$' |
+                grep -vE '\.data\.rel\.ro|^\.LC[0-9]+ ' || stop "the calls share data"
+            ;;
+    esac
+    asked=$({ $nm -u "$out/libpkcs1.a" && $nm -D -u "$out/libpkcs1.so"; } | sed -n 's/^ *U \([^@]*\).*/\1/p' |
+        sort -u | grep -vxE "mem(cpy|move|set|cmp)|bcmp|$own" | paste -s -d ' ')
+    [ -z "$asked" ] || stop "the library asks for $asked"
+}
+# What a linker, a loader and a debugger ask of the objects, of libpkcs1.so and of pkcs1_tool, where it was built.
+objects() {
+    for object in "$out"/*.o; do
+        $readelf -SW "$object" | grep -q '\.note\.GNU-stack *PROGBITS *0* [0-9a-f]* 0* 00 *0' ||
+            stop "$object doesn't say that its stack isn't run"
+    done
+    ! $readelf -dW "$out/libpkcs1.so" | grep TEXTREL || stop "libpkcs1.so has text relocations"
+    taken=$($readelf -rW "$out/libpkcs1.so" | grep -o 'pkcs1_[a-z0-9_]*' | paste -s -d ' ')
+    [ -z "$taken" ] || stop "a program can replace $taken in libpkcs1.so"
+    for program in "$out/libpkcs1.so" "$out/pkcs1_tool"; do
+        [ -e "$program" ] || continue
+        { $readelf -lW "$program" | grep -q GNU_RELRO && $readelf -dW "$program" | grep -qwE 'BIND_NOW|NOW'; } ||
+            stop "in $program the addresses of calls can be written over"
+    done
+    asks_for_little
+    # On 32-bit Arm the ways back are in a table of their own. LLVM's readelf has no --debug-dump.
+    frames=$({ $readelf --debug-dump=frames --unwind "$out/pkcs1.o" || $readelf --unwind "$out/pkcs1.o"; } 2> "$tests/log" |
+        grep -cE 'FDE cie|FDE length|^0x[0-9a-f]+( <|: )' || true)
+    places=$($readelf -sW "$out/pkcs1.o" | awk '/ FUNC / { print $7, $2 }' | sort -u | wc -l)
+    [ "$frames" = "$places" ] || stop "a debugger can't go back from each call: $frames ways back, $places calls"
+}
 # The C test in a program with functions of the proved calls' names, but for those that it calls itself: the shared
 # library calls its own.
 clash() {
@@ -44,6 +94,27 @@ clash() {
         grep '^pkcs1_c_' "$out/declared" | grep -vxF "$own" | sed 's/.*/void &(void);\nvoid &(void) { abort(); }/'
     } > "$tests/clash.c"
     c_test clash "$tests/clash.c" "-L$out" -lpkcs1 "-Wl,-rpath,$out"
+}
+# size CALL MOST: a program that makes this call alone has so many octets at most, with what a debugger needs.
+size() {
+    compile -nostdlib -static "-Wl,--gc-sections,-e,$1,-u,$1" "$tests/freestanding.o" "$out/libpkcs1.a" -o "$tests/one_call"
+    octets=$((0$($readelf -SW "$tests/one_call" | sed -n 's/^ *\[ *[0-9]*\] //p' |
+        awk '$7 ~ /A/ && $2 !~ /NOBITS|NOTE/ { printf "+0x%s", $5 }')))
+    { [ "$octets" -gt 0 ] && [ "$octets" -le "$2" ]; } || stop "a program with $1 alone has $octets octets, not $2"
+}
+# Every kind of call, in a program that has no C library, as firmware has none. And how much a program grows, on x86-64
+# with -O2: README says 2.5 and 19 KB of the assembly, and the C takes 3 and 21 by gcc.
+freestanding() {
+    case $machine in x86_64 | aarch64) ;; *) say "it isn't tested without a C library on this machine" && return ;; esac
+    ! $nm -u "$out/libpkcs1.a" | grep -q ' __' || {
+        say "a library with a sanitizer, or that guards its stack, isn't tested without a C library"
+        return
+    }
+    compile -ffreestanding -fno-stack-protector -ffunction-sections -c ffi/tests/freestanding.c -o "$tests/freestanding.o"
+    compile -nostdlib -static "$tests/freestanding.o" "$out/libpkcs1.a" -o "$tests/freestanding"
+    ${RUN-} "$tests/freestanding" || stop "the check in line $? of freestanding.c fails"
+    [ "$machine ${CFLAGS-}" != 'x86_64 -O2' ] || { size pkcs1_public_key_decode 3072 && size pkcs1_private_key_info_decode 21504; }
+    say "every kind of call, in a program without a C library"
 }
 # The tool's rows, and what else can be seen of it from outside.
 tool() {
@@ -87,22 +158,19 @@ watched() {
 }
 
 # shellcheck disable=SC2086
-case $(ffi/lib/machine.sh $CC ${CFLAGS-}) in
-    windows)
-        windows
-        exit
+machine=$(ffi/lib/machine.sh $CC ${CFLAGS-})
+case ${2-}:$machine in
+    objects:* | freestanding:*) "$2" ;;
+    :windows | :archive) "$machine" ;;
+    :*)
+        ffi/tests/check_abi.sh
+        objects
+        c_test static "$out/libpkcs1.a"
+        c_test shared "-L$out" -lpkcs1 "-Wl,-rpath,$out"
+        clash
+        say "the C test, with the static and the shared library"
+        freestanding
+        [ ! -x "$out/pkcs1_tool" ] || tool
         ;;
-    archive)
-        archive
-        exit
-        ;;
+    *) stop "it has no part $2" ;;
 esac
-ffi/tests/check_abi.sh
-ffi/tests/check_object.sh "$out"
-c_test static "$out/libpkcs1.a"
-c_test shared "-L$out" -lpkcs1 "-Wl,-rpath,$out"
-clash
-ffi/tests/check_passed.sh "$out" "$tests/passed"
-say "the C test, with the static and the shared library, and with a look at what is passed to the proved calls"
-ffi/tests/check_freestanding.sh "$out" "$tests/freestanding"
-[ ! -x "$out/pkcs1_tool" ] || tool

@@ -55,7 +55,7 @@ stack_suffices_in_tests() {
         "$1/stack" crates/pkcs1_vectors/stdin > "$1/taken" && takes "$1" $(sed -n 's/^stack //p' "$1/taken")
 }
 keeps_nothing() {
-    ffi/tests/check_object.sh "$1"
+    ffi/tests/check.sh "$1" objects
 }
 
 # notices TEST TEXT WHERE MISTAKE: with the mistake planted behind each such line of pkcs1.c, the test prints this text.

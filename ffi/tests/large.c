@@ -165,6 +165,10 @@ static void longest_numbers(void) {
     CHECK(pkcs1_private_key_encode(&key, &other, 1, NULL, 0, &len) == PKCS1_LENGTH && len == 77);
     struct pkcs1_public_key wide = {small, past};
     CHECK(pkcs1_public_key_encode(&wide, NULL, 0, &len) == PKCS1_OVERFLOW && len == 77);
+    wide.public_exponent.len = (size_t)(most - 16); /* with 17 octets beside it, one is too many */
+    CHECK(pkcs1_public_key_encode(&wide, NULL, 0, &len) == PKCS1_OVERFLOW && len == 77);
+    wide.public_exponent.len--;
+    CHECK(pkcs1_public_key_encode(&wide, NULL, 0, &len) == PKCS1_NO_ROOM && len == most);
 }
 
 void try_large(void) {

@@ -39,13 +39,12 @@ for compiler in "$CXX" $clangxx; do
 done
 for compiler in $clang "$CC"; do
     warns "$compiler"
-    "$compiler" -std=c99 "${flags[@]}" -fsyntax-only "$here"/{passed,freestanding}.c
+    "$compiler" -std=c99 "${flags[@]}" -fsyntax-only "$here/freestanding.c"
     "$compiler" -std=c99 "${flags[@]}" "${test[@]}" "$out/libpkcs1.a" -o "$room/test"
-    for source in "$here/sizes.c" "$ffi"/examples/*.c; do
+    for source in "$ffi"/examples/*.c; do
         "$compiler" -std=c99 "${flags[@]}" "$source" "$out/libpkcs1.a" -o "$room/$(basename "$source" .c)"
     done
     "$room/test" "$rows"
-    "$room/sizes"
     "$room/many_keys" 2000 > "$room/log"
 done
 "$CC" -std=c11 "${flags[@]}" -fsanitize=address,undefined -fno-sanitize-recover=all "${test[@]}" "$ffi/lib/pkcs1.c" \

@@ -52,7 +52,7 @@ leads_back() {
 # calls_run OUT CC OPTION: the library there runs where the processor looks for marks, and each call goes to an address.
 calls_run() {
     CC=$2 CFLAGS="-O2 -fPIC -fno-plt $3 -Wl,-z,force-bti" RUN='qemu-aarch64 -cpu max' \
-        "$ffi/tests/check_freestanding.sh" "$1" "$1/program" > "$room/said" 2>&1
+        "$ffi/tests/check.sh" "$1" freestanding > "$room/said" 2>&1
 }
 # library_is_marked PROCESSOR CC OPTION: by a compiler with this option, the library has the marks of its calls and of
 # the assembly. Where those of the assembly are gone, the linker misses them, and so does the processor.
