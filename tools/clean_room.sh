@@ -269,7 +269,7 @@ release() {
     for it in crates/*/{src,specs,proofs}; do
         [ ! -d "$it" ] || diff -r "$it" "$room/unpacked/$it"
     done
-    tools/docs/check_names.sh "$room/unpacked" README.md
+    tools/docs/check_tree.py "$room/unpacked" README.md
     grep -qx "commit: $(git rev-parse HEAD)" "$room/unpacked/ffi/lib/generated/PROVENANCE" || stop "no commit is named"
     parts "$room/unpacked"
 }

@@ -1,6 +1,6 @@
 # shellcheck shell=bash disable=SC2154 # who reads this sets `room`
 # Sourced by the scripts that build for platforms, which have `stop` and the folder $room. Each call of `platform` is a
-# row of the table in docs/USING.md: tools/docs/check_platforms.py --write makes it of them.
+# row of the table in docs/USING.md: tools/docs/check_tree.py --platforms makes it of them.
 
 # platform SYSTEM MACHINE BUILT DONE TOOL.. -- COMMAND..: runs the command if these are there, and says in one line that
 # it did what is declared, and how long it took, or what is missing. What it prints is shown only if it fails. The four

@@ -1,7 +1,7 @@
 /* What the proved calls of pkcs1_c.h require and promise, and what those of pkcs1.h do, for prove.sh. A call of pkcs1.h
- * has the contract of the proved call, but takes what its head comment allows. check_requires.py compares what is
- * required of the proved calls here with the types of their Rattle signatures, check_ensures.py what is promised with
- * the Rattle clauses of the same names. seam/seam.py makes of it what looks at each clause when one of them is called. */
+ * has the contract of the proved call, but takes what its head comment allows. check_contracts.py compares what
+ * is required of the proved calls here with the types of their Rattle signatures, and what is promised with the Rattle
+ * clauses of the same names. seam/seam.py makes of it what looks at each clause when one of them is called. */
 #include <stddef.h>
 #include <stdint.h>
 #define char uint8_t

@@ -1,7 +1,7 @@
 #!/usr/bin/env python3
-"""Plants each mistake of the file `mistakes` in a copy of ffi/proof/pkcs1.acsl.h. Each must be refused: by
-ffi/proof/check_requires.py, which reads it, by calls that are watched by what is made of it, or else by
-ffi/proof/check_ensures.py. Prints by which, and at which clause. The status is 1 if one passed.
+"""Plants each mistake of the file `mistakes` in a copy of ffi/proof/pkcs1.acsl.h. Each must be refused: by calls
+that are watched by what is made of it, or else by check_contracts.py, which reads it. Prints by which, and at which
+clause. The status is 1 if one passed.
 
     mistakes.py OUT     OUT: what `make` left there
 
@@ -54,13 +54,12 @@ def refused_by(text, room, objects):
     acsl, made, test = f"{room}/pkcs1.acsl.h", f"{room}/seam.c", f"{room}/test"
     with open(acsl, "w", encoding="utf-8") as it:
         it.write(text)
-    return checked("proof/check_requires.py", acsl) or watched(acsl, made, test, objects) or \
-        checked("proof/check_ensures.py", acsl)
+    return watched(acsl, made, test, objects) or checked(acsl)
 
 
-def checked(check, acsl):
-    found = run(f"{TOP}/ffi/{check}", acsl)
-    return f"{check}: {found.stdout.splitlines()[0]}" if found.returncode else None
+def checked(acsl):
+    found = run(f"{HERE}/../check_contracts.py", acsl)
+    return f"check_contracts.py: {found.stdout.splitlines()[0]}" if found.returncode else None
 
 
 def watched(acsl, made, test, objects):
