@@ -38,11 +38,10 @@ def place_of(file):
 
 
 def planted():
-    """What is wrong, the file, and the two texts of each mistake."""
+    """The file, what is wrong, and the two texts of each mistake."""
     page = (HERE / "planted.txt").read_text(encoding="utf-8")
-    for case in page.split("\n\n")[1:]:
-        what, file, old, new = (line.partition(": ")[2].replace("\\n", "\n") for line in case.strip().split("\n"))
-        yield what, file, old, "" if new == "none" else new
+    for head, *lines in (case.split("\n") for case in page.strip().split("\n\n")[1:]):
+        yield *head.split(": ", 1), *("\n".join(it[1:] for it in lines if it[0] == sign) for sign in "-+")
 
 
 def first_difference(source, made):
@@ -141,7 +140,7 @@ class Planted(unittest.TestCase):
     def test_each_mistake_is_named(self):
         mistakes = list(planted())
         self.assertGreaterEqual(len(mistakes), 20)
-        for what, file, old, new in mistakes:
+        for file, what, old, new in mistakes:
             with self.subTest(what):
                 path = self.folder / place_of(file)[0]
                 text = path.read_text(encoding="utf-8")
