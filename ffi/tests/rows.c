@@ -1,7 +1,7 @@
 /* The worked rows whose word is a kind. Decoding has the status that follows from a row. An error leaves the struct
- * unchanged. An accepted value is encoded again, as the row says. It is also encoded with too little room and with
- * more, and with each of its fields empty. Each field points to where it stands in the input. The rows that ask whether
- * two values mean the same, too. */
+ * unchanged, as does each beginning of what is accepted. An accepted value is encoded again, as the row says. It is also
+ * encoded with too little room and with more, and with each of its fields empty. Each field points to where it stands in
+ * the input. The rows that ask whether two values mean the same, too. */
 #include "test.h"
 #include <string.h>
 
@@ -223,6 +223,19 @@ static uint8_t *octets_of(const char *digits, size_t *len) {
     return octets;
 }
 
+/* Each beginning is rejected, and leaves what would be filled. */
+static void try_beginnings(const char *kind, const uint8_t *der, size_t len) {
+    union value *value = filled(sizeof *value), *old = filled(sizeof *old);
+    for (size_t n = 0; n < len; n++) {
+        uint8_t *cut = filled(n + 1); /* at its end: valgrind sees a read behind it */
+        memcpy(cut + 1, der, n);
+        CHECK(read_row(kind, cut + 1, n, value) != PKCS1_OK && memcmp(value, old, sizeof *value) == 0);
+        free(cut);
+    }
+    free(value);
+    free(old);
+}
+
 /* An accepted value is written as these octets. */
 static void try_writing(const char *kind, union value *value, const uint8_t *want, size_t want_len) {
     uint8_t out[LONGEST];
@@ -248,6 +261,8 @@ static void try_row(const char *kind, const char *digits, const char *text) {
         CHECK(memcmp(value, old, sizeof *value) == 0);
     } else {
         try_pointers(kind, der, len);
+        if (len <= 160)
+            try_beginnings(kind, der, len);
         /* More primes than are listed can't be written. */
         if (strcmp(kind, "priv") != 0 || value->priv.key.other_primes <= LISTED) {
             try_writing(kind, value, again, again_len);
