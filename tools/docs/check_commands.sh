@@ -9,7 +9,7 @@ cd "$(dirname "$0")/../.."
 . tools/shell.sh
 top=$PWD
 limit=$(command -v timeout) sh=$(command -v sh)
-allowed='grep ls od openssl paste pkg-config sed sh split tail tr'
+allowed='cat grep ls nproc od openssl paste pkg-config sed sh split tail tr xargs'
 # The parameters in the certificate, and all that stands in front of them in their algorithm identifier.
 params=3034a00f300d06096086480165030402010500a11c301a06092a864886f70d010108300d06096086480165030402010500a203020120
 identifier=304106092a864886f70d01010a
