@@ -188,25 +188,26 @@ unfolding length_octets
 under_mask_0 zero less = (refl, omega arith, [], (refl, refl), refl)
 under_mask_0 (suc i) less = absurd (omega (arith, less))
 
-one_of_alone : (i : ℕ) (bytes : List ℕ) → i < 1 → slice_index_or ((48 ∷ 0 ∷ []) ∷ []) i [] ≡ bytes → Whole 0 bytes
+one_of_no_fields : (i : ℕ) (bytes : List ℕ) → i < 1 → slice_index_or ((48 ∷ 0 ∷ []) ∷ []) i [] ≡ bytes → Whole 0 bytes
 unfolding length_octets
-one_of_alone zero bytes less is =
+one_of_no_fields zero bytes less is =
     (refl, omega (arith, ap length is), [], refl, sym is)
-one_of_alone (suc i) bytes less is = absurd (omega (arith, less))
+one_of_no_fields (suc i) bytes less is = absurd (omega (arith, less))
 
-alone : AreAll (λ Encoding. Encoding) (λ (v : ℕ). v ≡ v) (λ (v : ℕ). []) 0 0 ((48 ∷ 0 ∷ []) ∷ [])
+all_of_no_fields : AreAll (λ Encoding. Encoding) (λ (v : ℕ). v ≡ v) (λ (v : ℕ). []) 0 0 ((48 ∷ 0 ∷ []) ∷ [])
 unfolding length_octets
-alone = record {
+all_of_no_fields = record {
   count = refl;
   under = under_mask_0;
   different = λ i j i_less j_less e. omega (arith, i_less, j_less);
   every = λ bytes. (
     (λ is. (0, omega arith, ap sequence (sym is.3) ∙ sym is.4)),
-    (λ at. one_of_alone at.0 bytes at.1 at.2));
+    (λ at. one_of_no_fields at.0 bytes at.1 at.2),
+  );
 }
 
-listed_alone : Lists (λ (v : ℕ). v ≡ v) (λ (v : ℕ). []) 0 (Some ((48 ∷ 0 ∷ []) ∷ []))
-listed_alone = (0, refl, alone)
+no_fields_listed : Lists (λ (v : ℕ). v ≡ v) (λ (v : ℕ). []) 0 (Some ((48 ∷ 0 ∷ []) ∷ []))
+no_fields_listed = (0, refl, all_of_no_fields)
 
 past_the_limit : Lists (λ (v : ℕ). ⊥) (λ (v : ℕ). []) 0 None
 past_the_limit is = absurd is
@@ -261,6 +262,14 @@ none_past_the_limit octets fills counted v k is defaults within =
     let same = ap (λ it. length (longest (filled it))) is in
     let inner = longest (filled octets) in
     let outer = tlv 6 identifier ++ longest (filled v) in
-    absurd (omega (arith, fills, counted, within, same, identifier_counted,
-        length-append (length_octets (length inner)) inner,
-        length-append (length_octets (length outer)) outer, length-append (tlv 6 identifier) (longest (filled v))))
+    absurd (omega (
+      arith,
+      fills,
+      counted,
+      within,
+      same,
+      identifier_counted,
+      length-append (length_octets (length inner)) inner,
+      length-append (length_octets (length outer)) outer,
+      length-append (tlv 6 identifier) (longest (filled v)),
+    ))

@@ -1,5 +1,5 @@
 -- Worked rows of `specs/Statement.antt` of `standard`: each fails for a common mistake in a definition or in a promise.
-use Rattle.std.proofs.Common.{ℕ, List, [], ◌∷◌, ◌++◌, ◌≡◌, ◌≢◌, ◌≤◌, ◌<◌, ◌∙◌, length, refl, ap, sym, arith, Some, None, inl, inr, codes, replicate, drop}
+use Rattle.std.proofs.Common.{ℕ, List, [], ◌∷◌, ◌++◌, ◌≡◌, ◌≢◌, ◌≤◌, ◌<◌, ◌∙◌, length, refl, ap, sym, arith, Some, None, inl, inr, codes, map, replicate, drop}
 use Rattle.std.specs.Prelude.{slice_index}
 use Rattle.std.specs.List.{AllByRecursion, concat}
 use Rattle.standard.proofs.Rows.{digit, hex}
@@ -198,11 +198,15 @@ two_octets : (a b : ℕ) → 128 < a → a < 256 → b < 128 → IsSubidentifier
 two_octets a b above octet below =
     (a ∷ [], b, refl, ((omega (arith, above), octet), tt), below, λ e. omega (arith, above, e))
 
-rsa_identifier : IsIdentifier (hex (codes "2a8648"))
+two_parts_are_identifier : IsIdentifier (hex (codes "2a8648"))
 unfolding hex digit
-rsa_identifier = (
-    (42 ∷ []) ∷ (134 ∷ 72 ∷ []) ∷ [], omega arith,
-    (one_octet 42 (omega arith), (two_octets 134 72 (omega arith) (omega arith) (omega arith), tt)), refl, omega arith)
+two_parts_are_identifier = (
+  (42 ∷ []) ∷ (134 ∷ 72 ∷ []) ∷ [],
+  omega arith,
+  (one_octet 42 (omega arith), (two_octets 134 72 (omega arith) (omega arith) (omega arith), tt)),
+  refl,
+  omega arith,
+)
 
 octets_of_both_ends : AreOctets (0 ∷ 255 ∷ [])
 octets_of_both_ends = (omega arith, (omega arith, tt))
@@ -217,9 +221,10 @@ under_2a8648 = record {
   attributes = Some (255 ∷ []);
 }
 
-container_encoded : ContainerEncoding under_2a8648 (hex (codes "3010020100300506032a86480401ffa001ff"))
+container_of_any_algorithm_encoded : ContainerEncoding under_2a8648 (hex (codes "3010020100300506032a86480401ffa001ff"))
 unfolding hex digit length_octets
-container_encoded = (omega arith, (rsa_identifier, tt), (omega arith, tt), (omega arith, tt), refl)
+container_of_any_algorithm_encoded =
+    (omega arith, (two_parts_are_identifier, tt), (omega arith, tt), (omega arith, tt), refl)
 
 attribute_of_256 : (bytes : List ℕ)
     → ContainerEncoding (record { algorithm = rsa_encryption; private_key = []; attributes = Some (256 ∷ []) }) bytes
@@ -230,39 +235,53 @@ key_octet_of_256 : (bytes : List ℕ)
     → ContainerEncoding (record { algorithm = rsa_encryption; private_key = 256 ∷ []; attributes = None }) bytes → ⊥
 key_octet_of_256 bytes p = omega (arith, p.2.0)
 
+one_octet_each : (bs : List ℕ) → AllByRecursion (λ b. b < 128) bs
+    → AllByRecursion IsSubidentifierPart (map (λ b. b ∷ []) bs)
+one_octet_each [] below = tt
+one_octet_each (b ∷ bs) below = (one_octet b below.0, one_octet_each bs below.1)
+
 -- 1.2.840.113549.1.1 and one more
-subidentifiers_of_pkcs1 : (last : ℕ) → last < 128 → AllByRecursion IsSubidentifierPart
-    ((42 ∷ []) ∷ (134 ∷ 72 ∷ []) ∷ (134 ∷ 247 ∷ 13 ∷ []) ∷ (1 ∷ []) ∷ (1 ∷ []) ∷ (last ∷ []) ∷ [])
-subidentifiers_of_pkcs1 last below = (
-    one_octet 42 (omega arith), (two_octets 134 72 (omega arith) (omega arith) (omega arith),
-    ((134 ∷ 247 ∷ [], 13, refl, ((omega arith, omega arith), ((omega arith, omega arith), tt)), omega arith,
-    λ e. omega (arith, e)), (one_octet 1 (omega arith), (one_octet 1 (omega arith), (one_octet last below, tt))))))
+abbrev parts_of_pkcs1 : ℕ → List (List ℕ)
+parts_of_pkcs1 last = (42 ∷ []) ∷ (134 ∷ 72 ∷ []) ∷ (134 ∷ 247 ∷ 13 ∷ []) ∷ (1 ∷ []) ∷ (1 ∷ []) ∷ (last ∷ []) ∷ []
 
-label_identifier : IsIdentifier empty_label.oid
-label_identifier = (
-    (42 ∷ []) ∷ (134 ∷ 72 ∷ []) ∷ (134 ∷ 247 ∷ 13 ∷ []) ∷ (1 ∷ []) ∷ (1 ∷ []) ∷ (9 ∷ []) ∷ [], omega arith,
-    subidentifiers_of_pkcs1 9 (omega arith), refl, omega arith)
+are_parts_of_pkcs1 : (last : ℕ) → last < 128 → AllByRecursion IsSubidentifierPart (parts_of_pkcs1 last)
+are_parts_of_pkcs1 last below =
+    let third : IsSubidentifierPart (134 ∷ 247 ∷ 13 ∷ []) = (
+      134 ∷ 247 ∷ [],
+      13,
+      refl,
+      ((omega arith, omega arith), ((omega arith, omega arith), tt)),
+      omega arith,
+      λ e. omega (arith, e),
+    ) in
+    let later = one_octet_each (1 ∷ 1 ∷ last ∷ []) (omega arith, (omega arith, (below, tt))) in
+    (one_octet 42 (omega arith), (two_octets 134 72 (omega arith) (omega arith) (omega arith), (third, later)))
 
-sha1_identifier : IsIdentifier sha1.oid
-sha1_identifier = (
-    (43 ∷ []) ∷ (14 ∷ []) ∷ (3 ∷ []) ∷ (2 ∷ []) ∷ (26 ∷ []) ∷ [], omega arith,
-    (one_octet 43 (omega arith), (one_octet 14 (omega arith), (one_octet 3 (omega arith),
-    (one_octet 2 (omega arith), (one_octet 26 (omega arith), tt))))), refl, omega arith)
+empty_label_is_identifier : IsIdentifier empty_label.oid
+empty_label_is_identifier = (parts_of_pkcs1 9, omega arith, are_parts_of_pkcs1 9 (omega arith), refl, omega arith)
 
-mgf1_identifier : IsIdentifier mgf1_sha1.oid
-mgf1_identifier = (
-    (42 ∷ []) ∷ (134 ∷ 72 ∷ []) ∷ (134 ∷ 247 ∷ 13 ∷ []) ∷ (1 ∷ []) ∷ (1 ∷ []) ∷ (8 ∷ []) ∷ [], omega arith,
-    subidentifiers_of_pkcs1 8 (omega arith), refl, omega arith)
+mgf1_is_identifier : IsIdentifier mgf1_sha1.oid
+mgf1_is_identifier = (parts_of_pkcs1 8, omega arith, are_parts_of_pkcs1 8 (omega arith), refl, omega arith)
+
+sha1_is_identifier : IsIdentifier sha1.oid
+sha1_is_identifier =
+    let below : AllByRecursion (λ b. b < 128) sha1.oid = (omega arith, (omega arith, (omega arith, (omega arith, (omega arith, tt))))) in
+    let parts = one_octet_each sha1.oid below in
+    ((43 ∷ []) ∷ (14 ∷ []) ∷ (3 ∷ []) ∷ (2 ∷ []) ∷ (26 ∷ []) ∷ [], omega arith, parts, refl, omega arith)
 
 salt_255 : IsPss (record { hash = sha1; mask_gen = mgf1_sha1; salt_len = 255; trailer_field = 1 })
 salt_255 =
-    ((sha1_identifier, (refl, tt)), (mgf1_identifier, (sha1_identifier, (refl, tt))), omega arith, refl)
+    ((sha1_is_identifier, (refl, tt)), (mgf1_is_identifier, (sha1_is_identifier, (refl, tt))), omega arith, refl)
 
 usual_pss_encoded : PssEncoding usual_pss_parameters (hex (codes "3000"))
 unfolding usual_pss_parameters hex digit length_octets
 usual_pss_encoded = (
-    ((sha1_identifier, (refl, tt)), (mgf1_identifier, (sha1_identifier, (refl, tt))), omega arith, refl), omega arith,
-    [], inl (refl, inl (refl, inl (refl, inl (refl, refl)))), refl)
+  ((sha1_is_identifier, (refl, tt)), (mgf1_is_identifier, (sha1_is_identifier, (refl, tt))), omega arith, refl),
+  omega arith,
+  [],
+  inl (refl, inl (refl, inl (refl, inl (refl, refl)))),
+  refl,
+)
 
 usual_pss_algorithm_encoded : PssAlgorithmEncoding usual_pss_parameters (hex (codes "300d06092a864886f70d01010a3000"))
 unfolding hex digit length_octets
@@ -272,5 +291,9 @@ usual_oaep_encoded : OaepEncoding (record { hash = sha1; mask_gen = mgf1_sha1; p
     (hex (codes "3000"))
 unfolding hex digit length_octets
 usual_oaep_encoded = (
-    ((sha1_identifier, (refl, tt)), (mgf1_identifier, (sha1_identifier, (refl, tt))), (label_identifier, (refl, tt))),
-    omega arith, [], inl (refl, inl (refl, inl (refl, refl))), refl)
+  ((sha1_is_identifier, (refl, tt)), (mgf1_is_identifier, (sha1_is_identifier, (refl, tt))), (empty_label_is_identifier, (refl, tt))),
+  omega arith,
+  [],
+  inl (refl, inl (refl, inl (refl, refl))),
+  refl,
+)
