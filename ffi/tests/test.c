@@ -189,7 +189,8 @@ static void no_attributes(void) {
     CHECK(pkcs1_private_key_info_encode(&info, out, sizeof out, &len) == PKCS1_OK && len == 53);
     CHECK(pkcs1_private_key_info_decode(out, len, &info, &key, NULL, 0) == PKCS1_OK && info.has_attributes);
     CHECK(info.attributes.data == out + len && info.attributes.len == 0);
-    info.private_key.len--;
+    info.private_key = (struct pkcs1_bytes){two, sizeof two - 1};
+    info.has_attributes = false;
     CHECK(pkcs1_private_key_info_encode(&info, out, sizeof out, &len) == PKCS1_INCOMPLETE && len == 53);
 }
 
