@@ -15,6 +15,7 @@ import re
 import subprocess
 import sys
 
+import calls
 import names
 
 HEADER = "ffi/lib/include/pkcs1.h"
@@ -67,6 +68,12 @@ def check_names(tree):
     """Names in documents are there: files, words of code, places to link to. The map has each part."""
     documents = tree.like(r"(README|CONTRIBUTING|SECURITY)\.md|(docs|crates/\w+|rust|tools/\w+)/(?!CHANGELOG)\w+\.md")
     return f"the names in {len(documents)} documents are there", names.wrong_in(tree, documents)
+
+
+def check_calls(tree):
+    """A comment in front of each public item of src/ says what it promises, and in each file what that holds."""
+    files, items, wrong = calls.look_at(tree)
+    return f"{files} files say what they hold, and {items} public items of src/ what they promise", wrong
 
 
 def check_examples(tree):
