@@ -69,7 +69,7 @@ impl<'a, O: FromView<'a>> AlgorithmIdentifier<AnyRef<'a>, O> {
         AlgorithmIdentifier { oid: O::of_view(crate::identifier::named::<D>()), parameters: Some(AnyRef::NULL) }
     }
 
-    #[inline]
+    #[inline(always)]
     pub(crate) fn of_view(view: View<'a>) -> AlgorithmIdentifier<AnyRef<'a>, O> {
         AlgorithmIdentifier { oid: O::of_view(view.oid), parameters: view.parameters.map(AnyRef) }
     }

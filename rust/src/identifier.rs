@@ -157,7 +157,7 @@ impl Identifier for ObjectIdentifier {
 
 impl FromView<'_> for ObjectIdentifier {
     /// Nearly all identifiers in keys and parameters have five or nine octets. Copies of a known length take no call.
-    #[inline]
+    #[inline(always)]
     fn of_view(view: proved::IdentifierView<'_>) -> ObjectIdentifier {
         match *view.as_bytes() {
             [a, b, c, d, e, f, g, h, i] => ObjectIdentifier::with_zeros([a, b, c, d, e, f, g, h, i]),
@@ -191,7 +191,7 @@ impl Identifier for ObjectIdentifierRef<'_> {
 }
 
 impl<'a> FromView<'a> for ObjectIdentifierRef<'a> {
-    #[inline]
+    #[inline(always)]
     fn of_view(view: proved::IdentifierView<'a>) -> ObjectIdentifierRef<'a> {
         ObjectIdentifierRef(view)
     }

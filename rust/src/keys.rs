@@ -158,7 +158,7 @@ impl<U: Number> RsaPrivateKey<U> {
     pub(crate) fn written(&self) -> der::Result<Written<'_>> {
         let mut list = None;
         if let Some(others) = &self.other_prime_infos {
-            let list = list.insert(Vec::new(Global));
+            let list = list.insert(Vec::with_room(Global, others.len())?);
             for other in others {
                 list.push(OtherPrimeInfo {
                     prime: other.prime.as_number(),

@@ -74,7 +74,7 @@ macro_rules! parameters {
             /// or without parameters.
             #[must_use]
             pub fn uses_hash<D: AssociatedOid>(&self) -> bool {
-                self.view().uses_hash::<D>()
+                crate::params::uses_hash::<D, P, O>(&self.hash, &self.mask_gen)
             }
 
             /// Whether both mean the same: all fields are equal, where a hash function with NULL and one without

@@ -81,7 +81,7 @@ impl<'a, O: FromView<'a>> RsaPssParams<AnyRef<'a>, O> {
         RsaPssParams { hash: plain::<D, O>(), mask_gen: mgf1::<D, O>(), salt_len, trailer_field: TrailerField::BC }
     }
 
-    #[inline]
+    #[inline(always)]
     pub(crate) fn of_view(view: proved::RsaPssParamsView<'a>) -> RsaPssParams<AnyRef<'a>, O> {
         RsaPssParams {
             hash: AlgorithmIdentifier::of_view(view.hash),
@@ -120,7 +120,7 @@ impl<'a, O: FromView<'a>> RsaOaepParams<AnyRef<'a>, O> {
         }
     }
 
-    #[inline]
+    #[inline(always)]
     pub(crate) fn of_view(view: proved::RsaOaepParamsView<'a>) -> RsaOaepParams<AnyRef<'a>, O> {
         RsaOaepParams {
             hash: AlgorithmIdentifier::of_view(view.hash),
@@ -144,7 +144,7 @@ fn mgf1<'a, D: AssociatedOid, O: FromView<'a>>() -> MaskGen<AnyRef<'a>, O> {
 type MaskGenView<'a> = crate::proved::spki_core::AlgorithmView<'a, HashView<'a>>;
 type HashView<'a> = crate::proved::spki_core::AlgorithmView<'a, crate::proved::spki_core::AnyRef<'a>>;
 
-#[inline]
+#[inline(always)]
 fn mask_gen_of<'a, O: FromView<'a>>(view: MaskGenView<'a>) -> MaskGen<AnyRef<'a>, O> {
     AlgorithmIdentifier { oid: O::of_view(view.oid), parameters: view.parameters.map(AlgorithmIdentifier::of_view) }
 }
@@ -165,6 +165,15 @@ fn under<'p, P: Held, O: Identifier>(
 ) -> Option<&'p [u8]> {
     let under = mask_gen.parameters.as_ref()?;
     (hash.has_null() && under.has_null()).then(|| under.oid.as_view().as_bytes())
+}
+
+/// Whether the hash function is D, and the mask generation function is MGF1 with D. No view is made of the other fields.
+pub(crate) fn uses_hash<D: AssociatedOid, P: Held, O: Identifier>(
+    hash: &AlgorithmIdentifier<P, O>,
+    mask_gen: &MaskGen<P, O>,
+) -> bool {
+    let is_mgf1 = proved::is_mgf1(mask_gen.oid.as_view().as_bytes());
+    is_mgf1 && hash.is_hash::<D>() && mask_gen.parameters.as_ref().is_some_and(AlgorithmIdentifier::is_hash::<D>)
 }
 
 impl<P: Held, O: Identifier> RsaPssParams<P, O> {
@@ -199,9 +208,13 @@ impl<P: Held, O: Identifier> RsaPssParams<P, O> {
 
 impl<P: Held, O: Identifier> RsaOaepParams<P, O> {
     /// The octets of the label, or `None` if the source isn't pSpecified with an OCTET STRING.
+    #[inline]
     #[must_use]
     pub fn label(&self) -> Option<&[u8]> {
-        self.view().label()
+        // Of the other fields, which `label` doesn't look at, nothing is copied.
+        let p_source = self.p_source.as_view();
+        let mask_gen = MaskGenView { oid: p_source.oid, parameters: None };
+        proved::RsaOaepParamsView { hash: p_source, mask_gen, p_source }.label()
     }
 
     #[inline]

@@ -3,7 +3,7 @@
 use crate::der::{self, Length, Result, Tag};
 use crate::proved::der_core::{self as proved, AsUintRef, UintRef};
 use crate::proved::pkcs1::{RsaPublicKey, TrailerField};
-use crate::proved::spki_core::{self, AnyValue};
+use crate::proved::spki_core::{self, AnyParams, AnyValue};
 use crate::rattle_std::alloc::Global;
 use core::cmp::Ordering;
 use core::hash::{Hash, Hasher};
@@ -89,7 +89,7 @@ impl<'a> AnyRef<'a> {
     ///
     /// `Overflow` if there are more than `Length::MAX`.
     pub fn new(tag: Tag, contents: &'a [u8]) -> Result<AnyRef<'a>> {
-        Ok(AnyRef(spki_core::AnyRef::new(tag, contents)?))
+        Ok(AnyRef(readable(spki_core::AnyRef::new(tag, contents)?)))
     }
 
     /// The tag, of any class and number.
@@ -124,7 +124,7 @@ impl<'a> AnyRef<'a> {
 }
 
 /// A tag and contents octets, which are opaque. It owns them.
-#[derive(Clone, Debug, PartialEq, Eq)]
+#[derive(Clone, Debug, Eq)]
 pub struct Any(pub(crate) spki_core::Any);
 
 impl Any {
@@ -141,14 +141,14 @@ impl Any {
     #[inline]
     #[must_use]
     pub fn tag(&self) -> Tag {
-        self.0.as_any_ref().tag()
+        self.as_any().tag()
     }
 
     /// The contents octets.
     #[inline]
     #[must_use]
     pub fn value(&self) -> &[u8] {
-        self.0.as_any_ref().value()
+        self.as_any().value()
     }
 
     /// The same tag and contents.
@@ -186,7 +186,20 @@ impl Held for AnyRef<'_> {
 impl Held for Any {
     #[inline]
     fn as_any(&self) -> AnyRef<'_> {
-        AnyRef(self.0.as_any_ref())
+        AnyRef(readable(self.0.as_any_ref()))
+    }
+}
+
+/// The same, with no octets only at an address that may be read. The `memcmp` of glibc reads at it on processors with
+/// AVX-512, even where it compares none, and a fault takes the time of several calls.
+#[inline]
+fn readable(any: spki_core::AnyRef<'_>) -> spki_core::AnyRef<'_> {
+    if any.value().is_empty() { AnyParams::empty(proved::NoMemory, any.tag()) } else { any }
+}
+
+impl PartialEq for Any {
+    fn eq(&self, other: &Any) -> bool {
+        self.as_any() == other.as_any()
     }
 }
 

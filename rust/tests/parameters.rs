@@ -37,6 +37,27 @@ fn a_default_that_is_written_is_read_but_not_strictly() {
     assert!(matches!(made::kind(RsaPssParamsRef::from_der_strict(&der)), ErrorKind::Noncanonical { .. }));
 }
 
+/// Comparing slices at an address that may not be read takes 100 ns on some processors, even where they are empty.
+#[test]
+fn no_octets_stand_at_an_address_that_may_be_read() {
+    let oaep = RsaOaepParamsRef::new::<Sha256>();
+    let slices = [
+        AnyRef::NULL.value(),
+        AnyRef::new(Tag::OCTET_STRING, &[]).unwrap().value(),
+        oaep.label().unwrap(),
+        oaep.hash.parameters.unwrap().value(),
+        RsaPssParamsRef::try_from(&[0x30, 0][..]).unwrap().hash.parameters.unwrap().value(),
+    ];
+    assert!(slices.iter().all(|octets| octets.is_empty() && octets.as_ptr().addr() > 4096));
+    #[cfg(feature = "alloc")]
+    {
+        let owned = pkcs1::RsaOaepParamsOwned::default();
+        let (hash, label) = (owned.hash.parameters.as_ref().unwrap(), owned.label().unwrap());
+        assert!(hash.value().is_empty() && hash.value().as_ptr().addr() > 4096 && label.as_ptr().addr() > 4096);
+        assert!(owned == pkcs1::RsaOaepParamsOwned::try_from(&[0x30, 0][..]).unwrap());
+    }
+}
+
 #[test]
 fn a_label_is_written_and_read() {
     let params = RsaOaepParamsRef::new_with_label::<Sha256>(b"label");

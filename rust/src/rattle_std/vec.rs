@@ -21,6 +21,13 @@ impl<T> Vec<T> {
         Vec { items: Items::default() }
     }
 
+    /// An empty list with room for so many items.
+    pub fn with_room(alloc: Global, count: usize) -> Result<Vec<T>, AllocError> {
+        let mut made = Vec::new(alloc);
+        made.reserve(count)?;
+        Ok(made)
+    }
+
     /// Makes room for more items.
     fn reserve(&mut self, more: usize) -> Result<(), AllocError> {
         #[cfg(feature = "alloc")]
@@ -71,8 +78,7 @@ impl<T: Copy> Vec<T> {
 
     /// The item, so many times.
     pub fn repeated(alloc: Global, item: T, count: usize) -> Result<Vec<T>, AllocError> {
-        let mut made = Vec::new(alloc);
-        made.reserve(count)?;
+        let mut made = Vec::with_room(alloc, count)?;
         #[cfg(feature = "alloc")]
         made.items.resize(count, item);
         let _ = item;
