@@ -5,7 +5,7 @@ use crate::proved::der_core as proved;
 use crate::rattle_std::{alloc::Global, prelude::Vec};
 
 #[cfg(feature = "alloc")]
-pub use crate::documents::{Document, SecretDocument};
+pub use crate::documents::{Document, DocumentOf, Open, Secret, SecretDocument};
 pub use proved::{Error, ErrorKind, Length, Result, Tag, TagNumber};
 
 /// The types of ASN.1.

@@ -50,6 +50,8 @@ mod clones;
 pub mod der;
 #[cfg(feature = "alloc")]
 mod documents;
+#[cfg(feature = "std")]
+mod files;
 mod identifier;
 mod idioms;
 mod keys;
@@ -75,6 +77,8 @@ mod traits;
 mod values;
 
 pub use der::asn1::{ObjectIdentifier, Uint, UintRef};
+#[cfg(feature = "std")]
+pub use files::FileError;
 pub use keys::{OtherPrimeInfos, RsaPrivateKey, RsaPrivateKeyOwned, RsaPrivateKeyRef, RsaPublicKeyOwned};
 pub use named::{
     Mgf1, PSpecified, RsaEncryption, RsaesOaep, RsassaPss, Sha1, Sha3_256, Sha3_384, Sha3_512, Sha224, Sha256, Sha384,

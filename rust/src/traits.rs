@@ -1,101 +1,131 @@
 //! Traits for keys of any type.
 
+#[cfg(feature = "std")]
+use crate::FileError;
 #[cfg(feature = "alloc")]
 use crate::der::{Document, SecretDocument};
 #[cfg(feature = "alloc")]
-use crate::values::Number;
+use crate::{RsaPrivateKey, RsaPublicKey, RsaPublicKeyRef, values::Number};
 use crate::{Result, RsaPrivateKeyOwned, RsaPublicKeyOwned};
 
-macro_rules! decoding {
-    ($(#[doc = $text:literal])* $trait:ident, $key:ty, $document:ident) => {
-        $(#[doc = $text])*
-        pub trait $trait: Sized {
-            /// Decodes a key from the whole slice.
-            ///
-            /// # Errors
-            ///
-            /// The slice isn't one whole encoding of a key, or there is no memory.
-            fn from_pkcs1_der(bytes: &[u8]) -> Result<Self>;
+/// A private key that can be decoded from PKCS #1.
+pub trait DecodeRsaPrivateKey: Sized {
+    /// Decodes a key from the whole slice.
+    ///
+    /// # Errors
+    ///
+    /// The slice isn't one whole encoding of a key, or there is no memory.
+    fn from_pkcs1_der(bytes: &[u8]) -> Result<Self>;
 
-            /// Decodes the key in a file.
-            ///
-            /// # Errors
-            ///
-            /// The file can't be read, or `from_pkcs1_der` rejects it.
-            #[cfg(feature = "std")]
-            fn read_pkcs1_der_file(path: impl AsRef<std::path::Path>) -> Result<Self> {
-                Self::from_pkcs1_der($document::read_der_file(path)?.as_bytes())
-            }
-        }
+    /// Decodes the key in a file.
+    ///
+    /// # Errors
+    ///
+    /// The file can't be read, or `from_pkcs1_der` rejects it.
+    #[cfg(feature = "std")]
+    fn read_pkcs1_der_file(path: impl AsRef<std::path::Path>) -> core::result::Result<Self, FileError> {
+        Ok(Self::from_pkcs1_der(SecretDocument::read_der_file(path)?.as_bytes())?)
+    }
+}
 
-        impl $trait for $key {
-            fn from_pkcs1_der(bytes: &[u8]) -> Result<$key> {
-                <$key>::try_from(bytes)
-            }
-        }
-    };
+/// A public key that can be decoded from PKCS #1. A type of one's own may be one:
+///
+/// ```
+/// use pkcs1::{DecodeRsaPublicKey, Error, Result, RsaPublicKeyRef};
+///
+/// struct Modulus([u8; 256]);
+///
+/// impl DecodeRsaPublicKey for Modulus {
+///     fn from_pkcs1_der(bytes: &[u8]) -> Result<Modulus> {
+///         let key = RsaPublicKeyRef::try_from(bytes)?;
+///         let octets = key.modulus.as_bytes().try_into().map_err(|_| Error::KeyMalformed)?;
+///         Ok(Modulus(octets))
+///     }
+/// }
+/// ```
+pub trait DecodeRsaPublicKey: Sized {
+    /// Decodes a key from the whole slice.
+    ///
+    /// # Errors
+    ///
+    /// The slice isn't one whole encoding of a key, or there is no memory.
+    fn from_pkcs1_der(bytes: &[u8]) -> Result<Self>;
+
+    /// Decodes the key in a file.
+    ///
+    /// # Errors
+    ///
+    /// The file can't be read, or `from_pkcs1_der` rejects it.
+    #[cfg(feature = "std")]
+    fn read_pkcs1_der_file(path: impl AsRef<std::path::Path>) -> core::result::Result<Self, FileError> {
+        Ok(Self::from_pkcs1_der(Document::read_der_file(path)?.as_bytes())?)
+    }
 }
-decoding! {
-    /// A private key that can be decoded from PKCS #1.
-    DecodeRsaPrivateKey, RsaPrivateKeyOwned, SecretDocument
+
+/// A private key that can be encoded in PKCS #1.
+#[cfg(feature = "alloc")]
+pub trait EncodeRsaPrivateKey {
+    /// Returns the encoding of the key.
+    ///
+    /// # Errors
+    ///
+    /// The key has no encoding, or there is no memory for it.
+    fn to_pkcs1_der(&self) -> Result<SecretDocument>;
+
+    /// Writes the encoding of the key to a file, which is created or truncated: see `SecretDocument::write_der_file`.
+    ///
+    /// # Errors
+    ///
+    /// As `to_pkcs1_der`, or the file can't be written.
+    #[cfg(feature = "std")]
+    fn write_pkcs1_der_file(&self, path: impl AsRef<std::path::Path>) -> core::result::Result<(), FileError> {
+        self.to_pkcs1_der()?.write_der_file(path)
+    }
 }
-decoding! {
-    /// A public key that can be decoded from PKCS #1. A type of one's own may be one:
+
+/// A public key that can be encoded in PKCS #1.
+#[cfg(feature = "alloc")]
+pub trait EncodeRsaPublicKey {
+    /// Returns the encoding of the key.
     ///
-    /// ```
-    /// use pkcs1::{DecodeRsaPublicKey, Error, Result, RsaPublicKeyRef};
+    /// # Errors
     ///
-    /// struct Modulus([u8; 256]);
+    /// The key has no encoding, or there is no memory for it.
+    fn to_pkcs1_der(&self) -> Result<Document>;
+
+    /// Writes the encoding of the key to a file, which is created or truncated.
     ///
-    /// impl DecodeRsaPublicKey for Modulus {
-    ///     fn from_pkcs1_der(bytes: &[u8]) -> Result<Modulus> {
-    ///         let key = RsaPublicKeyRef::try_from(bytes)?;
-    ///         let octets = key.modulus.as_bytes().try_into().map_err(|_| Error::KeyMalformed)?;
-    ///         Ok(Modulus(octets))
-    ///     }
-    /// }
-    /// ```
-    DecodeRsaPublicKey, RsaPublicKeyOwned, Document
+    /// # Errors
+    ///
+    /// As `to_pkcs1_der`, or the file can't be written.
+    #[cfg(feature = "std")]
+    fn write_pkcs1_der_file(&self, path: impl AsRef<std::path::Path>) -> core::result::Result<(), FileError> {
+        self.to_pkcs1_der()?.write_der_file(path)
+    }
+}
+
+impl DecodeRsaPrivateKey for RsaPrivateKeyOwned {
+    fn from_pkcs1_der(bytes: &[u8]) -> Result<RsaPrivateKeyOwned> {
+        RsaPrivateKeyOwned::try_from(bytes)
+    }
+}
+
+impl DecodeRsaPublicKey for RsaPublicKeyOwned {
+    fn from_pkcs1_der(bytes: &[u8]) -> Result<RsaPublicKeyOwned> {
+        RsaPublicKeyOwned::try_from(bytes)
+    }
 }
 
 #[cfg(feature = "alloc")]
-macro_rules! encoding {
-    ($(#[doc = $text:literal])* $trait:ident, $key:ident, $document:ident, $value:ident => $message:expr) => {
-        $(#[doc = $text])*
-        pub trait $trait {
-            /// Returns the encoding of the key.
-            ///
-            /// # Errors
-            ///
-            /// The key has no encoding, or there is no memory for it.
-            fn to_pkcs1_der(&self) -> Result<$document>;
-
-            /// Writes the encoding of the key to a file, which is created or truncated.
-            ///
-            /// # Errors
-            ///
-            /// As `to_pkcs1_der`, or the file can't be written.
-            #[cfg(feature = "std")]
-            fn write_pkcs1_der_file(&self, path: impl AsRef<std::path::Path>) -> Result<()> {
-                Ok(self.to_pkcs1_der()?.write_der_file(path)?)
-            }
-        }
-
-        impl<U: Number> $trait for crate::$key<U> {
-            fn to_pkcs1_der(&self) -> Result<$document> {
-                let $value = self;
-                Ok($document::written(&$message)?)
-            }
-        }
-    };
+impl<U: Number> EncodeRsaPrivateKey for RsaPrivateKey<U> {
+    fn to_pkcs1_der(&self) -> Result<SecretDocument> {
+        Ok(SecretDocument::written(&self.written()?)?)
+    }
 }
+
 #[cfg(feature = "alloc")]
-encoding! {
-    /// A private key that can be encoded in PKCS #1.
-    EncodeRsaPrivateKey, RsaPrivateKey, SecretDocument, key => key.written()?
-}
-#[cfg(feature = "alloc")]
-encoding! {
-    /// A public key that can be encoded in PKCS #1.
-    EncodeRsaPublicKey, RsaPublicKey, Document, key => crate::RsaPublicKeyRef::from(key)
+impl<U: Number> EncodeRsaPublicKey for RsaPublicKey<U> {
+    fn to_pkcs1_der(&self) -> Result<Document> {
+        Ok(Document::written(&RsaPublicKeyRef::from(self))?)
+    }
 }

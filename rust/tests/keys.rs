@@ -163,19 +163,3 @@ mod with_alloc {
         assert_eq!(Document::from_der(&der[..9]).unwrap_err().kind(), ErrorKind::Incomplete);
     }
 }
-
-#[cfg(feature = "std")]
-#[test]
-fn keys_are_read_from_files_and_written_to_files() {
-    use pkcs1::{DecodeRsaPrivateKey, EncodeRsaPrivateKey, RsaPrivateKeyOwned};
-    let path = std::env::temp_dir().join(format!("key-{}.der", std::process::id()));
-    let der = made::private_key(1);
-    let key = RsaPrivateKeyOwned::from_pkcs1_der(&der).unwrap();
-    key.write_pkcs1_der_file(&path).unwrap();
-    assert_eq!(std::fs::read(&path).unwrap(), der);
-    let again = RsaPrivateKeyOwned::read_pkcs1_der_file(&path).unwrap();
-    assert_eq!(again.to_pkcs1_der().unwrap().as_bytes(), der);
-    std::fs::remove_file(&path).unwrap();
-    let error = RsaPrivateKeyOwned::read_pkcs1_der_file(&path).unwrap_err();
-    assert_eq!(error.to_string(), "PKCS#1 ASN.1 error: a read or a write failed");
-}

@@ -58,24 +58,6 @@ pub mod rt {
         /// Creates a file, or truncates an old one.
         fn create_file(&self, path: Path<'_>) -> io::Result<Self::File>;
     }
-
-    /// The files of the system.
-    #[cfg(feature = "std")]
-    #[derive(Clone, Copy, Debug)]
-    pub struct Host;
-
-    #[cfg(feature = "std")]
-    impl Files for Host {
-        type File = ::std::fs::File;
-
-        fn open_file(&self, path: Path<'_>) -> io::Result<::std::fs::File> {
-            ::std::fs::File::open(path.0)
-        }
-
-        fn create_file(&self, path: Path<'_>) -> io::Result<::std::fs::File> {
-            ::std::fs::File::create(path.0)
-        }
-    }
 }
 
 /// Files.
