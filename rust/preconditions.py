@@ -56,7 +56,7 @@ def named(crate):
             words |= set(re.findall(r"\w+|\*", use))
         wrong += [f"{path}: {it} can be reached" for it in re.findall(r"pub mod (?:proved|rattle_std)\b", text)]
         above = re.findall(r"pub trait [^:{]*:([^{]*)\{", text)
-        wrong += [f"{path}: a trait is below {it}" for it in above if it.strip() != "Sized"]
+        wrong += [f"{path}: a trait is below {it}" for it in above if it.strip() not in ("Sized", "Sealed", "Sealed + Sized")]
     return words, wrong + (["a `pub use` names all of a module"] if "*" in words else [])
 
 

@@ -2,7 +2,7 @@
 
 use crate::der::asn1::{Any, AnyRef, ObjectIdentifier, ObjectIdentifierRef, OctetStringRef, UintRef};
 use crate::der::{self, ErrorKind, asn1::Uint, decoded, encoded};
-use crate::identifier::{AssociatedOid, FromView, Identifier};
+use crate::identifier::{AssociatedOid, Identifier, OfIdentifier};
 use crate::proved::der_core::{self as proved, read_borrowed};
 use crate::proved::pkcs1::{TrailerField, Version};
 use crate::proved::spki_core::AlgorithmView;
@@ -45,7 +45,7 @@ impl<P, O> AlgorithmIdentifier<P, O> {
         O: Identifier,
     {
         Ok(AlgorithmIdentifier {
-            oid: FromView::of_view(self.oid.as_view()),
+            oid: OfIdentifier::of_identifier(self.oid.as_identifier()),
             parameters: self.parameters.as_ref().map(held).transpose()?,
         })
     }
@@ -62,16 +62,13 @@ impl<P> AlgorithmIdentifier<P> {
     }
 }
 
-impl<'a, O: FromView<'a>> AlgorithmIdentifier<AnyRef<'a>, O> {
-    /// The algorithm D with NULL.
-    #[inline]
-    pub(crate) fn with_null<D: AssociatedOid>() -> AlgorithmIdentifier<AnyRef<'a>, O> {
-        AlgorithmIdentifier { oid: O::of_view(crate::identifier::named::<D>()), parameters: Some(AnyRef::NULL) }
-    }
-
+impl<'a, O: OfIdentifier<'a>> AlgorithmIdentifier<AnyRef<'a>, O> {
     #[inline(always)]
     pub(crate) fn of_view(view: View<'a>) -> AlgorithmIdentifier<AnyRef<'a>, O> {
-        AlgorithmIdentifier { oid: O::of_view(view.oid), parameters: view.parameters.map(AnyRef) }
+        AlgorithmIdentifier {
+            oid: O::of_identifier(ObjectIdentifierRef(view.oid)),
+            parameters: view.parameters.map(AnyRef),
+        }
     }
 }
 
@@ -79,7 +76,7 @@ impl<P: Held, O: Identifier> AlgorithmIdentifier<P, O> {
     #[inline]
     pub(crate) fn as_view(&self) -> View<'_> {
         AlgorithmView {
-            oid: self.oid.as_view(),
+            oid: self.oid.as_identifier().0,
             parameters: self.parameters.as_ref().map(|parameters| parameters.as_any().0),
         }
     }
@@ -137,13 +134,13 @@ decoded! {
     {} UintRef<'a>, bytes => read_borrowed(bytes);
     {} Uint, bytes => UintRef::from_der(bytes)?.try_into();
     {} OctetStringRef<'a>, bytes => read_borrowed(bytes);
-    {} ObjectIdentifierRef<'a>, bytes => Ok(ObjectIdentifierRef::of_view(read_borrowed(bytes)?));
+    {} ObjectIdentifierRef<'a>, bytes => Ok(ObjectIdentifierRef(read_borrowed(bytes)?));
     {} ObjectIdentifier, bytes => Ok(ObjectIdentifierRef::from_der(bytes)?.into());
     {} AnyRef<'a>, bytes => Ok(AnyRef(read_borrowed(bytes)?));
     {} Any, bytes => AnyRef::from_der(bytes)?.try_into();
     {} Version, bytes => proved::Decode::from_der(proved::NoMemory, bytes);
     {} TrailerField, bytes => proved::Decode::from_der(proved::NoMemory, bytes);
-    {O: FromView<'a>} AlgorithmIdentifier<AnyRef<'a>, O>, bytes => {
+    {O: OfIdentifier<'a>} AlgorithmIdentifier<AnyRef<'a>, O>, bytes => {
         Ok(AlgorithmIdentifier::of_view(read_borrowed(bytes)?))
     };
     {} AlgorithmIdentifier<Any>, bytes => AlgorithmIdentifierRef::from_der(bytes)?.map(|any| Any::try_from(*any));
@@ -152,8 +149,8 @@ encoded! {
     {} UintRef<'_>, number => *number;
     {} Uint, number => number.as_number();
     {} OctetStringRef<'_>, octets => *octets;
-    {} ObjectIdentifierRef<'_>, oid => oid.as_view();
-    {} ObjectIdentifier, oid => oid.as_view();
+    {} ObjectIdentifierRef<'_>, oid => oid.as_identifier().0;
+    {} ObjectIdentifier, oid => oid.as_identifier().0;
     {} AnyRef<'_>, any => any.0;
     {} Any, any => any.as_any().0;
     {} Version, version => *version;

@@ -1,6 +1,6 @@
 //! Documents: one whole SEQUENCE each, in memory.
 
-use crate::der::{Decode, Encode, Error, Length, Result};
+use crate::der::{Decode, Encode, Error, Length, Result, copied};
 #[cfg(feature = "std")]
 use crate::files::{FileError, Host};
 use crate::proved::der_core as proved;
@@ -31,9 +31,14 @@ impl<S> DocumentOf<S> {
 
     /// How many octets the encoding has, at least two.
     #[must_use]
-    #[allow(clippy::len_without_is_empty)]
     pub fn len(&self) -> Length {
         self.0.len()
+    }
+
+    /// Never: an encoding has two octets or more.
+    #[must_use]
+    pub const fn is_empty(&self) -> bool {
+        false
     }
 
     /// Decodes a message.
@@ -96,9 +101,13 @@ impl<S> DocumentOf<S> {
 
 impl Document {
     /// A copy of the encoding.
+    ///
+    /// # Panics
+    ///
+    /// There is no memory.
     #[must_use]
     pub fn to_vec(&self) -> Vec<u8> {
-        self.as_bytes().to_vec()
+        copied(self.as_bytes()).expect("no memory was found")
     }
 
     /// Writes the document to a file, which is created or truncated.

@@ -3,6 +3,7 @@
 use crate::der::{Error, ErrorKind, Result};
 use crate::oid_text::{number_at, print};
 use crate::proved::spki_core as proved;
+use crate::values::sealed::Sealed;
 use core::fmt;
 
 /// An object identifier as its contents octets (X.690 8.19), of which there are at most 39.
@@ -52,7 +53,7 @@ impl ObjectIdentifier {
     ///
     /// `OidMalformed`.
     pub fn from_bytes(octets: &[u8]) -> Result<ObjectIdentifier> {
-        Ok(ObjectIdentifier::of_view(proved::IdentifierView::from_bytes(octets)?))
+        Ok(ObjectIdentifierRef(proved::IdentifierView::from_bytes(octets)?).into())
     }
 
     /// The contents octets, at least one.
@@ -106,7 +107,7 @@ impl core::str::FromStr for ObjectIdentifier {
 
 /// An object identifier over the octets that it was read from.
 #[derive(Clone, Copy)]
-pub struct ObjectIdentifierRef<'a>(proved::IdentifierView<'a>);
+pub struct ObjectIdentifierRef<'a>(pub(crate) proved::IdentifierView<'a>);
 
 impl<'a> ObjectIdentifierRef<'a> {
     /// The contents octets, at least one.
@@ -132,34 +133,38 @@ impl PartialEq<ObjectIdentifier> for ObjectIdentifierRef<'_> {
 
 impl From<ObjectIdentifierRef<'_>> for ObjectIdentifier {
     fn from(oid: ObjectIdentifierRef<'_>) -> ObjectIdentifier {
-        ObjectIdentifier::of_view(oid.0)
+        ObjectIdentifier::of_identifier(oid)
     }
 }
 
 /// What holds an object identifier: `ObjectIdentifier`, or `ObjectIdentifierRef`.
-pub trait Identifier: Sized {
-    /// The identifier, over its octets.
-    fn as_view(&self) -> proved::IdentifierView<'_>;
+pub trait Identifier: Sealed {
+    /// The identifier, borrowed.
+    fn as_identifier(&self) -> ObjectIdentifierRef<'_>;
 }
 
-/// What an object identifier that is read is held in.
-pub trait FromView<'a>: Sized {
-    /// The identifier over these octets.
-    fn of_view(view: proved::IdentifierView<'a>) -> Self;
+/// What an object identifier that is read is held in: `ObjectIdentifier` as a copy, or `ObjectIdentifierRef`.
+pub trait OfIdentifier<'a>: Sealed + Sized {
+    /// The identifier.
+    fn of_identifier(oid: ObjectIdentifierRef<'a>) -> Self;
 }
+
+impl Sealed for ObjectIdentifier {}
+
+impl Sealed for ObjectIdentifierRef<'_> {}
 
 impl Identifier for ObjectIdentifier {
     #[inline]
-    fn as_view(&self) -> proved::IdentifierView<'_> {
-        proved::IdentifierView::over(self.as_bytes())
+    fn as_identifier(&self) -> ObjectIdentifierRef<'_> {
+        ObjectIdentifierRef(proved::IdentifierView::over(self.as_bytes()))
     }
 }
 
-impl FromView<'_> for ObjectIdentifier {
+impl OfIdentifier<'_> for ObjectIdentifier {
     /// Nearly all identifiers in keys and parameters have five or nine octets. Copies of a known length take no call.
     #[inline(always)]
-    fn of_view(view: proved::IdentifierView<'_>) -> ObjectIdentifier {
-        match *view.as_bytes() {
+    fn of_identifier(oid: ObjectIdentifierRef<'_>) -> ObjectIdentifier {
+        match *oid.as_bytes() {
             [a, b, c, d, e, f, g, h, i] => ObjectIdentifier::with_zeros([a, b, c, d, e, f, g, h, i]),
             [a, b, c, d, e] => ObjectIdentifier::with_zeros([a, b, c, d, e]),
             ref octets => ObjectIdentifier::copied(octets),
@@ -185,22 +190,16 @@ impl ObjectIdentifier {
 
 impl Identifier for ObjectIdentifierRef<'_> {
     #[inline]
-    fn as_view(&self) -> proved::IdentifierView<'_> {
-        self.0
+    fn as_identifier(&self) -> ObjectIdentifierRef<'_> {
+        *self
     }
 }
 
-impl<'a> FromView<'a> for ObjectIdentifierRef<'a> {
+impl<'a> OfIdentifier<'a> for ObjectIdentifierRef<'a> {
     #[inline(always)]
-    fn of_view(view: proved::IdentifierView<'a>) -> ObjectIdentifierRef<'a> {
-        ObjectIdentifierRef(view)
+    fn of_identifier(oid: ObjectIdentifierRef<'a>) -> ObjectIdentifierRef<'a> {
+        oid
     }
-}
-
-/// The identifier of a type.
-#[inline]
-pub(crate) fn named<D: AssociatedOid>() -> proved::IdentifierView<'static> {
-    D::KEPT.as_view()
 }
 
 macro_rules! printed {

@@ -1,7 +1,7 @@
 //! What Rust's idioms want beside the proved functions.
 
 use crate::Error;
-use crate::der::{self, Length};
+use crate::der::{self, Length, TagNumber};
 
 impl core::error::Error for der::Error {}
 
@@ -17,6 +17,15 @@ impl core::error::Error for Error {
 impl Default for Length {
     fn default() -> Length {
         Length::ZERO
+    }
+}
+
+impl TryFrom<u8> for TagNumber {
+    type Error = der::Error;
+
+    /// `TagUnknown` of a number above 30.
+    fn try_from(number: u8) -> der::Result<TagNumber> {
+        if number > 30 { Err(der::ErrorKind::TagUnknown { octet: number }.into()) } else { Ok(TagNumber::new(number)) }
     }
 }
 

@@ -1,20 +1,47 @@
-//! RSA keys.
+//! RSA private keys.
 
 use crate::der::asn1::{OctetStringRef, Uint, UintRef};
 use crate::der::{self, decoded, encoded, from_slices};
 use crate::proved::der_core::read_borrowed;
-use crate::proved::pkcs1::{OtherPrimeInfo, PrivateKeyOf, RsaPrivateKeyView, RsaPublicKey, RsaPublicKeyRef, Version};
+use crate::proved::pkcs1::{OtherPrimeInfo, PrivateKeyOf, RsaPrivateKeyView, Version};
+use crate::public_key::{RsaPublicKey, RsaPublicKeyRef};
 use crate::rattle_std::{alloc::Global, prelude::Vec};
-use crate::values::Number;
+use crate::values::{Hex, Number};
 use crate::{Error, Result};
 use core::fmt;
 
-/// The primes of a private key after the first two: a list, or without the feature `alloc` none.
+/// The primes of a private key after the first two, as a slice. Without the feature `alloc` there are none.
+#[derive(Clone, Debug)]
+pub struct OtherPrimeInfos<U>(Vec<OtherPrimeInfo<U>>);
+
+impl<U> core::ops::Deref for OtherPrimeInfos<U> {
+    type Target = [OtherPrimeInfo<U>];
+
+    fn deref(&self) -> &[OtherPrimeInfo<U>] {
+        &self.0
+    }
+}
+
 #[cfg(feature = "alloc")]
-pub type OtherPrimeInfos<U> = alloc::vec::Vec<OtherPrimeInfo<U>>;
-/// The primes of a private key after the first two: a list, or without the feature `alloc` none.
-#[cfg(not(feature = "alloc"))]
-pub type OtherPrimeInfos<U> = [OtherPrimeInfo<U>; 0];
+impl<U> From<alloc::vec::Vec<OtherPrimeInfo<U>>> for OtherPrimeInfos<U> {
+    fn from(list: alloc::vec::Vec<OtherPrimeInfo<U>>) -> OtherPrimeInfos<U> {
+        OtherPrimeInfos(list.into())
+    }
+}
+
+impl<U> OtherPrimeInfos<U> {
+    /// A list of so many primes, or `OutOfMemory`.
+    fn listed(
+        count: usize,
+        primes: impl Iterator<Item = der::Result<OtherPrimeInfo<U>>>,
+    ) -> der::Result<OtherPrimeInfos<U>> {
+        let mut list = Vec::with_room(Global, count)?;
+        for prime in primes {
+            list.push(prime?)?;
+        }
+        Ok(OtherPrimeInfos(list))
+    }
+}
 
 /// An RSA private key (RFC 8017 A.1.2). A `U` holds a number: see `RsaPrivateKeyRef` and `RsaPrivateKeyOwned`. No
 /// relation between the numbers is checked. A key whose list of other primes is there but empty isn't written.
@@ -61,21 +88,20 @@ pub type RsaPrivateKeyRef<'a> = RsaPrivateKey<UintRef<'a>>;
 /// A private key that owns its numbers. They aren't wiped when it is dropped.
 pub type RsaPrivateKeyOwned = RsaPrivateKey<Uint>;
 
-/// A public key that owns its numbers.
-pub type RsaPublicKeyOwned = RsaPublicKey<Uint>;
-
 /// A private key that is written.
 type Written<'k> = PrivateKeyOf<UintRef<'k>, Vec<OtherPrimeInfo<UintRef<'k>>>>;
 
 impl<U> RsaPrivateKey<U> {
     /// The version: `Multi` if there are other primes.
     #[must_use]
-    pub fn version(&self) -> Version {
+    pub const fn version(&self) -> Version {
         if self.other_prime_infos.is_some() { Version::Multi } else { Version::TwoPrime }
     }
 
-    /// The key with each number held otherwise.
-    fn map<V>(&self, held: impl Fn(&U) -> der::Result<V>) -> der::Result<RsaPrivateKey<V>> {
+    /// The key with each number held otherwise. A list of other primes takes memory.
+    #[inline]
+    pub(crate) fn map<'k, V>(&'k self, held: impl Fn(&'k U) -> der::Result<V>) -> der::Result<RsaPrivateKey<V>> {
+        let map_other = |other| map_other(other, &held);
         Ok(RsaPrivateKey {
             modulus: held(&self.modulus)?,
             public_exponent: held(&self.public_exponent)?,
@@ -86,7 +112,7 @@ impl<U> RsaPrivateKey<U> {
             exponent2: held(&self.exponent2)?,
             coefficient: held(&self.coefficient)?,
             other_prime_infos: match &self.other_prime_infos {
-                Some(others) => Some(listed(others.len(), others.iter().map(|other| map_other(other, &held)))?),
+                Some(others) => Some(OtherPrimeInfos::listed(others.len(), others.iter().map(map_other))?),
                 None => None,
             },
         })
@@ -94,7 +120,10 @@ impl<U> RsaPrivateKey<U> {
 }
 
 /// The prime with each number held otherwise.
-fn map_other<U, V>(other: &OtherPrimeInfo<U>, held: impl Fn(&U) -> der::Result<V>) -> der::Result<OtherPrimeInfo<V>> {
+fn map_other<'k, U, V>(
+    other: &'k OtherPrimeInfo<U>,
+    held: impl Fn(&'k U) -> der::Result<V>,
+) -> der::Result<OtherPrimeInfo<V>> {
     Ok(OtherPrimeInfo {
         prime: held(&other.prime)?,
         exponent: held(&other.exponent)?,
@@ -102,31 +131,16 @@ fn map_other<U, V>(other: &OtherPrimeInfo<U>, held: impl Fn(&U) -> der::Result<V
     })
 }
 
-/// A list of so many primes, or `OutOfMemory`.
-#[cfg(feature = "alloc")]
-fn listed<V>(
-    count: usize,
-    primes: impl Iterator<Item = der::Result<OtherPrimeInfo<V>>>,
-) -> der::Result<OtherPrimeInfos<V>> {
-    let mut list = alloc::vec::Vec::new();
-    list.try_reserve_exact(count).map_err(|_| der::Error::new(der::ErrorKind::OutOfMemory))?;
-    for prime in primes {
-        list.push(prime?);
+impl<'a> RsaPrivateKeyRef<'a> {
+    /// The public key, over the same octets.
+    #[must_use]
+    pub const fn public_key(&self) -> RsaPublicKeyRef<'a> {
+        RsaPublicKey { modulus: self.modulus, public_exponent: self.public_exponent }
     }
-    Ok(list)
-}
-#[cfg(not(feature = "alloc"))]
-fn listed<V>(
-    count: usize,
-    _primes: impl Iterator<Item = der::Result<OtherPrimeInfo<V>>>,
-) -> der::Result<OtherPrimeInfos<V>> {
-    if count == 0 { Ok([]) } else { Err(der::Error::new(der::ErrorKind::OutOfMemory)) }
-}
 
-impl<'a> RsaPrivateKey<UintRef<'a>> {
     /// The key of a view, with a list of its other primes.
     #[inline]
-    pub(crate) fn of_view(view: &RsaPrivateKeyView<'a>) -> der::Result<RsaPrivateKey<UintRef<'a>>> {
+    pub(crate) fn of_view(view: &RsaPrivateKeyView<'a>) -> der::Result<RsaPrivateKeyRef<'a>> {
         let others = view.other_primes();
         Ok(RsaPrivateKey {
             modulus: view.modulus(),
@@ -138,7 +152,7 @@ impl<'a> RsaPrivateKey<UintRef<'a>> {
             exponent2: view.exponent2(),
             coefficient: view.coefficient(),
             other_prime_infos: if view.version().is_multi() {
-                Some(listed(others.remaining(), others.map(Ok))?)
+                Some(OtherPrimeInfos::listed(others.remaining(), others.map(Ok))?)
             } else {
                 None
             },
@@ -147,41 +161,31 @@ impl<'a> RsaPrivateKey<UintRef<'a>> {
 }
 
 impl<U: Number> RsaPrivateKey<U> {
-    /// The public key.
+    /// The key as it is written.
+    #[inline]
+    pub(crate) fn written(&self) -> der::Result<Written<'_>> {
+        let key = self.map(|number| Ok(number.as_number()))?;
+        Ok(PrivateKeyOf {
+            modulus: key.modulus,
+            public_exponent: key.public_exponent,
+            private_exponent: key.private_exponent,
+            prime1: key.prime1,
+            prime2: key.prime2,
+            exponent1: key.exponent1,
+            exponent2: key.exponent2,
+            coefficient: key.coefficient,
+            other_prime_infos: key.other_prime_infos.map(|others| others.0),
+        })
+    }
+}
+
+impl RsaPrivateKeyOwned {
+    /// The public key, borrowed.
     #[must_use]
     pub fn public_key(&self) -> RsaPublicKeyRef<'_> {
         RsaPublicKey { modulus: self.modulus.as_number(), public_exponent: self.public_exponent.as_number() }
     }
 
-    /// The key as it is written. A list of other primes takes memory.
-    #[inline]
-    pub(crate) fn written(&self) -> der::Result<Written<'_>> {
-        let mut list = None;
-        if let Some(others) = &self.other_prime_infos {
-            let list = list.insert(Vec::with_room(Global, others.len())?);
-            for other in others {
-                list.push(OtherPrimeInfo {
-                    prime: other.prime.as_number(),
-                    exponent: other.exponent.as_number(),
-                    coefficient: other.coefficient.as_number(),
-                })?;
-            }
-        }
-        Ok(PrivateKeyOf {
-            modulus: self.modulus.as_number(),
-            public_exponent: self.public_exponent.as_number(),
-            private_exponent: self.private_exponent.as_number(),
-            prime1: self.prime1.as_number(),
-            prime2: self.prime2.as_number(),
-            exponent1: self.exponent1.as_number(),
-            exponent2: self.exponent2.as_number(),
-            coefficient: self.coefficient.as_number(),
-            other_prime_infos: list,
-        })
-    }
-}
-
-impl RsaPrivateKey<Uint> {
     /// The same key.
     ///
     /// # Errors
@@ -189,17 +193,6 @@ impl RsaPrivateKey<Uint> {
     /// `OutOfMemory`.
     pub fn try_clone(&self) -> der::Result<RsaPrivateKeyOwned> {
         self.map(Uint::try_clone)
-    }
-}
-
-impl RsaPublicKeyOwned {
-    /// The same key.
-    ///
-    /// # Errors
-    ///
-    /// `OutOfMemory`.
-    pub fn try_clone(&self) -> der::Result<RsaPublicKeyOwned> {
-        RsaPublicKeyRef::from(self).try_into()
     }
 }
 
@@ -214,36 +207,18 @@ impl OtherPrimeInfo<Uint> {
     }
 }
 
-impl TryFrom<&RsaPrivateKeyRef<'_>> for RsaPrivateKeyOwned {
-    type Error = der::Error;
-
-    /// Copies the numbers.
-    fn try_from(key: &RsaPrivateKeyRef<'_>) -> der::Result<RsaPrivateKeyOwned> {
-        key.map(|number| Uint::try_from(*number))
-    }
-}
-
-impl TryFrom<RsaPublicKeyRef<'_>> for RsaPublicKeyOwned {
-    type Error = der::Error;
-
-    /// Copies the numbers.
-    fn try_from(key: RsaPublicKeyRef<'_>) -> der::Result<RsaPublicKeyOwned> {
-        Ok(RsaPublicKey { modulus: key.modulus.try_into()?, public_exponent: key.public_exponent.try_into()? })
-    }
-}
-
-impl<U: fmt::Debug> fmt::Debug for RsaPrivateKey<U> {
+impl<U: Number> fmt::Debug for RsaPrivateKey<U> {
     /// Prints the version, the modulus and the public exponent, but nothing secret.
     fn fmt(&self, f: &mut fmt::Formatter<'_>) -> fmt::Result {
         f.debug_struct("RsaPrivateKey")
             .field("version", &self.version())
-            .field("modulus", &self.modulus)
-            .field("public_exponent", &self.public_exponent)
+            .field("modulus", &Hex(self.modulus.as_number().as_bytes()))
+            .field("public_exponent", &Hex(self.public_exponent.as_number().as_bytes()))
             .finish_non_exhaustive()
     }
 }
 
-impl<U: fmt::Debug> fmt::Debug for OtherPrimeInfo<U> {
+impl<U> fmt::Debug for OtherPrimeInfo<U> {
     /// Prints nothing secret.
     fn fmt(&self, f: &mut fmt::Formatter<'_>) -> fmt::Result {
         f.debug_struct("OtherPrimeInfo").finish_non_exhaustive()
@@ -259,31 +234,15 @@ pub(crate) fn asn1<T>(read: Result<T>) -> der::Result<T> {
 }
 
 decoded! {
-    {} RsaPublicKey<UintRef<'a>>, bytes => asn1(RsaPublicKey::try_from(bytes));
-    {} RsaPublicKey<Uint>, bytes => RsaPublicKeyRef::from_der(bytes)?.try_into();
     {} OtherPrimeInfo<UintRef<'a>>, bytes => read_borrowed(bytes);
     {} RsaPrivateKeyView<'a>, bytes => asn1(RsaPrivateKeyView::try_from(bytes));
     {} RsaPrivateKey<UintRef<'a>>, bytes => RsaPrivateKey::of_view(&asn1(RsaPrivateKeyView::try_from(bytes))?);
-    {} RsaPrivateKey<Uint>, bytes => (&RsaPrivateKeyRef::from_der(bytes)?).try_into();
+    {} RsaPrivateKey<Uint>, bytes => RsaPrivateKeyRef::from_der(bytes)?.try_into();
 }
-from_slices! { RsaPublicKey<Uint>; RsaPrivateKey<UintRef<'a>>; RsaPrivateKey<Uint>; }
+from_slices! { RsaPrivateKey<UintRef<'a>>; RsaPrivateKey<Uint>; }
 encoded! {
     {} OtherPrimeInfo<UintRef<'_>>, other => *other;
-    {} RsaPublicKey<UintRef<'_>>, key => *key;
-    {} RsaPublicKey<Uint>, key => RsaPublicKeyRef::from(key);
     {U: Number} RsaPrivateKey<U>, key => key.written()?;
-}
-
-impl<'a, U: Number> From<&'a RsaPublicKey<U>> for RsaPublicKeyRef<'a> {
-    fn from(key: &'a RsaPublicKey<U>) -> RsaPublicKeyRef<'a> {
-        RsaPublicKey { modulus: key.modulus.as_number(), public_exponent: key.public_exponent.as_number() }
-    }
-}
-
-impl<'a, U: Number> From<&'a RsaPrivateKey<U>> for RsaPublicKeyRef<'a> {
-    fn from(key: &'a RsaPrivateKey<U>) -> RsaPublicKeyRef<'a> {
-        key.public_key()
-    }
 }
 
 impl<'a> TryFrom<OctetStringRef<'a>> for RsaPrivateKeyRef<'a> {

@@ -47,6 +47,7 @@ extern crate std;
 
 mod algorithm;
 mod clones;
+mod conversions;
 pub mod der;
 #[cfg(feature = "alloc")]
 mod documents;
@@ -71,6 +72,7 @@ pub mod pkcs8;
     unused_variables
 )]
 mod proved;
+mod public_key;
 #[cfg_attr(not(feature = "std"), allow(dead_code))]
 mod rattle_std;
 mod traits;
@@ -79,7 +81,7 @@ mod values;
 pub use der::asn1::{ObjectIdentifier, Uint, UintRef};
 #[cfg(feature = "std")]
 pub use files::FileError;
-pub use keys::{OtherPrimeInfos, RsaPrivateKey, RsaPrivateKeyOwned, RsaPrivateKeyRef, RsaPublicKeyOwned};
+pub use keys::{OtherPrimeInfos, RsaPrivateKey, RsaPrivateKeyOwned, RsaPrivateKeyRef};
 pub use named::{
     Mgf1, PSpecified, RsaEncryption, RsaesOaep, RsassaPss, Sha1, Sha3_256, Sha3_384, Sha3_512, Sha224, Sha256, Sha384,
     Sha512, Sha512_224, Sha512_256,
@@ -88,9 +90,8 @@ pub use param_calls::{
     RsaOaepParamsOwned, RsaOaepParamsRef, RsaOaepParamsView, RsaPssParamsOwned, RsaPssParamsRef, RsaPssParamsView,
 };
 pub use params::{RsaOaepParams, RsaPssParams};
-pub use proved::pkcs1::{
-    Error, OtherPrimeInfo, OtherPrimes, Result, RsaPrivateKeyView, RsaPublicKey, RsaPublicKeyRef, TrailerField, Version,
-};
+pub use proved::pkcs1::{Error, OtherPrimeInfo, OtherPrimes, Result, RsaPrivateKeyView, TrailerField, Version};
+pub use public_key::{RsaPublicKey, RsaPublicKeyOwned, RsaPublicKeyRef};
 pub use traits::{DecodeRsaPrivateKey, DecodeRsaPublicKey};
 #[cfg(feature = "alloc")]
 pub use traits::{EncodeRsaPrivateKey, EncodeRsaPublicKey};
@@ -101,6 +102,13 @@ pub const ALGORITHM_OID: ObjectIdentifier = <RsaEncryption as der::oid::Associat
 /// The algorithm identifier of RSA keys: rsaEncryption with NULL.
 pub const ALGORITHM_ID: spki::AlgorithmIdentifierRef<'static> =
     spki::AlgorithmIdentifier { oid: ALGORITHM_OID, parameters: Some(der::asn1::AnyRef::NULL) };
+
+/// Traits of what holds numbers, identifiers and contents octets, borrowed or owned: for functions over both. They can't
+/// be implemented elsewhere.
+pub mod holders {
+    pub use crate::identifier::{Identifier, OfIdentifier};
+    pub use crate::values::{Held, Number};
+}
 
 /// Algorithm identifiers.
 pub mod spki {

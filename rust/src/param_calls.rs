@@ -3,12 +3,14 @@
 use crate::algorithm::AlgorithmIdentifier;
 use crate::der::asn1::{Any, AnyRef, ObjectIdentifierRef};
 use crate::der::{self, Encode, decoded, from_slices};
-use crate::identifier::{AssociatedOid, FromView, Identifier};
+use crate::identifier::{AssociatedOid, Identifier, OfIdentifier};
 use crate::keys::asn1;
-use crate::named::{RsaesOaep, RsassaPss, Sha1};
+use crate::named::{RsaesOaep, RsassaPss};
 use crate::params::{RsaOaepParams, RsaPssParams};
 use crate::proved::der_core::NoMemory;
 use crate::proved::pkcs1_params::{self as proved, EncodeParams, FromAlgorithm};
+#[cfg(feature = "alloc")]
+use crate::rattle_std::{alloc::Global, prelude::Vec};
 use crate::values::Held;
 use crate::{Error, Result};
 
@@ -17,7 +19,7 @@ use crate::{Error, Result};
 const LONGEST_KNOWN: usize = 2 + 127;
 
 macro_rules! parameters {
-    ($($name:ident, $view:ident, $reference:ident, $owned:ident, $algorithm:ident, $number:ident, $default:expr;)*) => { $(
+    ($($name:ident, $view:ident, $reference:ident, $owned:ident, $algorithm:ident, $number:ident;)*) => { $(
         #[doc = concat!("`", stringify!($name), "` whose algorithms have borrowed parameters.")]
         pub type $reference<'a> = $name<AnyRef<'a>>;
 
@@ -27,7 +29,7 @@ macro_rules! parameters {
         #[doc = concat!("`", stringify!($name), "` over their encoding, whose octets are their identifiers.")]
         pub type $view<'a> = $name<AnyRef<'a>, ObjectIdentifierRef<'a>>;
 
-        impl<'a, O: FromView<'a>> $name<AnyRef<'a>, O> {
+        impl<'a, O: OfIdentifier<'a>> $name<AnyRef<'a>, O> {
             /// Like `try_from`, but accepts the shortest encoding only, in which no default is written.
             ///
             /// # Errors
@@ -116,8 +118,12 @@ macro_rules! parameters {
             /// `Overflow` or `OutOfMemory`.
             #[cfg(feature = "alloc")]
             pub fn spellings(&self) -> Result<alloc::vec::Vec<alloc::vec::Vec<u8>>> {
-                let all = alloc::vec::Vec::from(self.view().spellings(crate::rattle_std::alloc::Global)?);
-                Ok(all.into_iter().map(Into::into).collect())
+                let all = alloc::vec::Vec::from(self.view().spellings(Global)?);
+                let mut list = Vec::with_room(Global, all.len()).map_err(der::Error::from)?;
+                for spelling in all {
+                    list.push(spelling.into()).map_err(der::Error::from)?;
+                }
+                Ok(list.into())
             }
 
             /// Writes the shortest encoding of the algorithm identifier with these parameters to the front of the
@@ -160,21 +166,22 @@ macro_rules! parameters {
             }
         }
 
-        impl<'a, O: FromView<'a>> Default for $name<AnyRef<'a>, O> {
+        impl<'a, O: OfIdentifier<'a>> Default for $name<AnyRef<'a>, O> {
             /// Each field at its default.
             fn default() -> $name<AnyRef<'a>, O> {
-                $default
+                // In the encoding without a field, each has its default.
+                Self::try_from(&[0x30, 0][..]).expect("no field is read")
             }
         }
 
         impl Default for $owned {
             /// Each field at its default. Nothing is allocated.
             fn default() -> $owned {
-                $reference::default().map(|any| Any::try_from(*any)).expect("no octet takes memory")
+                $reference::default().try_into().expect("no octet takes memory")
             }
         }
 
-        impl<'a, O: FromView<'a>> TryFrom<&'a [u8]> for $name<AnyRef<'a>, O> {
+        impl<'a, O: OfIdentifier<'a>> TryFrom<&'a [u8]> for $name<AnyRef<'a>, O> {
             type Error = Error;
 
             /// Reads the whole slice.
@@ -184,7 +191,7 @@ macro_rules! parameters {
             }
         }
 
-        impl<'a, O: FromView<'a>> TryFrom<AnyRef<'a>> for $name<AnyRef<'a>, O> {
+        impl<'a, O: OfIdentifier<'a>> TryFrom<AnyRef<'a>> for $name<AnyRef<'a>, O> {
             type Error = Error;
 
             /// Reads the parameters of an algorithm.
@@ -195,8 +202,8 @@ macro_rules! parameters {
         }
 
         decoded! {
-            {O: FromView<'a>} $name<AnyRef<'a>, O>, bytes => asn1(Self::try_from(bytes));
-            {} $name<Any>, bytes => $reference::from_der(bytes)?.map(|any| Any::try_from(*any));
+            {O: OfIdentifier<'a>} $name<AnyRef<'a>, O>, bytes => asn1(Self::try_from(bytes));
+            {} $name<Any>, bytes => $reference::from_der(bytes)?.try_into();
         }
         from_slices! { $name<Any>; }
 
@@ -229,8 +236,6 @@ macro_rules! parameters {
     )* };
 }
 parameters! {
-    RsaPssParams, RsaPssParamsView, RsaPssParamsRef, RsaPssParamsOwned, RsassaPss, RSASSA_PSS,
-        RsaPssParams::of_hash::<Sha1>(20);
-    RsaOaepParams, RsaOaepParamsView, RsaOaepParamsRef, RsaOaepParamsOwned, RsaesOaep, RSAES_OAEP,
-        RsaOaepParams::of_hash::<Sha1>(&[]);
+    RsaPssParams, RsaPssParamsView, RsaPssParamsRef, RsaPssParamsOwned, RsassaPss, RSASSA_PSS;
+    RsaOaepParams, RsaOaepParamsView, RsaOaepParamsRef, RsaOaepParamsOwned, RsaesOaep, RSAES_OAEP;
 }

@@ -1,9 +1,9 @@
 //! Parameters of RSASSA-PSS (RFC 8017 A.2.3) and RSAES-OAEP (A.2.1).
 
 use crate::algorithm::{AlgorithmIdentifier, MaskGen};
+use crate::der::Tag;
 use crate::der::asn1::{AnyRef, ObjectIdentifier};
-use crate::der::{self, Tag};
-use crate::identifier::{AssociatedOid, FromView, Identifier};
+use crate::identifier::{AssociatedOid, Identifier, ObjectIdentifierRef, OfIdentifier};
 use crate::named::{Mgf1, PSpecified};
 use crate::proved::pkcs1_params::{self as proved, TrailerField};
 use crate::values::Held;
@@ -71,16 +71,13 @@ impl<'a> RsaPssParams<AnyRef<'a>> {
     /// The hash function D with NULL, MGF1 with the same hash function, a salt of this many octets, and the trailer
     /// field.
     #[must_use]
-    pub fn new<D: AssociatedOid>(salt_len: u8) -> RsaPssParams<AnyRef<'a>> {
-        RsaPssParams::of_hash::<D>(salt_len)
+    pub const fn new<D: AssociatedOid>(salt_len: u8) -> RsaPssParams<AnyRef<'a>> {
+        let (hash, mask_gen) = (plain::<D>(), mgf1::<D>());
+        RsaPssParams { hash, mask_gen, salt_len, trailer_field: TrailerField::BC }
     }
 }
 
-impl<'a, O: FromView<'a>> RsaPssParams<AnyRef<'a>, O> {
-    pub(crate) fn of_hash<D: AssociatedOid>(salt_len: u8) -> RsaPssParams<AnyRef<'a>, O> {
-        RsaPssParams { hash: plain::<D, O>(), mask_gen: mgf1::<D, O>(), salt_len, trailer_field: TrailerField::BC }
-    }
-
+impl<'a, O: OfIdentifier<'a>> RsaPssParams<AnyRef<'a>, O> {
     #[inline(always)]
     pub(crate) fn of_view(view: proved::RsaPssParamsView<'a>) -> RsaPssParams<AnyRef<'a>, O> {
         RsaPssParams {
@@ -96,7 +93,7 @@ impl<'a> RsaOaepParams<AnyRef<'a>> {
     /// The hash function D with NULL, MGF1 with the same hash function, and the empty label.
     #[must_use]
     pub fn new<D: AssociatedOid>() -> RsaOaepParams<AnyRef<'a>> {
-        RsaOaepParams::of_hash::<D>(&[])
+        RsaOaepParams::new_with_label::<D>(&[])
     }
 
     /// The hash function D with NULL, MGF1 with the same hash function, and this label.
@@ -106,20 +103,13 @@ impl<'a> RsaOaepParams<AnyRef<'a>> {
     /// The label is longer than `Length::MAX`.
     #[must_use]
     pub fn new_with_label<D: AssociatedOid>(label: &'a (impl AsRef<[u8]> + ?Sized)) -> RsaOaepParams<AnyRef<'a>> {
-        RsaOaepParams::of_hash::<D>(label.as_ref())
+        let label = AnyRef::new(Tag::OCTET_STRING, label.as_ref()).expect("the label is too long");
+        let p_source = AlgorithmIdentifier { oid: PSpecified::OID, parameters: Some(label) };
+        RsaOaepParams { hash: plain::<D>(), mask_gen: mgf1::<D>(), p_source }
     }
 }
 
-impl<'a, O: FromView<'a>> RsaOaepParams<AnyRef<'a>, O> {
-    pub(crate) fn of_hash<D: AssociatedOid>(label: &'a [u8]) -> RsaOaepParams<AnyRef<'a>, O> {
-        let label = AnyRef::new(Tag::OCTET_STRING, label).expect("the label is too long");
-        RsaOaepParams {
-            hash: plain::<D, O>(),
-            mask_gen: mgf1::<D, O>(),
-            p_source: AlgorithmIdentifier { parameters: Some(label), ..plain::<PSpecified, O>() },
-        }
-    }
-
+impl<'a, O: OfIdentifier<'a>> RsaOaepParams<AnyRef<'a>, O> {
     #[inline(always)]
     pub(crate) fn of_view(view: proved::RsaOaepParamsView<'a>) -> RsaOaepParams<AnyRef<'a>, O> {
         RsaOaepParams {
@@ -130,14 +120,14 @@ impl<'a, O: FromView<'a>> RsaOaepParams<AnyRef<'a>, O> {
     }
 }
 
-/// The hash function or source D, with NULL.
-fn plain<'a, D: AssociatedOid, O: FromView<'a>>() -> AlgorithmIdentifier<AnyRef<'a>, O> {
-    AlgorithmIdentifier::with_null::<D>()
+/// The hash function D with NULL.
+const fn plain<'a, D: AssociatedOid>() -> AlgorithmIdentifier<AnyRef<'a>> {
+    AlgorithmIdentifier { oid: D::OID, parameters: Some(AnyRef::NULL) }
 }
 
 /// MGF1 with the hash function D with NULL.
-fn mgf1<'a, D: AssociatedOid, O: FromView<'a>>() -> MaskGen<AnyRef<'a>, O> {
-    AlgorithmIdentifier { oid: plain::<Mgf1, O>().oid, parameters: Some(plain::<D, O>()) }
+const fn mgf1<'a, D: AssociatedOid>() -> MaskGen<AnyRef<'a>> {
+    AlgorithmIdentifier { oid: Mgf1::OID, parameters: Some(plain::<D>()) }
 }
 
 /// A mask generation function of the proved crates, and its hash function.
@@ -145,14 +135,17 @@ type MaskGenView<'a> = crate::proved::spki_core::AlgorithmView<'a, HashView<'a>>
 type HashView<'a> = crate::proved::spki_core::AlgorithmView<'a, crate::proved::spki_core::AnyRef<'a>>;
 
 #[inline(always)]
-fn mask_gen_of<'a, O: FromView<'a>>(view: MaskGenView<'a>) -> MaskGen<AnyRef<'a>, O> {
-    AlgorithmIdentifier { oid: O::of_view(view.oid), parameters: view.parameters.map(AlgorithmIdentifier::of_view) }
+fn mask_gen_of<'a, O: OfIdentifier<'a>>(view: MaskGenView<'a>) -> MaskGen<AnyRef<'a>, O> {
+    AlgorithmIdentifier {
+        oid: O::of_identifier(ObjectIdentifierRef(view.oid)),
+        parameters: view.parameters.map(AlgorithmIdentifier::of_view),
+    }
 }
 
 #[inline]
 fn mask_gen_view<P: Held, O: Identifier>(mask_gen: &MaskGen<P, O>) -> MaskGenView<'_> {
     MaskGenView {
-        oid: mask_gen.oid.as_view(),
+        oid: mask_gen.oid.as_identifier().0,
         parameters: mask_gen.parameters.as_ref().map(AlgorithmIdentifier::as_view),
     }
 }
@@ -164,7 +157,7 @@ fn under<'p, P: Held, O: Identifier>(
     mask_gen: &'p MaskGen<P, O>,
 ) -> Option<&'p [u8]> {
     let under = mask_gen.parameters.as_ref()?;
-    (hash.has_null() && under.has_null()).then(|| under.oid.as_view().as_bytes())
+    (hash.has_null() && under.has_null()).then(|| under.oid.as_identifier().0.as_bytes())
 }
 
 /// Whether the hash function is D, and the mask generation function is MGF1 with D. No view is made of the other fields.
@@ -172,7 +165,7 @@ pub(crate) fn uses_hash<D: AssociatedOid, P: Held, O: Identifier>(
     hash: &AlgorithmIdentifier<P, O>,
     mask_gen: &MaskGen<P, O>,
 ) -> bool {
-    let is_mgf1 = proved::is_mgf1(mask_gen.oid.as_view().as_bytes());
+    let is_mgf1 = proved::is_mgf1(mask_gen.oid.as_identifier().0.as_bytes());
     is_mgf1 && hash.is_hash::<D>() && mask_gen.parameters.as_ref().is_some_and(AlgorithmIdentifier::is_hash::<D>)
 }
 
@@ -191,12 +184,12 @@ impl<P: Held, O: Identifier> RsaPssParams<P, O> {
     #[inline]
     pub(crate) fn write_known(&self, place: proved::Place, out: &mut [u8]) -> Option<proved::Written> {
         let under = under(&self.hash, &self.mask_gen)?;
-        let (hash, mask_gen) = (self.hash.oid.as_view(), self.mask_gen.oid.as_view());
+        let (hash, mask_gen) = (self.hash.oid.as_identifier().0, self.mask_gen.oid.as_identifier().0);
         proved::encode_known_pss(hash.as_bytes(), mask_gen.as_bytes(), under, self.salt_len, place, out)
     }
 
     /// The parameters with those of their algorithms held otherwise.
-    pub(crate) fn map<Q>(&self, held: impl Fn(&P) -> der::Result<Q>) -> der::Result<RsaPssParams<Q>> {
+    pub(crate) fn map<'p, Q, E>(&'p self, held: impl Fn(&'p P) -> Result<Q, E>) -> Result<RsaPssParams<Q>, E> {
         Ok(RsaPssParams {
             hash: self.hash.map(&held)?,
             mask_gen: self.mask_gen.map(|hash| hash.map(&held))?,
@@ -234,13 +227,13 @@ impl<P: Held, O: Identifier> RsaOaepParams<P, O> {
         if source.tag() != Tag::OCTET_STRING {
             return None;
         }
-        let (hash, mask_gen) = (self.hash.oid.as_view(), self.mask_gen.oid.as_view());
-        let (hash, mask_gen, named) = (hash.as_bytes(), mask_gen.as_bytes(), self.p_source.oid.as_view());
+        let (hash, mask_gen) = (self.hash.oid.as_identifier().0, self.mask_gen.oid.as_identifier().0);
+        let (hash, mask_gen, named) = (hash.as_bytes(), mask_gen.as_bytes(), self.p_source.oid.as_identifier().0);
         proved::encode_known_oaep(hash, mask_gen, under, named.as_bytes(), source.value(), place, out)
     }
 
     /// The parameters with those of their algorithms held otherwise.
-    pub(crate) fn map<Q>(&self, held: impl Fn(&P) -> der::Result<Q>) -> der::Result<RsaOaepParams<Q>> {
+    pub(crate) fn map<'p, Q, E>(&'p self, held: impl Fn(&'p P) -> Result<Q, E>) -> Result<RsaOaepParams<Q>, E> {
         Ok(RsaOaepParams {
             hash: self.hash.map(&held)?,
             mask_gen: self.mask_gen.map(|hash| hash.map(&held))?,

@@ -49,7 +49,7 @@ impl<'a> PrivateKeyInfoRef<'a> {
     /// octets are no key.
     pub fn rsa_view(&self) -> Result<RsaPrivateKeyView<'a>> {
         let algorithm = AlgorithmIdentifierOf {
-            oid: self.algorithm.oid.as_view().to_object_identifier(),
+            oid: self.algorithm.oid.as_identifier().0.to_object_identifier(),
             parameters: self.algorithm.parameters.map(|any| any.0),
         };
         proved::PrivateKeyInfoRef { algorithm, private_key: self.private_key, attributes: None }.rsa_view()

@@ -4,9 +4,9 @@
 use crate::FileError;
 #[cfg(feature = "alloc")]
 use crate::der::{Document, SecretDocument};
-#[cfg(feature = "alloc")]
-use crate::{RsaPrivateKey, RsaPublicKey, RsaPublicKeyRef, values::Number};
 use crate::{Result, RsaPrivateKeyOwned, RsaPublicKeyOwned};
+#[cfg(feature = "alloc")]
+use crate::{RsaPrivateKey, RsaPublicKey, values::Number};
 
 /// A private key that can be decoded from PKCS #1.
 pub trait DecodeRsaPrivateKey: Sized {
@@ -119,13 +119,13 @@ impl DecodeRsaPublicKey for RsaPublicKeyOwned {
 #[cfg(feature = "alloc")]
 impl<U: Number> EncodeRsaPrivateKey for RsaPrivateKey<U> {
     fn to_pkcs1_der(&self) -> Result<SecretDocument> {
-        Ok(SecretDocument::written(&self.written()?)?)
+        SecretDocument::try_from(self)
     }
 }
 
 #[cfg(feature = "alloc")]
 impl<U: Number> EncodeRsaPublicKey for RsaPublicKey<U> {
     fn to_pkcs1_der(&self) -> Result<Document> {
-        Ok(Document::written(&RsaPublicKeyRef::from(self))?)
+        Document::try_from(self)
     }
 }

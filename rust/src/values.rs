@@ -2,14 +2,42 @@
 
 use crate::der::{self, Length, Result, Tag};
 use crate::proved::der_core::{self as proved, AsUintRef, UintRef};
-use crate::proved::pkcs1::{RsaPublicKey, TrailerField};
+use crate::proved::pkcs1::TrailerField;
 use crate::proved::spki_core::{self, AnyParams, AnyValue};
 use crate::rattle_std::alloc::Global;
 use core::cmp::Ordering;
+use core::fmt;
 use core::hash::{Hash, Hasher};
 
+/// Makes a trait one that only this crate has types for.
+pub(crate) mod sealed {
+    pub trait Sealed {}
+}
+use sealed::Sealed;
+
+macro_rules! seal {
+    ($($name:ty)*) => { $( impl Sealed for $name {} )* };
+}
+seal! { UintRef<'_> Uint AnyRef<'_> Any }
+
+/// Octets that are printed in hexadecimal.
+pub(crate) struct Hex<'o>(pub(crate) &'o [u8]);
+
+impl fmt::Debug for Hex<'_> {
+    fn fmt(&self, f: &mut fmt::Formatter<'_>) -> fmt::Result {
+        self.0.iter().try_for_each(|octet| write!(f, "{octet:02x}"))
+    }
+}
+
+impl fmt::Debug for Uint {
+    /// Prints the number in hexadecimal.
+    fn fmt(&self, f: &mut fmt::Formatter<'_>) -> fmt::Result {
+        write!(f, "Uint({:?})", Hex(self.as_bytes()))
+    }
+}
+
 /// An unsigned number as big-endian bytes: no leading zeros, and one zero byte for 0. It owns them.
-#[derive(Clone, Debug, PartialEq, Eq)]
+#[derive(Clone, PartialEq, Eq)]
 pub struct Uint(pub(crate) proved::Uint);
 
 impl Uint {
@@ -46,17 +74,8 @@ impl Uint {
     }
 }
 
-impl TryFrom<UintRef<'_>> for Uint {
-    type Error = der::Error;
-
-    /// Copies the number.
-    fn try_from(number: UintRef<'_>) -> Result<Uint> {
-        Uint::new(number.as_bytes())
-    }
-}
-
 /// What holds an unsigned number: `UintRef` or `Uint`.
-pub trait Number: Sized {
+pub trait Number: Sealed {
     /// The number, borrowed.
     fn as_number(&self) -> UintRef<'_>;
 }
@@ -161,17 +180,8 @@ impl Any {
     }
 }
 
-impl TryFrom<AnyRef<'_>> for Any {
-    type Error = der::Error;
-
-    /// Copies the contents octets.
-    fn try_from(any: AnyRef<'_>) -> Result<Any> {
-        Any::new(any.tag(), any.value())
-    }
-}
-
 /// What holds a tag and contents octets: `AnyRef` or `Any`.
-pub trait Held: Sized {
+pub trait Held: Sealed {
     /// The tag and contents, borrowed.
     fn as_any(&self) -> AnyRef<'_>;
 }
@@ -258,10 +268,4 @@ ordered! {
 hashed! {
     Length, length => length.to_usize();
     TrailerField, field => *field as u8;
-}
-
-impl<U: Hash> Hash for RsaPublicKey<U> {
-    fn hash<H: Hasher>(&self, state: &mut H) {
-        (&self.modulus, &self.public_exponent).hash(state);
-    }
 }

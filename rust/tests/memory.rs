@@ -94,5 +94,6 @@ fn what_owns_takes_some() {
     assert_eq!(requests(|| RsaPssParamsOwned::try_from(&pss[..])), 0); // NULL takes none
     assert_eq!(requests(|| Ok::<_, Error>(RsaOaepParamsOwned::default())), 0);
     assert_eq!(requests(|| RsaPssParamsRef::default().to_algorithm_der()), 1);
-    assert_eq!(requests(|| RsaPssParamsRef::default().spellings()), 16 + 3); // the list of them grows to 4, 8 and 16
+    // The list of them grows to 4, 8 and 16, and is made again of the lists of std.
+    assert_eq!(requests(|| RsaPssParamsRef::default().spellings()), 16 + 3 + 1);
 }

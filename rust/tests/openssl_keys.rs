@@ -25,7 +25,7 @@ fn printed(name: &str) -> Vec<Vec<u8>> {
 }
 
 fn numbers(key: &RsaPrivateKeyRef<'_>) -> Vec<Vec<u8>> {
-    let others = key.other_prime_infos.iter().flatten();
+    let others = key.other_prime_infos.iter().flat_map(|others| others.iter());
     let others = others.flat_map(|other| [other.prime, other.exponent, other.coefficient]);
     let first = [key.modulus, key.public_exponent, key.private_exponent, key.prime1, key.prime2];
     let numbers = first.into_iter().chain([key.exponent1, key.exponent2, key.coefficient]).chain(others);
@@ -42,7 +42,7 @@ fn keys_of_two_and_of_three_primes() {
         let (der, public) = (file(&format!("priv{primes}.der")), file(&format!("pub{primes}.der")));
         let key = RsaPrivateKeyRef::try_from(&der[..]).unwrap();
         assert_eq!(numbers(&key), printed(&format!("priv{primes}.numbers"))[1..]); // the first one is the version
-        assert_eq!(key.other_prime_infos.as_ref().map_or(0, Vec::len), others);
+        assert_eq!(key.other_prime_infos.as_ref().map_or(0, |others| others.len()), others);
         assert_eq!((key.to_der().unwrap(), key.public_key().to_der().unwrap()), (der.clone(), public.clone()));
         let read = RsaPublicKeyRef::try_from(&public[..]).unwrap();
         let told = printed(&format!("pub{primes}.numbers"));

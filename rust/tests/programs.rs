@@ -105,10 +105,10 @@ fn a_key_of_numbers() -> Tested {
     let der = made::private_key(0);
     let key = RsaPrivateKeyRef::from_der(&der)?;
     let other = OtherPrimeInfo { prime: key.prime1, exponent: key.exponent1, coefficient: key.coefficient };
-    let long = RsaPrivateKey { other_prime_infos: Some(vec![other; 9]), ..key.clone() };
+    let long = RsaPrivateKey { other_prime_infos: Some(vec![other; 9].into()), ..key.clone() };
     assert_eq!((key.version(), long.version().is_multi()), (Version::TwoPrime, true));
     assert_eq!(RsaPrivateKeyRef::from_der(&long.to_der()?)?.other_prime_infos.map(|it| it.len()), Some(9));
-    let none = RsaPrivateKey { other_prime_infos: Some(vec![]), ..key.clone() };
+    let none = RsaPrivateKey { other_prime_infos: Some(vec![].into()), ..key.clone() };
     assert!(none.to_der().is_err() && none.encoded_len().is_err());
     let owned = RsaPublicKeyOwned { modulus: Uint::new(&[0, 9])?, public_exponent: Uint::new(&[3])? };
     assert_eq!(owned.to_der()?, [0x30, 6, 2, 1, 9, 2, 1, 3]);
@@ -157,6 +157,6 @@ fn idioms() -> Tested {
     let length: usize = RsaPublicKeyRef::try_from(&made::public_key()[..])?.encoded_len()?.try_into()?;
     assert_eq!((length, Length::MAX.to_string()), (made::public_key().len(), "4294967295".into()));
     let printed = format!("{:?}", RsaPrivateKeyOwned::from_pkcs1_der(&made::private_key(1))?.other_prime_infos);
-    assert_eq!(printed, "Some([OtherPrimeInfo { .. }])");
+    assert_eq!(printed, "Some(OtherPrimeInfos([OtherPrimeInfo { .. }]))");
     Ok(())
 }

@@ -149,7 +149,8 @@ fn borrowed<'a>(kind: &str, der: &'a [u8]) -> Vec<&'a [u8]> {
         }
         "priv" => {
             let key = RsaPrivateKeyRef::try_from(der).unwrap();
-            let others = key.other_prime_infos.iter().flatten().map(|other| other.coefficient.as_bytes());
+            let others =
+                key.other_prime_infos.iter().flat_map(|others| others.iter()).map(|other| other.coefficient.as_bytes());
             [key.modulus.as_bytes(), key.private_exponent.as_bytes(), key.prime1.as_bytes()]
                 .into_iter()
                 .chain([key.prime2, key.exponent1, key.exponent2, key.coefficient].map(|it| it.as_bytes()))

@@ -78,7 +78,8 @@ impl<T: Copy> Vec<T> {
 
     /// The item, so many times.
     pub fn repeated(alloc: Global, item: T, count: usize) -> Result<Vec<T>, AllocError> {
-        let mut made = Vec::with_room(alloc, count)?;
+        let mut made = Vec::new(alloc);
+        made.reserve(count)?;
         #[cfg(feature = "alloc")]
         made.items.resize(count, item);
         let _ = item;
