@@ -65,12 +65,36 @@ crate() {
         cargo clippy --manifest-path $crate --all-targets --no-default-features --features "$features" -- -D warnings
     done
     RUSTDOCFLAGS="-D warnings" cargo doc --manifest-path $crate --no-deps
+    rust/api.py "$CARGO_TARGET_DIR/doc/pkcs1_proved"
     cargo fmt --manifest-path $crate --check
     cargo fmt --manifest-path $check --check
     cargo clippy --manifest-path $tool -- -D warnings
     cargo fmt --manifest-path $tool --check
-    cargo package --manifest-path $crate --allow-dirty --offline
+    packaged
+    beside_another
     echo "crate: tests, clippy, documentation, layout and package, with no feature, alloc and std"
+}
+# packaged: the crate's package passes its tests in a folder where nothing else is, and has no part of the tool.
+packaged() {
+    local folder
+    cargo package --manifest-path $crate --allow-dirty --offline
+    folder=$(mktemp -d)
+    tar xzf "$CARGO_TARGET_DIR"/package/pkcs1-proved-*.crate -C "$folder" --strip-components=1
+    [ ! -e "$folder/src/bin" ] || stop "the package has the tool"
+    (cd "$folder" && quietly "cargo test of the package" cargo test --offline)
+    rm -rf "$folder"
+}
+# beside_another: a program that depends on a crate pkcs1 too is built.
+beside_another() {
+    local folder=$OUT/beside_another
+    rm -rf "$folder"
+    mkdir -p "$folder"/{src,pkcs1/src}
+    printf '[package]\nname = "pkcs1"\n' > "$folder/pkcs1/Cargo.toml"
+    printf '[package]\nname = "program"\nedition = "2024"\n[dependencies]\n%s\n[workspace]\n' \
+        'pkcs1 = { path = "pkcs1" }'$'\n'"pkcs1-proved = { path = \"$PWD/rust\" }" > "$folder/Cargo.toml"
+    echo 'pub struct Other;' > "$folder/pkcs1/src/lib.rs"
+    echo 'pub type Both = (pkcs1::Other, pkcs1_proved::UintRef<'"'static>);" > "$folder/src/lib.rs"
+    cargo check --offline --manifest-path "$folder/Cargo.toml"
 }
 
 # planted COMMAND: with lib.rs changed by it, preconditions.py says that something can be reached.

@@ -1,5 +1,5 @@
 //! Prints the bit length of the public key on standard input.
-use pkcs1::RsaPublicKeyRef;
+use pkcs1_proved::RsaPublicKeyRef;
 use std::io::Read;
 
 fn main() -> Result<(), Box<dyn std::error::Error>> {

@@ -1,5 +1,5 @@
 //! `make_container KEY OUT`: puts the private key in the file KEY into a PKCS #8 container, in the file OUT.
-use pkcs1::{DecodeRsaPrivateKey, RsaPrivateKeyOwned};
+use pkcs1_proved::{DecodeRsaPrivateKey, RsaPrivateKeyOwned};
 
 fn main() -> Result<(), Box<dyn std::error::Error>> {
     let words: Vec<String> = std::env::args().skip(1).collect();

@@ -1,5 +1,5 @@
 //! `modulus FILE`: prints the modulus of the public key in a file.
-use pkcs1::{DecodeRsaPublicKey, RsaPublicKeyOwned};
+use pkcs1_proved::{DecodeRsaPublicKey, RsaPublicKeyOwned};
 
 fn main() -> Result<(), Box<dyn std::error::Error>> {
     let path = std::env::args().nth(1).ok_or("usage: modulus FILE")?;

@@ -1,7 +1,7 @@
 //! `open_container FILE KEY PUBLIC`: reads a private key, which is PKCS #1 or an unencrypted PKCS #8 container. Writes
 //! it as PKCS #1 to KEY, and its public half to PUBLIC.
-use pkcs1::der::{Encode, ErrorKind};
-use pkcs1::{EncodeRsaPrivateKey, Error, RsaPrivateKeyOwned};
+use pkcs1_proved::der::{Encode, ErrorKind};
+use pkcs1_proved::{EncodeRsaPrivateKey, Error, RsaPrivateKeyOwned};
 
 /// The private key in a file of either kind.
 fn read_key(path: &str) -> Result<RsaPrivateKeyOwned, Box<dyn std::error::Error>> {

@@ -1,8 +1,8 @@
 //! `signature_algorithm FILE`: prints the salt length of RSASSA-PSS with SHA-256, by which the certificate in the file,
 //! in DER, is signed.
-use pkcs1::der::Decode;
-use pkcs1::der::asn1::AnyRef;
-use pkcs1::{RsaPssParamsRef, Sha256};
+use pkcs1_proved::der::Decode;
+use pkcs1_proved::der::asn1::AnyRef;
+use pkcs1_proved::{RsaPssParamsRef, Sha256};
 
 /// The first encoding in some DER, and what is behind it.
 fn split(der: &[u8]) -> Option<(&[u8], &[u8])> {

@@ -98,7 +98,7 @@ impl<P: Held, O: Identifier> AlgorithmIdentifier<P, O> {
     /// none are alike.
     ///
     /// ```
-    /// use pkcs1::{RsaPssParamsRef, Sha256, spki::AlgorithmIdentifier};
+    /// use pkcs1_proved::{RsaPssParamsRef, Sha256, spki::AlgorithmIdentifier};
     ///
     /// let with_null = RsaPssParamsRef::new::<Sha256>(32).hash;
     /// let without = AlgorithmIdentifier { parameters: None, ..with_null };

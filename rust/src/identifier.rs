@@ -9,7 +9,7 @@ use core::fmt;
 /// An object identifier as its contents octets (X.690 8.19), of which there are at most 39.
 ///
 /// ```
-/// use pkcs1::der::asn1::ObjectIdentifier;
+/// use pkcs1_proved::der::asn1::ObjectIdentifier;
 ///
 /// const SHA_256: ObjectIdentifier = ObjectIdentifier::new_unwrap("2.16.840.1.101.3.4.2.1");
 /// assert_eq!(SHA_256.to_string(), "2.16.840.1.101.3.4.2.1");

@@ -1,15 +1,15 @@
 //! RSA keys and parameters of PKCS #1 (RFC 8017) in DER, made of what is proved.
 //!
 //! ```
-//! use pkcs1::RsaPublicKeyRef;
-//! use pkcs1::der::Encode;
+//! use pkcs1_proved::RsaPublicKeyRef;
+//! use pkcs1_proved::der::Encode;
 //!
 //! let key = RsaPublicKeyRef::try_from(&[0x30, 6, 2, 1, 7, 2, 1, 3][..])?;
 //! assert_eq!((key.modulus.as_bytes(), key.public_exponent.as_bytes()), (&[7][..], &[3][..]));
 //!
 //! let mut room = [0; 8];
 //! assert_eq!(key.encode_to_slice(&mut room)?, [0x30, 6, 2, 1, 7, 2, 1, 3]);
-//! # Ok::<(), pkcs1::Error>(())
+//! # Ok::<(), pkcs1_proved::Error>(())
 //! ```
 //!
 //! A private key is read in the same way, into a struct or a view, and so are parameters. Types that own their octets
@@ -17,13 +17,13 @@
 //!
 //! ```no_run
 //! # #[cfg(feature = "std")] {
-//! use pkcs1::{DecodeRsaPrivateKey, EncodeRsaPrivateKey, RsaPrivateKeyOwned};
+//! use pkcs1_proved::{DecodeRsaPrivateKey, EncodeRsaPrivateKey, RsaPrivateKeyOwned};
 //!
 //! let key = RsaPrivateKeyOwned::read_pkcs1_der_file("key.der")?;
 //! key.to_pkcs8_der()?.write_der_file("container.der")?;
 //! key.write_pkcs1_der_file("copy.der")?;
 //! # }
-//! # Ok::<(), pkcs1::Error>(())
+//! # Ok::<(), pkcs1_proved::Error>(())
 //! ```
 //!
 //! The functions that read and write are those of crates in the language Rattle, of which a machine has proved that
@@ -34,8 +34,9 @@
 //! There is no `unsafe`, and no dependency. Without the feature `alloc`, what returns a `Vec` or a document isn't there,
 //! and what else wants memory returns `OutOfMemory`.
 #![no_std]
+#![cfg_attr(docsrs, feature(doc_cfg))]
 #![forbid(unsafe_code)]
-#![warn(missing_docs)]
+#![warn(missing_docs, unnameable_types)]
 
 #[cfg(target_pointer_width = "16")]
 compile_error!("a length in DER needs a usize of 32 bits or more");
@@ -68,12 +69,14 @@ pub mod pkcs8;
     clippy::style,
     dead_code,
     missing_docs,
+    unnameable_types,
     unused_imports,
     unused_variables
 )]
 mod proved;
 mod public_key;
 #[cfg_attr(not(feature = "std"), allow(dead_code))]
+#[allow(unnameable_types)]
 mod rattle_std;
 mod traits;
 mod values;

@@ -83,7 +83,7 @@ macro_rules! parameters {
             /// parameters are alike, in the mask generation function too. `==` tells these apart.
             ///
             /// ```
-            #[doc = concat!("use pkcs1::{", stringify!($reference), ", spki::AlgorithmIdentifier};")]
+            #[doc = concat!("use pkcs1_proved::{", stringify!($reference), ", spki::AlgorithmIdentifier};")]
             ///
             #[doc = concat!("let params = ", stringify!($reference), "::default();")]
             /// let hash = AlgorithmIdentifier { parameters: None, ..params.hash };

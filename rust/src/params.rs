@@ -21,14 +21,14 @@ use crate::values::Held;
 /// ```
 ///
 /// ```
-/// use pkcs1::{RsaPssParamsRef, RsaPssParamsView, Sha256, der::Encode};
+/// use pkcs1_proved::{RsaPssParamsRef, RsaPssParamsView, Sha256, der::Encode};
 ///
 /// let params = RsaPssParamsRef::new::<Sha256>(32);
 /// let mut room = [0; 80];
 /// let der = params.encode_to_slice(&mut room)?;
 /// let view = RsaPssParamsView::from_der_strict(der)?;
 /// assert!(view.uses_hash::<Sha256>() && view.salt_len == 32);
-/// # Ok::<(), pkcs1::Error>(())
+/// # Ok::<(), pkcs1_proved::Error>(())
 /// ```
 #[derive(Clone, Copy, Debug, PartialEq, Eq, Hash)]
 pub struct RsaPssParams<P, O = ObjectIdentifier> {

@@ -31,7 +31,7 @@ pub trait DecodeRsaPrivateKey: Sized {
 /// A public key that can be decoded from PKCS #1. A type of one's own may be one:
 ///
 /// ```
-/// use pkcs1::{DecodeRsaPublicKey, Error, Result, RsaPublicKeyRef};
+/// use pkcs1_proved::{DecodeRsaPublicKey, Error, Result, RsaPublicKeyRef};
 ///
 /// struct Modulus([u8; 256]);
 ///

@@ -11,6 +11,7 @@ use core::hash::{Hash, Hasher};
 
 /// Makes a trait one that only this crate has types for.
 pub(crate) mod sealed {
+    #[allow(unnameable_types)]
     pub trait Sealed {}
 }
 use sealed::Sealed;

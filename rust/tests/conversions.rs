@@ -3,10 +3,10 @@
 
 mod made;
 
-use pkcs1::der::asn1::{ObjectIdentifier, OctetStringRef, UintRef};
-use pkcs1::der::{Encode, Tag, TagNumber};
-use pkcs1::holders::{Held, Identifier, Number};
-use pkcs1::{
+use pkcs1_proved::der::asn1::{ObjectIdentifier, OctetStringRef, UintRef};
+use pkcs1_proved::der::{Encode, Tag, TagNumber};
+use pkcs1_proved::holders::{Held, Identifier, Number};
+use pkcs1_proved::{
     Result, RsaOaepParams, RsaOaepParamsRef, RsaOaepParamsView, RsaPrivateKeyRef, RsaPrivateKeyView, RsaPssParams,
     RsaPssParamsRef, RsaPssParamsView, RsaPublicKey, RsaPublicKeyRef, Sha256,
 };
@@ -71,10 +71,10 @@ fn octets_lengths_and_tags() {
 #[cfg(feature = "alloc")]
 mod with_alloc {
     use super::*;
-    use pkcs1::der::asn1::{Any, AnyRef, Uint};
-    use pkcs1::der::{Document, SecretDocument};
-    use pkcs1::spki::{AlgorithmIdentifierOwned, AlgorithmIdentifierRef};
-    use pkcs1::{RsaOaepParamsOwned, RsaPrivateKeyOwned, RsaPssParamsOwned, RsaPublicKeyOwned};
+    use pkcs1_proved::der::asn1::{Any, AnyRef, Uint};
+    use pkcs1_proved::der::{Document, SecretDocument};
+    use pkcs1_proved::spki::{AlgorithmIdentifierOwned, AlgorithmIdentifierRef};
+    use pkcs1_proved::{RsaOaepParamsOwned, RsaPrivateKeyOwned, RsaPssParamsOwned, RsaPublicKeyOwned};
 
     #[test]
     fn what_borrows_and_what_owns() {
@@ -88,7 +88,7 @@ mod with_alloc {
         }
         both_ways!(UintRef::new(&[0xc1, 0x7f]).unwrap(), UintRef, Uint);
         both_ways!(AnyRef::new(Tag::SEQUENCE, &[1, 2]).unwrap(), AnyRef, Any);
-        both_ways!(pkcs1::ALGORITHM_ID, AlgorithmIdentifierRef, AlgorithmIdentifierOwned);
+        both_ways!(pkcs1_proved::ALGORITHM_ID, AlgorithmIdentifierRef, AlgorithmIdentifierOwned);
         both_ways!(RsaPssParamsRef::new::<Sha256>(32), RsaPssParamsRef, RsaPssParamsOwned);
         both_ways!(RsaOaepParamsRef::new_with_label::<Sha256>(b"label"), RsaOaepParamsRef, RsaOaepParamsOwned);
         let der = made::public_key();

@@ -3,8 +3,8 @@
 
 mod made;
 
-use pkcs1::der::{Document, ErrorKind, SecretDocument};
-use pkcs1::{
+use pkcs1_proved::der::{Document, ErrorKind, SecretDocument};
+use pkcs1_proved::{
     DecodeRsaPrivateKey, DecodeRsaPublicKey, EncodeRsaPrivateKey, EncodeRsaPublicKey, Error, FileError,
     RsaPrivateKeyOwned, RsaPublicKeyOwned,
 };

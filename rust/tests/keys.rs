@@ -2,10 +2,10 @@
 
 mod made;
 
-use pkcs1::der::asn1::UintRef;
-use pkcs1::der::{Decode, Encode, ErrorKind, Tag};
-use pkcs1::pkcs8::PrivateKeyInfoRef;
-use pkcs1::{Error, RsaPrivateKeyRef, RsaPrivateKeyView, RsaPublicKeyRef, Version};
+use pkcs1_proved::der::asn1::UintRef;
+use pkcs1_proved::der::{Decode, Encode, ErrorKind, Tag};
+use pkcs1_proved::pkcs8::PrivateKeyInfoRef;
+use pkcs1_proved::{Error, RsaPrivateKeyRef, RsaPrivateKeyView, RsaPublicKeyRef, Version};
 
 #[test]
 fn a_public_key_is_read_and_written() {
@@ -125,8 +125,8 @@ fn without_alloc_there_is_no_memory_for_more_primes() {
 #[cfg(feature = "alloc")]
 mod with_alloc {
     use super::*;
-    use pkcs1::der::{Document, SecretDocument};
-    use pkcs1::{
+    use pkcs1_proved::der::{Document, SecretDocument};
+    use pkcs1_proved::{
         DecodeRsaPrivateKey, DecodeRsaPublicKey, EncodeRsaPrivateKey, EncodeRsaPublicKey, RsaPrivateKeyOwned,
         RsaPublicKeyOwned,
     };

@@ -3,8 +3,8 @@
 mod made;
 
 use made::{kind, sequence, tlv};
-use pkcs1::der::{Encode, ErrorKind, asn1::UintRef};
-use pkcs1::{RsaOaepParamsRef, RsaPssParamsRef, RsaPublicKeyRef};
+use pkcs1_proved::der::{Encode, ErrorKind, asn1::UintRef};
+use pkcs1_proved::{RsaOaepParamsRef, RsaPssParamsRef, RsaPublicKeyRef};
 
 const LONG: usize = 1 << 20;
 
@@ -62,7 +62,7 @@ fn many_primes_are_read_and_written() {
     parts.push(sequence(&vec![other; LONG / 16]));
     let der = sequence(&parts);
     on_a_short_stack(move || {
-        let key = pkcs1::RsaPrivateKeyRef::try_from(&der[..]).unwrap();
+        let key = pkcs1_proved::RsaPrivateKeyRef::try_from(&der[..]).unwrap();
         assert_eq!(key.other_prime_infos.as_ref().unwrap().len(), LONG / 16);
         assert_eq!(key.to_der(), Ok(der));
     });

@@ -3,9 +3,9 @@
 
 mod made;
 
-use pkcs1::der::{Decode, Encode, ErrorKind};
-use pkcs1::pkcs8::PrivateKeyInfoRef;
-use pkcs1::{
+use pkcs1_proved::der::{Decode, Encode, ErrorKind};
+use pkcs1_proved::pkcs8::PrivateKeyInfoRef;
+use pkcs1_proved::{
     DecodeRsaPrivateKey, EncodeRsaPrivateKey, Error, RsaOaepParamsOwned, RsaOaepParamsRef, RsaPrivateKeyOwned,
     RsaPrivateKeyRef, RsaPrivateKeyView, RsaPssParamsOwned, RsaPssParamsRef, RsaPublicKeyOwned, RsaPublicKeyRef,
     Sha256,

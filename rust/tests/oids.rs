@@ -1,9 +1,9 @@
 //! Object identifiers: as text, as octets, and as constants of types.
 
-use pkcs1::der::Encode;
-use pkcs1::der::asn1::ObjectIdentifier;
-use pkcs1::der::oid::AssociatedOid;
-use pkcs1::{
+use pkcs1_proved::der::Encode;
+use pkcs1_proved::der::asn1::ObjectIdentifier;
+use pkcs1_proved::der::oid::AssociatedOid;
+use pkcs1_proved::{
     Mgf1, PSpecified, RsaEncryption, RsaOaepParamsRef, RsaPssParamsRef, RsaesOaep, RsassaPss, Sha1, Sha3_256, Sha3_384,
     Sha3_512, Sha224, Sha256, Sha384, Sha512, Sha512_224, Sha512_256,
 };
@@ -33,9 +33,9 @@ fn each_type_names_its_algorithm() {
         assert_eq!(oid.as_bytes(), octets, "{oid}");
         assert_eq!(ObjectIdentifier::from_bytes(&octets), Ok(oid));
     }
-    assert_eq!((pkcs1::ALGORITHM_OID, pkcs1::ALGORITHM_ID.oid), (RsaEncryption::OID, RsaEncryption::OID));
+    assert_eq!((pkcs1_proved::ALGORITHM_OID, pkcs1_proved::ALGORITHM_ID.oid), (RsaEncryption::OID, RsaEncryption::OID));
     let mut room = [0; 20];
-    let id = pkcs1::ALGORITHM_ID.encode_to_slice(&mut room).unwrap();
+    let id = pkcs1_proved::ALGORITHM_ID.encode_to_slice(&mut room).unwrap();
     assert_eq!(id, [0x30, 13, 6, 9, 0x2a, 0x86, 0x48, 0x86, 0xf7, 0x0d, 1, 1, 1, 5, 0]);
 }
 

@@ -5,10 +5,10 @@
 mod made;
 
 use made::kind;
-use pkcs1::der::{Decode, Encode, ErrorKind, Tag};
-use pkcs1::pkcs8::PrivateKeyInfoRef;
-use pkcs1::spki::AlgorithmIdentifier;
-use pkcs1::{
+use pkcs1_proved::der::{Decode, Encode, ErrorKind, Tag};
+use pkcs1_proved::pkcs8::PrivateKeyInfoRef;
+use pkcs1_proved::spki::AlgorithmIdentifier;
+use pkcs1_proved::{
     RsaOaepParamsRef, RsaPrivateKeyOwned, RsaPrivateKeyRef, RsaPrivateKeyView, RsaPssParamsRef, RsaPublicKeyRef,
     Sha256, Sha512,
 };
@@ -56,7 +56,7 @@ fn containers() {
     for primes in [2, 3] {
         let (der, inner) = (file(&format!("p8_{primes}.der")), file(&format!("priv{primes}.der")));
         let info = PrivateKeyInfoRef::from_der(&der).unwrap();
-        assert_eq!((info.algorithm, info.attributes), (pkcs1::ALGORITHM_ID, None));
+        assert_eq!((info.algorithm, info.attributes), (pkcs1_proved::ALGORITHM_ID, None));
         assert_eq!((info.private_key.as_bytes(), info.to_der().unwrap()), (&inner[..], der.clone()));
         assert_eq!(RsaPrivateKeyRef::try_from(info).unwrap().to_der().unwrap(), inner);
         let key = RsaPrivateKeyOwned::from_pkcs8_der(&der).unwrap();

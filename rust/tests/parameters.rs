@@ -2,10 +2,10 @@
 
 mod made;
 
-use pkcs1::der::asn1::AnyRef;
-use pkcs1::der::{Encode, ErrorKind, Tag, oid::AssociatedOid};
-use pkcs1::spki::AlgorithmIdentifier;
-use pkcs1::{
+use pkcs1_proved::der::asn1::AnyRef;
+use pkcs1_proved::der::{Encode, ErrorKind, Tag, oid::AssociatedOid};
+use pkcs1_proved::spki::AlgorithmIdentifier;
+use pkcs1_proved::{
     Mgf1, PSpecified, RsaOaepParamsRef, RsaPssParamsRef, RsaPssParamsView, Sha1, Sha3_256, Sha224, Sha256, Sha384,
     Sha512, Sha512_224, Sha512_256, TrailerField,
 };
@@ -51,10 +51,10 @@ fn no_octets_stand_at_an_address_that_may_be_read() {
     assert!(slices.iter().all(|octets| octets.is_empty() && octets.as_ptr().addr() > 4096));
     #[cfg(feature = "alloc")]
     {
-        let owned = pkcs1::RsaOaepParamsOwned::default();
+        let owned = pkcs1_proved::RsaOaepParamsOwned::default();
         let (hash, label) = (owned.hash.parameters.as_ref().unwrap(), owned.label().unwrap());
         assert!(hash.value().is_empty() && hash.value().as_ptr().addr() > 4096 && label.as_ptr().addr() > 4096);
-        assert!(owned == pkcs1::RsaOaepParamsOwned::try_from(&[0x30, 0][..]).unwrap());
+        assert!(owned == pkcs1_proved::RsaOaepParamsOwned::try_from(&[0x30, 0][..]).unwrap());
     }
 }
 
@@ -146,7 +146,7 @@ fn other_masks_use_no_hash_function_and_other_sources_have_no_label() {
 /// What is written in each way is the same, with too little room nothing, and it is what is read.
 fn check<'a, T>(params: &T, der: &'a [u8])
 where
-    T: Encode + PartialEq + std::fmt::Debug + TryFrom<&'a [u8], Error = pkcs1::Error>,
+    T: Encode + PartialEq + std::fmt::Debug + TryFrom<&'a [u8], Error = pkcs1_proved::Error>,
 {
     assert_eq!((params.encoded_len().unwrap().to_usize(), T::try_from(der).as_ref()), (der.len(), Ok(params)));
     let mut room = vec![0x55; der.len() + 1];
@@ -161,7 +161,7 @@ where
 #[cfg(feature = "alloc")]
 #[test]
 fn what_is_known_and_what_is_not_is_written_alike() {
-    use pkcs1::{RsaPssParamsView, der::asn1::ObjectIdentifier};
+    use pkcs1_proved::{RsaPssParamsView, der::asn1::ObjectIdentifier};
     let octets = vec![1; 70_000];
     for len in [0, 1, 62, 63, 64, 65, 127, 128, 255, 256, 70_000] {
         let params = RsaOaepParamsRef::new_with_label::<Sha384>(&octets[..len]);
@@ -190,7 +190,7 @@ fn what_is_known_and_what_is_not_is_written_alike() {
 #[cfg(feature = "alloc")]
 #[test]
 fn owned_parameters_are_those_that_are_read() {
-    use pkcs1::{RsaOaepParamsOwned, RsaPssParamsOwned};
+    use pkcs1_proved::{RsaOaepParamsOwned, RsaPssParamsOwned};
     let der = made::pss(made::SHA_256, 32);
     let params = RsaPssParamsOwned::try_from(&der[..]).unwrap();
     assert_eq!(params.to_der().unwrap(), der);

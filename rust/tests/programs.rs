@@ -3,10 +3,10 @@
 
 mod made;
 
-use pkcs1::der::asn1::{Any, AnyRef, ObjectIdentifier, OctetStringRef, Uint, UintRef};
-use pkcs1::der::{Decode, Document, Encode, Length, SecretDocument, Tag};
-use pkcs1::spki::{AlgorithmIdentifier, AlgorithmIdentifierRef};
-use pkcs1::{
+use pkcs1_proved::der::asn1::{Any, AnyRef, ObjectIdentifier, OctetStringRef, Uint, UintRef};
+use pkcs1_proved::der::{Decode, Document, Encode, Length, SecretDocument, Tag};
+use pkcs1_proved::spki::{AlgorithmIdentifier, AlgorithmIdentifierRef};
+use pkcs1_proved::{
     ALGORITHM_ID, DecodeRsaPrivateKey, DecodeRsaPublicKey, EncodeRsaPrivateKey, EncodeRsaPublicKey, OtherPrimeInfo,
     RsaOaepParams, RsaPrivateKey, RsaPrivateKeyOwned, RsaPrivateKeyRef, RsaPssParams, RsaPublicKey, RsaPublicKeyOwned,
     RsaPublicKeyRef, TrailerField, Version,
@@ -26,15 +26,15 @@ struct Verifier {
 struct Signer(RsaPrivateKeyOwned);
 
 impl DecodeRsaPublicKey for Verifier {
-    fn from_pkcs1_der(bytes: &[u8]) -> pkcs1::Result<Verifier> {
+    fn from_pkcs1_der(bytes: &[u8]) -> pkcs1_proved::Result<Verifier> {
         let key = RsaPublicKeyRef::try_from(bytes)?;
         let [modulus, exponent] = [key.modulus, key.public_exponent].map(|number| number.as_bytes().to_vec());
-        if modulus.len() < 64 { Err(pkcs1::Error::KeyMalformed) } else { Ok(Verifier { modulus, exponent }) }
+        if modulus.len() < 64 { Err(pkcs1_proved::Error::KeyMalformed) } else { Ok(Verifier { modulus, exponent }) }
     }
 }
 
 impl EncodeRsaPublicKey for Verifier {
-    fn to_pkcs1_der(&self) -> pkcs1::Result<Document> {
+    fn to_pkcs1_der(&self) -> pkcs1_proved::Result<Document> {
         let key =
             RsaPublicKey { modulus: UintRef::new(&self.modulus)?, public_exponent: UintRef::new(&self.exponent)? };
         key.to_pkcs1_der()
@@ -42,13 +42,13 @@ impl EncodeRsaPublicKey for Verifier {
 }
 
 impl DecodeRsaPrivateKey for Signer {
-    fn from_pkcs1_der(bytes: &[u8]) -> pkcs1::Result<Signer> {
+    fn from_pkcs1_der(bytes: &[u8]) -> pkcs1_proved::Result<Signer> {
         RsaPrivateKeyOwned::from_pkcs1_der(bytes).map(Signer)
     }
 }
 
 impl EncodeRsaPrivateKey for Signer {
-    fn to_pkcs1_der(&self) -> pkcs1::Result<SecretDocument> {
+    fn to_pkcs1_der(&self) -> pkcs1_proved::Result<SecretDocument> {
         Ok(SecretDocument::try_from(self.0.to_der()?)?)
     }
 }
@@ -66,7 +66,7 @@ fn keys_of_ones_own_types() -> Tested {
     assert_eq!(Signer::read_pkcs1_der_file(&path)?.to_pkcs1_der()?.as_bytes(), made::private_key(1));
     std::fs::remove_file(&path)?;
     let small = RsaPublicKey { modulus: UintRef::new(&[7])?, public_exponent: UintRef::new(&[3])? }.to_der()?;
-    assert_eq!(Verifier::from_pkcs1_der(&small), Err(pkcs1::Error::KeyMalformed));
+    assert_eq!(Verifier::from_pkcs1_der(&small), Err(pkcs1_proved::Error::KeyMalformed));
     Ok(())
 }
 
@@ -74,20 +74,20 @@ fn keys_of_ones_own_types() -> Tested {
 struct Counter(u8);
 
 impl<'a> Decode<'a> for Counter {
-    fn from_der(bytes: &'a [u8]) -> pkcs1::der::Result<Counter> {
+    fn from_der(bytes: &'a [u8]) -> pkcs1_proved::der::Result<Counter> {
         match UintRef::try_from(AnyRef::from_der(bytes)?)?.as_bytes() {
             [octet] => Ok(Counter(*octet)),
-            _ => Err(pkcs1::der::ErrorKind::Value { tag: Tag::INTEGER }.into()),
+            _ => Err(pkcs1_proved::der::ErrorKind::Value { tag: Tag::INTEGER }.into()),
         }
     }
 }
 
 impl Encode for Counter {
-    fn encoded_len(&self) -> pkcs1::der::Result<Length> {
+    fn encoded_len(&self) -> pkcs1_proved::der::Result<Length> {
         UintRef::new(&[self.0])?.encoded_len()
     }
 
-    fn encode_to_slice<'o>(&self, out: &'o mut [u8]) -> pkcs1::der::Result<&'o [u8]> {
+    fn encode_to_slice<'o>(&self, out: &'o mut [u8]) -> pkcs1_proved::der::Result<&'o [u8]> {
         UintRef::new(&[self.0])?.encode_to_slice(out)
     }
 }
@@ -119,7 +119,7 @@ fn a_key_of_numbers() -> Tested {
 
 #[test]
 fn parameters_in_an_algorithm_identifier() -> Tested {
-    let params = RsaPssParams::new::<pkcs1::Sha256>(32);
+    let params = RsaPssParams::new::<pkcs1_proved::Sha256>(32);
     let inner = params.to_der()?;
     let algorithm = AlgorithmIdentifier {
         oid: ObjectIdentifier::new("1.2.840.113549.1.1.10")?,

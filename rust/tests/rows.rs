@@ -3,11 +3,11 @@
 #![cfg(feature = "alloc")]
 #![allow(clippy::needless_question_mark)] // which is of one of both types of errors
 
-use pkcs1::der::asn1::{AnyRef, ObjectIdentifierRef};
-use pkcs1::der::{Decode, Encode};
-use pkcs1::pkcs8::PrivateKeyInfoRef;
-use pkcs1::spki::AlgorithmIdentifier;
-use pkcs1::{
+use pkcs1_proved::der::asn1::{AnyRef, ObjectIdentifierRef};
+use pkcs1_proved::der::{Decode, Encode};
+use pkcs1_proved::pkcs8::PrivateKeyInfoRef;
+use pkcs1_proved::spki::AlgorithmIdentifier;
+use pkcs1_proved::{
     Error, RsaOaepParamsOwned, RsaOaepParamsRef, RsaOaepParamsView, RsaPrivateKeyOwned, RsaPrivateKeyRef,
     RsaPrivateKeyView, RsaPssParamsOwned, RsaPssParamsRef, RsaPssParamsView, RsaPublicKeyOwned, RsaPublicKeyRef,
 };
@@ -174,7 +174,7 @@ fn what_is_borrowed_lies_in_the_input() {
             count += 1;
         }
     }
-    let der = pkcs1::RsaPssParamsRef::new::<pkcs1::Sha256>(32).to_der().unwrap();
+    let der = pkcs1_proved::RsaPssParamsRef::new::<pkcs1_proved::Sha256>(32).to_der().unwrap();
     let view = RsaPssParamsView::try_from(&der[..]).unwrap();
     let slices = [of_algorithm(&view.hash), of_algorithm(&view.mask_gen.parameters.unwrap())].concat();
     assert!(slices.iter().chain([&view.mask_gen.oid.as_bytes()]).all(|slice| lies_in(&der, slice)));

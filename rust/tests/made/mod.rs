@@ -2,9 +2,9 @@
 #![allow(dead_code)]
 
 /// The kind of the error of reading.
-pub fn kind<T>(read: pkcs1::Result<T>) -> pkcs1::der::ErrorKind {
+pub fn kind<T>(read: pkcs1_proved::Result<T>) -> pkcs1_proved::der::ErrorKind {
     match read.err() {
-        Some(pkcs1::Error::Asn1(error)) => error.kind(),
+        Some(pkcs1_proved::Error::Asn1(error)) => error.kind(),
         other => panic!("{other:?}"),
     }
 }
