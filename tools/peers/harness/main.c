@@ -1,23 +1,22 @@
 /* peers COMMAND ..: how libraries read and write RSA keys and parameters.
  *
  *     check CORPUS OUT LIBRARY               an octet for each input into OUT: see check.c
- *     change CORPUS OUT SEED COUNT TYPES     inputs with some octets changed, of the types whose bits are set in TYPES
  *     speed WHAT FOLDER INPUT [LIBRARY..]    the cost of an input for each library: see speed.c
- *     rows WHAT FOLDER INPUT..               that of each call of pkcs1.h, beside two others: see rows.c */
+ *     rows WHAT FOLDER INPUT..               that of each call, beside code by hand: see rows.c */
 #include "peers.h"
 #include <stdio.h>
 #include <string.h>
 
-extern const struct library libpkcs1, libpkcs1_strict, plain_rust, line_of_c;
+extern const struct library libpkcs1, libpkcs1_strict, plain_rust, line_of_c, crate_structs, crate_views;
 #ifdef OWN /* without the libraries of Debian's packages */
-const struct library *const libraries[] = {&libpkcs1, &libpkcs1_strict, &plain_rust, &line_of_c};
-void rust_quiet(void) {}
+const struct library *const libraries[] = {&libpkcs1,      &libpkcs1_strict, &plain_rust, &line_of_c,
+                                           &crate_structs, &crate_views};
 #else
-extern const struct library libpkcs1_bignums, openssl, mbedtls, wolfssl, nettle, botan, gnutls, libtasn1;
-extern const struct library libtasn1_strict, bcder, rust_asn1;
+extern const struct library libpkcs1_bignums, openssl, mbedtls, wolfssl, botan, gnutls, libtasn1, rustcrypto, rust_asn1;
 const struct library *const libraries[] = {
-    &libpkcs1, &libpkcs1_strict, &plain_rust, &line_of_c, &libpkcs1_bignums, &openssl,         &mbedtls,  &wolfssl,
-    &nettle,   &botan,           &gnutls,     &libtasn1,  &libtasn1_strict,  &bcder,           &rust_asn1};
+    &libpkcs1,      &libpkcs1_strict, &plain_rust, &line_of_c, &crate_structs, &crate_views, &libpkcs1_bignums,
+    &openssl,       &mbedtls,         &wolfssl,    &botan,     &gnutls,        &libtasn1,    &rustcrypto,
+    &rust_asn1};
 #endif
 const size_t library_count = sizeof libraries / sizeof *libraries;
 
@@ -32,10 +31,9 @@ static const struct {
     const char *name;
     int (*run)(int, char **);
     int arguments; /* at least so many */
-} commands[] = {{"check", check, 3}, {"change", change, 5}, {"speed", speed, 3}, {"rows", rows_of, 3}};
+} commands[] = {{"check", check, 3}, {"speed", speed, 3}, {"rows", rows_of, 3}};
 
 int main(int argc, char **argv) {
-    rust_quiet();
     for (size_t i = 0; argc > 1 && i < sizeof commands / sizeof *commands; i++)
         if (strcmp(argv[1], commands[i].name) == 0 && argc - 2 >= commands[i].arguments)
             return commands[i].run(argc - 2, argv + 2);

@@ -9,16 +9,30 @@ extern "C" {
 #endif
 
 enum { PUBLIC_KEY, PRIVATE_KEY, MULTI_PRIME_KEY, PSS, PSS_ALGORITHM, OAEP, OAEP_ALGORITHM, PKCS8, TYPES };
-enum answer { PANICKED = -1, REJECTED, ACCEPTED, NOT_WRITTEN };
+enum answer { REJECTED, ACCEPTED, NOT_WRITTEN };
 
 /* Reads one whole input. If it is accepted and `out` isn't null, writes the value again and sets `*len`. Answers as the
  * enum above says. */
 typedef int call(const uint8_t *der, size_t der_len, uint8_t *out, size_t room, size_t *len);
 
+/* What the part `rows` measures apart. `read` and `strict` keep nothing. `keep` reads, for those behind it: it gives
+ * null if it rejects. What returns a status gives 0 if it is done. A length of 0: nothing tells it. */
+enum { QUESTIONS = 2 };
+struct pkcs1_bytes;
+struct steps {
+    uint32_t (*read)(const uint8_t *der, size_t len);
+    uint32_t (*strict)(const uint8_t *der, size_t len);
+    void *(*keep)(const uint8_t *der, size_t len);
+    uint32_t (*write)(const void *kept, uint8_t *to, size_t room, size_t *len);
+    size_t (*length)(const void *kept);
+    uint64_t (*ask[QUESTIONS])(const void *kept, const struct pkcs1_bytes *oid); /* in the order of rows.c */
+};
+
 struct library {
     const char *name;
     call *calls[TYPES]; /* null: it doesn't have the type */
     int writes[TYPES];  /* whether the call writes too */
+    struct steps steps[TYPES];
 };
 extern const struct library *const libraries[];
 extern const size_t library_count;
@@ -43,13 +57,13 @@ double processor_seconds(void);
 
 /* What is run, what it needs, and the line of output in front of the number. */
 struct task {
-    int (*run)(const struct task *);
+    uint64_t (*run)(const struct task *);
     const struct library *library;
     int type;
     const uint8_t *der;
     size_t der_len;
-    int written;
-    uint32_t (*row)(void);
+    int written;      /* by `speed`: whether it is written too */
+    const void *kept; /* by `rows` */
     char label[100];
     double best;
 };
@@ -60,11 +74,8 @@ int measure(const char *what, struct task *tasks, size_t count);
 /* ---- the commands of main.c, whose arguments are those after the command ---- */
 
 int check(int count, char **arguments);
-int change(int count, char **arguments);
 int speed(int count, char **arguments);
 int rows_of(int count, char **arguments);
-
-void rust_quiet(void); /* Rust prints no panics */
 
 #ifdef __cplusplus
 }

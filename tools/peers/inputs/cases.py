@@ -99,22 +99,13 @@ def lines_of(rng):
         name = rng.choice(list(SALTS))
         return pss(name, rng.choice([name, "sha1"]), rng.randrange(256), rng.random() < 0.8)
 
-    def some_oaep():
-        name = rng.choice(list(SALTS))
-        return oaep(name, rng.choice([name, "sha1"]), rng.randbytes(rng.randrange(30)), rng.random() < 0.8)
-
     return {
         "public_key_2048": lambda: hexadecimal("pub", public_key(random_key(rng, 2048, 2))),
         "private_key_2048": lambda: hexadecimal("priv", private_key(random_key(rng, 2048, 2))),
         "three_primes_2048": lambda: hexadecimal("priv", private_key(random_key(rng, 2048, 3))),
-        "container_2048": lambda: hexadecimal("p8", container(random_key(rng, 2048, 2))),
         "tiny_public_key": lambda: hexadecimal("pub", public_key(small())),
         "pss": lambda: hexadecimal("pss", some_pss()),
-        "oaep": lambda: hexadecimal("oaep", some_oaep()),
-        "strict_pss": lambda: hexadecimal("strict-pss", some_pss()),
-        "strict_oaep": lambda: hexadecimal("strict-oaep", some_oaep()),
         "same_pss": lambda: hexadecimal("same-pss", some_pss(), some_pss()),
-        "same_oaep": lambda: hexadecimal("same-oaep", some_oaep(), some_oaep()),
     }
 
 

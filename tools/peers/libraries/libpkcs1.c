@@ -1,64 +1,59 @@
-/* This repository's library, by pkcs1.h. Strict: parameters by the calls that take the shortest encoding only. And
- * plain Rust and a straight line of C, which accept what the first does. */
-#include "line/line.h"
-#include "plain/plain.h"
+/* This repository's library, by pkcs1.h. Strict: parameters by the calls that take the shortest encoding only. */
+#include "steps.h"
 
-enum { OTHERS = 16 };
-static struct pkcs1_other_prime others[OTHERS];
-struct container {
-    struct pkcs1_private_key_info info;
-    struct pkcs1_private_key key;
-};
-
-#define CALL(name, type, decode, encode)                                                                              \
-    static int name(const uint8_t *der, size_t der_len, uint8_t *to, size_t room, size_t *len) {                      \
-        type value;                                                                                                   \
-        if (decode != PKCS1_OK)                                                                                       \
+#define PARAMETERS(name, prefix, TO, FROM)                                                                            \
+    STEPS(name, prefix, TO, FROM)                                                                                     \
+    static uint32_t name##_read_strictly(const uint8_t *der, size_t len) {                                            \
+        static struct values read, *const to = &read;                                                                 \
+        return prefix##_decode_strict(der, len, TO);                                                                  \
+    }                                                                                                                 \
+    static int name##_strict(const uint8_t *der, size_t der_len, uint8_t *out, size_t room, size_t *len) {            \
+        struct values it, *const to = &it, *const from = &it;                                                         \
+        if (prefix##_decode_strict(der, der_len, TO) != PKCS1_OK)                                                     \
             return REJECTED;                                                                                          \
-        return to == NULL || encode == PKCS1_OK ? ACCEPTED : NOT_WRITTEN;                                             \
+        return out == NULL || prefix##_encode(FROM, out, room, len) == PKCS1_OK ? ACCEPTED : NOT_WRITTEN;             \
     }
-#define PARAMETERS(name, type, call)                                                                                  \
-    CALL(name, type, call##_decode(der, der_len, &value), call##_encode(&value, to, room, len))
-#define ALL(by, prefix)                                                                                               \
-    CALL(by##public_key, struct pkcs1_public_key, prefix##public_key_decode(der, der_len, &value),                    \
-         prefix##public_key_encode(&value, to, room, len))                                                            \
-    CALL(by##private_key, struct pkcs1_private_key,                                                                   \
-         prefix##private_key_decode(der, der_len, &value, others, OTHERS),                                            \
-         prefix##private_key_encode(&value, others, value.other_primes, to, room, len))                               \
-    CALL(by##container, struct container,                                                                             \
-         prefix##private_key_info_decode(der, der_len, &value.info, &value.key, others, OTHERS),                      \
-         prefix##private_key_info_encode(&value.info, to, room, len))                                                 \
-    PARAMETERS(by##pss, struct pkcs1_pss_params, prefix##pss_params)                                                  \
-    PARAMETERS(by##pss_algorithm, struct pkcs1_pss_params, prefix##pss_algorithm)                                     \
-    PARAMETERS(by##oaep, struct pkcs1_oaep_params, prefix##oaep_params)                                               \
-    PARAMETERS(by##oaep_algorithm, struct pkcs1_oaep_params, prefix##oaep_algorithm)
-#define STRICT(name, type, call)                                                                                      \
-    CALL(name##_strict, type, call##_decode_strict(der, der_len, &value), call##_encode(&value, to, room, len))
+STEPS(public_key, pkcs1_public_key, PUBLIC_KEY_TO, PUBLIC_KEY_FROM)
+STEPS(private_key, pkcs1_private_key, PRIVATE_KEY_TO, PRIVATE_KEY_FROM)
+STEPS(container, pkcs1_private_key_info, INFO_TO, INFO_FROM)
+PARAMETERS(pss, pkcs1_pss_params, PSS_TO, PSS_FROM)
+PARAMETERS(pss_algorithm, pkcs1_pss_algorithm, PSS_TO, PSS_FROM)
+PARAMETERS(oaep, pkcs1_oaep_params, OAEP_TO, OAEP_FROM)
+PARAMETERS(oaep_algorithm, pkcs1_oaep_algorithm, OAEP_TO, OAEP_FROM)
 
-ALL(our_, pkcs1_)
-ALL(straight_, line_)
-STRICT(pss, struct pkcs1_pss_params, pkcs1_pss_params)
-STRICT(pss_algorithm, struct pkcs1_pss_params, pkcs1_pss_algorithm)
-STRICT(oaep, struct pkcs1_oaep_params, pkcs1_oaep_params)
-STRICT(oaep_algorithm, struct pkcs1_oaep_params, pkcs1_oaep_algorithm)
+#define ASK(name, expression)                                                                                         \
+    static uint64_t name(const void *kept, const struct pkcs1_bytes *oid) {                                           \
+        const struct values *of = kept;                                                                               \
+        (void)oid;                                                                                                    \
+        return expression;                                                                                            \
+    }
+ASK(bit_len, pkcs1_bit_len(of->public_key.modulus))
+ASK(pss_is, pkcs1_pss_is(&of->pss, oid))
+ASK(pss_hash_is, pkcs1_algorithm_is(&of->pss.hash, oid))
+ASK(oaep_is, pkcs1_oaep_is(&of->oaep, oid))
+static uint64_t label_len(const void *kept, const struct pkcs1_bytes *oid) {
+    struct pkcs1_bytes label;
+    (void)oid;
+    return pkcs1_oaep_label(&((const struct values *)kept)->oaep, &label) ? label.len : UINT64_MAX;
+}
 
 #define WRITES {1, 1, 1, 1, 1, 1, 1, 1}
-/* By type, in the order of peers.h: the call, and whether it writes too. */
-const struct library libpkcs1 = {"libpkcs1",
-                                 {our_public_key, our_private_key, our_private_key, our_pss, our_pss_algorithm,
-                                  our_oaep, our_oaep_algorithm, our_container},
-                                 WRITES};
-const struct library libpkcs1_strict = {"libpkcs1 strict",
-                                        {our_public_key, our_private_key, our_private_key, pss_strict,
-                                         pss_algorithm_strict, oaep_strict, oaep_algorithm_strict, our_container},
-                                        WRITES};
-const struct library plain_rust = {"plain Rust",
-                                   {plain_public_key, plain_private_key, plain_private_key, plain_pss_params,
-                                    plain_pss_algorithm, plain_oaep_params, plain_oaep_algorithm,
-                                    plain_private_key_info},
-                                   WRITES};
-const struct library line_of_c = {"line of C",
-                                  {straight_public_key, straight_private_key, straight_private_key, straight_pss,
-                                   straight_pss_algorithm, straight_oaep, straight_oaep_algorithm,
-                                   straight_container},
-                                  WRITES};
+#define WITH_STRICT(name) STEPS_OF(name), .strict = name##_read_strictly
+/* By type, in the order of peers.h: the call, and whether it writes too; and the steps. */
+const struct library libpkcs1 = {
+    "libpkcs1",
+    {public_key, private_key, private_key, pss, pss_algorithm, oaep, oaep_algorithm, container},
+    WRITES,
+    {{STEPS_OF(public_key), .ask = {bit_len}},
+     {STEPS_OF(private_key)},
+     {STEPS_OF(private_key)},
+     {WITH_STRICT(pss), .ask = {pss_is, pss_hash_is}},
+     {WITH_STRICT(pss_algorithm)},
+     {WITH_STRICT(oaep), .ask = {oaep_is, label_len}},
+     {WITH_STRICT(oaep_algorithm)},
+     {STEPS_OF(container)}}};
+const struct library libpkcs1_strict = {
+    "libpkcs1 strict",
+    {public_key, private_key, private_key, pss_strict, pss_algorithm_strict, oaep_strict, oaep_algorithm_strict,
+     container},
+    WRITES};

@@ -1,5 +1,5 @@
-/* libtasn1 with pkcs1.asn: asn1_der_decoding2, without and with ASN1_DECODE_FLAG_STRICT_DER. It knows types only, so
- * versions, the trailer field and identifiers are compared here. PEERS_MODULE names the module. */
+/* libtasn1 with pkcs1.asn: asn1_der_decoding2 with ASN1_DECODE_FLAG_STRICT_DER. It knows types only, so versions, the
+ * trailer field and identifiers are compared here. PEERS_MODULE names the module. */
 #include "peers.h"
 #include <libtasn1.h>
 #include <stdio.h>
@@ -19,13 +19,12 @@ static asn1_node module(void) {
     return it;
 }
 
-static asn1_node read_as(const char *type, const uint8_t *der, size_t der_len, int is_strict) {
+static asn1_node read_as(const char *type, const uint8_t *der, size_t der_len) {
     asn1_node value = NULL;
     if (asn1_create_element(module(), type, &value) != ASN1_SUCCESS)
         exit(2);
     int size = (int)der_len;
-    int status = is_strict ? asn1_der_decoding2(&value, der, &size, ASN1_DECODE_FLAG_STRICT_DER, NULL)
-                           : asn1_der_decoding(&value, der, size, NULL);
+    int status = asn1_der_decoding2(&value, der, &size, ASN1_DECODE_FLAG_STRICT_DER, NULL);
     if (status != ASN1_SUCCESS)
         asn1_delete_structure(&value); /* null already: the library frees it on an error */
     return status == ASN1_SUCCESS ? value : NULL;
@@ -75,38 +74,32 @@ static int finish(asn1_node value, int answer, uint8_t *to, size_t room, size_t 
     return answer;
 }
 
-#define ONE(name, type, check, is_strict)                                                                             \
+#define CALL(name, type, check)                                                                                       \
     static int name(const uint8_t *der, size_t der_len, uint8_t *to, size_t room, size_t *len) {                      \
-        asn1_node value = read_as("PKCS-1." type, der, der_len, is_strict);                                           \
+        asn1_node value = read_as("PKCS-1." type, der, der_len);                                                      \
         return value == NULL ? REJECTED : finish(value, check, to, room, len);                                        \
     }
-#define BOTH(name, type, check) ONE(name, type, check, 0) ONE(name##_strict, type, check, 1)
-BOTH(public_key, "RSAPublicKey", 1)
-BOTH(private_key, "RSAPrivateKey", is_private_key(value))
-BOTH(pss, "RSASSA-PSS-params", is_pss(value))
-BOTH(oaep, "RSAES-OAEP-params", 1)
-BOTH(pss_algorithm, "PSSIdentifier", is_pss_algorithm(value))
-BOTH(oaep_algorithm, "OAEPIdentifier", is_oaep_algorithm(value))
+CALL(public_key, "RSAPublicKey", 1)
+CALL(private_key, "RSAPrivateKey", is_private_key(value))
+CALL(pss, "RSASSA-PSS-params", is_pss(value))
+CALL(oaep, "RSAES-OAEP-params", 1)
+CALL(pss_algorithm, "PSSIdentifier", is_pss_algorithm(value))
+CALL(oaep_algorithm, "OAEPIdentifier", is_oaep_algorithm(value))
 
-static int holds_key(asn1_node container, int is_strict) {
+static int holds_key(asn1_node container) {
     static uint8_t inner[65536];
     int size = sizeof inner;
     if (!is_container(container) || asn1_read_value(container, "privateKey", inner, &size) != ASN1_SUCCESS)
         return 0;
-    asn1_node key = read_as("PKCS-1.RSAPrivateKey", inner, (size_t)size, is_strict);
+    asn1_node key = read_as("PKCS-1.RSAPrivateKey", inner, (size_t)size);
     int answer = key != NULL && is_private_key(key);
     asn1_delete_structure(&key);
     return answer;
 }
-ONE(pkcs8, "PrivateKeyInfo", holds_key(value, 0), 0)
-ONE(pkcs8_strict, "PrivateKeyInfo", holds_key(value, 1), 1)
+CALL(pkcs8, "PrivateKeyInfo", holds_key(value))
 
 /* By type, in the order of peers.h: the call, and whether it writes too. */
 const struct library libtasn1 = {"libtasn1",
                                  {public_key, private_key, private_key, pss, pss_algorithm, oaep,
                                   oaep_algorithm, pkcs8},
                                  {1, 1, 1, 1, 1, 1, 1, 1}};
-const struct library libtasn1_strict = {"libtasn1 strict",
-                                        {public_key_strict, private_key_strict, private_key_strict, pss_strict,
-                                         pss_algorithm_strict, oaep_strict, oaep_algorithm_strict, pkcs8_strict},
-                                        {1, 1, 1, 1, 1, 1, 1, 1}};

@@ -10,6 +10,7 @@ from measured import print_table
 
 KINDS = ("keys", "keys", "keys", "parameters", "parameters", "parameters", "parameters", "PKCS #8")
 NOT_DER = {"False": "all that isn't DER: ", "True": "all that is DER: "}
+US, STRICT = "libpkcs1", "libpkcs1 strict"
 REJECTED, WRITTEN_ALIKE, NO_SUCH_TYPE = b"029"
 
 
@@ -60,6 +61,12 @@ def count(inputs, names, answers):
     return accepted, written
 
 
+def share(counts, library, heading):
+    """What the library accepts. Where it reads less strictly, what it does then too."""
+    accepted, strictly = (counts[it][0].per_cent(heading) for it in (library, STRICT))
+    return f"{accepted}, strict {strictly}" if library == US and strictly != accepted else accepted
+
+
 def main():
     is_long = sys.argv[1] == "--all"
     corpus, *files = sys.argv[2 if is_long else 1 :]
@@ -79,8 +86,9 @@ def main():
         lines["valid"] = "valid"
     lines = {heading: shown for heading, shown in lines.items() if any(it.all[heading] for it, _ in counts.values())}
     print("Per cent accepted. *: DER of the type.\n")
-    print_table(["damage", *counts], ([shown, *(accepted.per_cent(heading) for accepted, _ in counts.values())]
-                                       for heading, shown in lines.items()))
+    libraries = [library for library in counts if library != STRICT]
+    print_table(["damage", *libraries], ([shown, *(share(counts, library, heading) for library in libraries)]
+                                         for heading, shown in lines.items()))
     print("Per cent written as the same octets, of those accepted and written (how many).\n")
     writers = {name: written for name, (_, written) in counts.items() if written.all}
     groups = [f"{what} {kind}" for what in ("valid", "damaged") for kind in kinds]

@@ -34,7 +34,7 @@ def shown(number):
 
 def print_table(head, lines):
     """A table in Markdown."""
-    print(f"| {' | '.join(head)} |\n|{'---|' * len(head)}")
+    print(f"| {' | '.join(head)} |\n|{'---|' * len(head)}".replace("|  |", "| |"))
     for line in lines:
         print(f"| {' | '.join(line)} |")
     print()

@@ -5,7 +5,6 @@ import (
 	"encoding/binary"
 	"fmt"
 	"os"
-	"runtime"
 	"strings"
 	"syscall"
 	"time"
@@ -24,29 +23,14 @@ func readFile(name string) []byte {
 	return octets
 }
 
-// tried calls, and tells of a panic.
-func tried(f call, input []byte, write bool) (accepted bool, out []byte, panicked interface{}) {
-	defer func() {
-		if panicked = recover(); panicked != nil {
-			accepted, out = false, nil
-		}
-	}()
-	accepted, out = f(input, write)
-	return
-}
-
 // digit tells of one input what check.c tells.
-func digit(f call, input []byte, panics *int) byte {
-	accepted, _, panicked := tried(f, input, false)
-	if panicked != nil {
-		*panics++
-	}
-	if !accepted {
+func digit(f call, input []byte) byte {
+	if accepted, _ := f(input, false); !accepted {
 		return '0'
 	}
-	_, out, panicked := tried(f, input, true)
+	_, out := f(input, true)
 	switch {
-	case panicked != nil || out == nil:
+	case out == nil:
 		return '4'
 	case bytes.Equal(out, input):
 		return '2'
@@ -65,10 +49,10 @@ func processorTime() time.Duration {
 
 func check(corpus string, to string) {
 	var answers []byte
-	accepted, panics := 0, 0
+	accepted := 0
 	for rest := readFile(corpus); len(rest) > 0; {
 		end := 6 + int(binary.LittleEndian.Uint32(rest[2:]))
-		answer := digit(calls[rest[0]], append([]byte(nil), rest[6:end]...), &panics)
+		answer := digit(calls[rest[0]], append([]byte(nil), rest[6:end]...))
 		if answer != '0' {
 			accepted++
 		}
@@ -78,8 +62,7 @@ func check(corpus string, to string) {
 	if err := os.WriteFile(to, answers, 0644); err != nil {
 		panic(err)
 	}
-	fmt.Printf("%-16s %d inputs, %d accepted, %d panics, %.1f s (%s)\n", "Go", len(answers), accepted, panics,
-		processorTime().Seconds(), runtime.Version())
+	fmt.Printf("%-16s %d inputs, %d accepted, %.1f s\n", "Go", len(answers), accepted, processorTime().Seconds())
 }
 
 // leastTime of a round, so long that each round has its share of collecting garbage.
@@ -110,7 +93,7 @@ func speed(folder string, name string) {
 			continue
 		}
 		for written := 0; written < 2; written++ {
-			if accepted, _, _ := tried(calls[kind], input, written == 1); !accepted {
+			if accepted, _ := calls[kind](input, written == 1); !accepted {
 				return
 			}
 			best := nanoseconds(calls[kind], input, written == 1)

@@ -1,5 +1,5 @@
-//! The tool in plain Rust: a line is read, answered and written, by the plain reader and writer. It knows the words of
-//! the tool but those that spell parameters, and says only that an encoding is refused, as the tool does.
+//! The tool in plain Rust: a line is read, answered and written, by the plain reader and writer. It knows the words
+//! `pub`, `priv`, `pss` and `same-pss`, and says only that an encoding is refused, as the tool does.
 #![allow(dead_code)]
 use std::io::{stdin, stdout, BufRead, BufReader, BufWriter, Write};
 
@@ -77,21 +77,9 @@ fn put_key(key: &Priv, to: &mut Vec<u8>) {
         put(other.t, to);
     }
 }
-fn put_params(word: &str, hash: &Plain, mask: &Mask, to: &mut Vec<u8>) {
-    to.extend_from_slice(word.as_bytes());
-    to.extend_from_slice(b" hash=");
-    put_plain(hash, to);
-    to.extend_from_slice(b" mask=");
-    put_mask(mask, to);
-}
-fn yes_or_no(word: &str, is: bool, to: &mut Vec<u8>) -> Option<()> {
-    to.extend_from_slice(word.as_bytes());
-    to.extend_from_slice(if is { b" yes" } else { b" no" });
-    Some(())
-}
 
 /// Answers a word, but for the octets that are written again, which it leaves in `again`. `None`: it is refused.
-fn answer_key(word: &str, der: &[u8], again: &mut [u8], to: &mut Vec<u8>) -> Option<usize> {
+fn answer(word: &str, der: &[u8], again: &mut [u8], to: &mut Vec<u8>) -> Option<usize> {
     to.extend_from_slice(word.as_bytes());
     match word {
         "pub" => {
@@ -108,47 +96,22 @@ fn answer_key(word: &str, der: &[u8], again: &mut [u8], to: &mut Vec<u8>) -> Opt
             write_priv(&key, again)
         }
         _ => {
-            let info = read_info(der)?;
-            put_key(&info.key, to);
-            to.extend_from_slice(b" attributes=");
-            match info.attributes {
-                Some(it) => put(it, to),
-                None => to.push(b'-'),
-            }
-            write_info(&info, again)
+            let it = read_pss::<false>(der)?;
+            to.extend_from_slice(b" hash=");
+            put_plain(&it.hash, to);
+            to.extend_from_slice(b" mask=");
+            put_mask(&it.mask, to);
+            let defaults = (it.hash == SHA1) as u8 + (it.mask == MGF1) as u8 + (it.salt == 20) as u8 + 1;
+            write!(to, " salt={} trailer=1 defaults={defaults}", it.salt).ok()?;
+            write_pss(&it, again)
         }
     }
 }
-fn answer_params(word: &str, der: &[u8], again: &mut [u8], to: &mut Vec<u8>) -> Option<usize> {
-    if word == "pss" {
-        let it = read_pss::<false>(der)?;
-        put_params(word, &it.hash, &it.mask, to);
-        let defaults = (it.hash == SHA1) as u8 + (it.mask == MGF1) as u8 + (it.salt == 20) as u8 + 1;
-        write!(to, " salt={} trailer=1 defaults={defaults}", it.salt).ok()?;
-        return write_pss(&it, again);
-    }
-    let it = read_oaep::<false>(der)?;
-    put_params(word, &it.hash, &it.mask, to);
-    to.extend_from_slice(b" source=");
-    put_plain(&it.source, to);
-    let defaults = (it.hash == SHA1) as u8 + (it.mask == MGF1) as u8 + (it.source == EMPTY) as u8;
-    write!(to, " defaults={defaults}").ok()?;
-    write_oaep(&it, again)
-}
-fn is_strict(word: &str, der: &[u8], to: &mut Vec<u8>) -> Option<()> {
-    let is = match word {
-        "strict-pss" => read_pss::<false>(der).map(|_| read_pss::<true>(der).is_some())?,
-        _ => read_oaep::<false>(der).map(|_| read_oaep::<true>(der).is_some())?,
-    };
-    yes_or_no(word, is, to)
-}
-fn compare(word: &str, der: &[u8], other: &[u8], to: &mut Vec<u8>) -> Option<()> {
-    if word == "same-pss" {
-        let (a, b) = (read_pss::<false>(der)?, read_pss::<false>(other)?);
-        return yes_or_no(word, a.hash == b.hash && a.mask == b.mask && a.salt == b.salt, to);
-    }
-    let (a, b) = (read_oaep::<false>(der)?, read_oaep::<false>(other)?);
-    yes_or_no(word, a.hash == b.hash && a.mask == b.mask && a.source == b.source, to)
+fn compare(der: &[u8], other: &[u8], to: &mut Vec<u8>) -> Option<()> {
+    let (a, b) = (read_pss::<false>(der)?, read_pss::<false>(other)?);
+    let are_same = a.hash == b.hash && a.mask == b.mask && a.salt == b.salt;
+    to.extend_from_slice(if are_same { b"same-pss yes" } else { b"same-pss no" });
+    Some(())
 }
 
 /// The octets of the encodings in a line, and of what is written again.
@@ -160,9 +123,9 @@ struct Room {
 fn answer_line(line: &str, room: &mut Room, to: &mut Vec<u8>) -> Option<()> {
     let mut parts = line.split(' ');
     let (word, first, second, end) = (parts.next()?, parts.next(), parts.next(), parts.next());
-    let words = ["pub", "priv", "p8", "pss", "oaep", "strict-pss", "strict-oaep", "same-pss", "same-oaep"];
-    let is_pair = word.starts_with("same-");
-    let is_line = words.contains(&word) && second.is_some() == is_pair && end.is_none();
+    let is_pair = word == "same-pss";
+    let is_line = is_pair || ["pub", "priv", "pss"].contains(&word);
+    let is_line = is_line && second.is_some() == is_pair && end.is_none();
     if !is_line || !from_digits(first?.as_bytes(), &mut room.der) {
         to.extend_from_slice(b"bad line");
         return Some(());
@@ -171,17 +134,13 @@ fn answer_line(line: &str, room: &mut Room, to: &mut Vec<u8>) -> Option<()> {
         to.extend_from_slice(b"bad line");
         return Some(());
     }
-    if word.starts_with("strict-") {
-        return is_strict(word, &room.der, to);
-    }
     if is_pair {
-        return compare(word, &room.der, &room.other, to);
+        return compare(&room.der, &room.other, to);
     }
     if room.again.len() < room.der.len() + 64 {
         room.again.resize(room.der.len() + 64, 0);
     }
-    let call = if word.starts_with('p') && word != "pss" { answer_key } else { answer_params };
-    let len = call(word, &room.der, &mut room.again, to)?;
+    let len = answer(word, &room.der, &mut room.again, to)?;
     to.extend_from_slice(b" again=");
     put(&room.again[..len], to);
     Some(())
