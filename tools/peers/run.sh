@@ -36,7 +36,7 @@ get_packages() {
 versions() {
     (cd "$loaded/pkgconfig" && sed -sn '/^Version: /F;s/^Version: //p' {libcrypto,wolfssl,botan-2,libtasn1,gnutls}.pc)
     grep -h 'define MBEDTLS_VERSION_STRING ' "$root"/usr/include/mbedtls/*.h
-    (cd "$root" && cat usr/lib/go-1.19/VERSION && ls usr/share/cargo/registry)
+    (cd "$root" && cat usr/lib/go-1.19/VERSION && echo && ls usr/share/cargo/registry)
 }
 # file KIND LIBRARY: the name of the file with what a library answered.
 file() {
@@ -82,7 +82,7 @@ is_made() {
     [ -e "$1" ] && [ -z "$(find "$here/inputs" -newer "$1" -name '*.py')" ]
 }
 inputs() {
-    is_made corpus.names || "$python" "$here/inputs/corpus.py" corpus
+    is_made corpus || "$python" "$here/inputs/corpus.py" corpus
     is_made cases/tiny.public_key || "$python" "$here/inputs/cases.py" cases
 }
 
@@ -106,7 +106,7 @@ check() {
     ./peers_go check corpus answers.Go
 }
 
-# Long numbers, salts, labels and identifiers. Botan takes two minutes for a modulus of 2^20 bits.
+# Long numbers, salts, labels and identifiers.
 bounds() {
     local it
     "$python" "$here/inputs/bounds.py" make bounds
@@ -162,7 +162,7 @@ times() {
 
 tables() {
     local it answers=() accepted=()
-    echo "Versions: $(rustc --version), $(gcc -dumpfullversion), and" && { [ -n "$alone" ] || versions; } && echo
+    echo "Versions: $(rustc --version), gcc $(gcc -dumpfullversion), and" && { [ -n "$alone" ] || versions; } && echo
     for it in libpkcs1 'libpkcs1 strict' "${libraries[@]}" Go; do
         [ ! -e "$(file answers "$it")" ] || answers+=("$(file answers "$it")")
         [ ! -e "$(file bounds "$it")" ] || accepted+=("$(file bounds "$it")")

@@ -9,7 +9,7 @@ from keys import make_key
 from trees import MULTI_PRIME, OAEP, PSS, PUBLIC, Node, algorithm, field, hash_function, integer, null, private_key
 from trees import public_key, sequence
 
-MODULUS_BITS = (64, 128, 256, 512, 1024, 4096, 4104, 8192, 8200, 16384, 16392, 65536, 1048576)
+MODULUS_BITS = (64, 128, 256, 512, 1024, 4096, 4104, 8192, 8200, 16384, 16392, 65536)
 EXPONENTS = (1, 3, 2**31 - 1, 2**31 + 1, 2**32 + 1, 2**64 + 1, 2**256 + 1)
 PRIMES = (3, 4, 5, 6, 9, 17)
 SALTS = (0, 20, 127, 128, 255, 256, *(2**bits - less for bits in (16, 31, 32, 63, 64) for less in (1, 0)))

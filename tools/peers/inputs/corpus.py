@@ -4,6 +4,7 @@
 OUT is records of: type (1 octet), damage (1 octet), length (4 octets, little end first), the octets. OUT.names has a
 line for each damage: its number, name, group and rule, and whether it makes DER."""
 import copy
+import os
 import random
 import sys
 
@@ -33,7 +34,7 @@ def write_corpus(out, rng, each):
     keys = [make_key(rng.choice([1024, 1024, 1024, 1032, 1536]), 2, rng) for _ in range(40)]
     keys += [make_key(2048, 2, rng), make_key(1024, 2, rng, 3), make_key(1024, 2, rng, 17)]
     multi_prime_keys = [make_key(1024, 3, rng) for _ in range(25)] + [make_key(1536, 4, rng) for _ in range(8)]
-    with open(out, "wb") as corpus, open(out + ".names", "w", encoding="utf-8") as names:
+    with open(out + ".new", "wb") as corpus, open(out + ".names", "w", encoding="utf-8") as names:
         for which, damage in enumerate(DAMAGES):
             print(which, damage.name, damage.group, damage.rule, damage.is_der, sep="\t", file=names)
             for kind in damage.kinds:
@@ -43,6 +44,7 @@ def write_corpus(out, rng, each):
                     if octets is not None:
                         corpus.write(record(kind, which, octets))
                         made += 1
+    os.replace(out + ".new", out)
 
 
 def main():

@@ -6,12 +6,11 @@ from damage import is_identifier, is_mask, parameters_of, pick, walk, with_role
 from trees import TYPES, Node, algorithm, field, hash_function, identifier, integer, null, number, sequence
 
 WRONG_VERSION = "version that doesn't fit the other primes"
-MISSING = "a field missing, or one too many of another prime"
+MISSING = "a field missing or too many, another algorithm"
 ORDER = "fields out of order or twice"
 WRONG_FIELD = "parameters: unknown field, or tag over no or two values"
 WRONG_PSS = "PSS: trailer field not 1, negative salt length"
 HASH_PARAMETERS = "hash function with parameters other than NULL"
-OTHER_ALGORITHM = "algorithm: another, or without its parameters"
 MALFORMED = "object identifier malformed"
 NOT_RSA = "PKCS #8: not rsaEncryption with NULL"
 AFTER_KEY = "PKCS #8: octets behind the key, unknown field"
@@ -224,17 +223,17 @@ def _(tree, rng, kind):
     pick(rng, tree, is_hash).body[0] = identifier(rng.choice(["2a03040506", "608648016503040263", "883703"]))
 
 
-@damage("another algorithm", "RFC 4055 3.1, 4.1", ALGORITHMS, OTHER_ALGORITHM)
+@damage("another algorithm", "RFC 4055 3.1, 4.1", ALGORITHMS, MISSING)
 def _(tree, rng, kind):
     tree.body[0] = identifier(rng.choice(["rsa", "mgf1", "oaep" if kind in OF_PSS else "pss", "sha256"]))
 
 
-@damage("algorithm without parameters", "RFC 4055 3.1 (PSS keys: allowed), 4.1", ALGORITHMS, OTHER_ALGORITHM)
+@damage("algorithm without parameters", "RFC 4055 3.1 (PSS keys: allowed), 4.1", ALGORITHMS, MISSING)
 def _(tree, rng, kind):
     tree.body.pop()
 
 
-@damage("algorithm with NULL", "RFC 4055 3.1, 4.1", ALGORITHMS, OTHER_ALGORITHM)
+@damage("algorithm with NULL", "RFC 4055 3.1, 4.1", ALGORITHMS, MISSING)
 def _(tree, rng, kind):
     tree.body[1] = null()
 

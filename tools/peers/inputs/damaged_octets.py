@@ -44,7 +44,7 @@ def _(tree, rng, kind):
     pick(rng, tree, lambda node: isinstance(node.body, bytes)).length_form = INDEFINITE
 
 
-@damage("length that begins with FF", "X.690 8.1.3.5 c")
+@damage("length that begins with FF", "X.690 8.1.3.5 c", group=LONG_LENGTH)
 def _(tree, rng, kind):
     pick(rng, tree, is_any).length_form = lambda count: b"\xff" + count.to_bytes(127, "big")
 

@@ -1,7 +1,7 @@
 #!/usr/bin/env python3
 """damages.py CORPUS ANSWERS..: what each library accepts of each group of damages, and what it then writes.
 
-In Markdown. With --all first, a line for each damage and kind of type. A file of answers is named answers.LIBRARY."""
+In Markdown. A file of answers is named answers.LIBRARY."""
 import collections
 import sys
 
@@ -53,8 +53,8 @@ def count(inputs, names, answers):
     for (kind, damage), answer in zip(inputs, answers):
         if answer == NO_SUCH_TYPE:
             continue
-        _, name, group, _, is_der = names[damage]
-        for heading in (group, (name, KINDS[kind]), NOT_DER[is_der] + KINDS[kind]):
+        *_, group, _, is_der = names[damage]
+        for heading in (group, NOT_DER[is_der] + KINDS[kind]):
             accepted.add(heading, answer != REJECTED)
         if chr(answer) in "234":
             written.add(("valid" if damage == 0 else "damaged") + " " + KINDS[kind], answer == WRITTEN_ALIKE)
@@ -68,8 +68,7 @@ def share(counts, library, heading):
 
 
 def main():
-    is_long = sys.argv[1] == "--all"
-    corpus, *files = sys.argv[2 if is_long else 1 :]
+    corpus, *files = sys.argv[1:]
     with open(corpus + ".names", encoding="utf-8") as file:
         names = [line.rstrip("\n").split("\t") for line in file]
     inputs = list(records(corpus))
@@ -78,20 +77,18 @@ def main():
         with open(name, "rb") as file:
             counts[name.rsplit("answers.", 1)[1].replace("_", " ")] = count(inputs, names, file.read())
     kinds = dict.fromkeys(KINDS)
-    if is_long:
-        lines = {(name, kind): f"{kind}: {name} ({rule})" for _, name, _, rule, _ in names for kind in kinds}
-    else:
-        lines = {NOT_DER["False"] + kind: NOT_DER["False"] + kind for kind in kinds}
-        lines.update((group, group + (" *" if is_der == "True" else "")) for *_, group, _, is_der in names)
-        lines["valid"] = "valid"
+    lines = {NOT_DER["False"] + kind: NOT_DER["False"] + kind for kind in kinds}
+    lines.update((group, group + (" *" if is_der == "True" else "")) for *_, group, _, is_der in names)
+    lines["valid"] = "valid"
     lines = {heading: shown for heading, shown in lines.items() if any(it.all[heading] for it, _ in counts.values())}
     print("Per cent accepted. *: DER of the type.\n")
     libraries = [library for library in counts if library != STRICT]
     print_table(["damage", *libraries], ([shown, *(share(counts, library, heading) for library in libraries)]
                                          for heading, shown in lines.items()))
-    print("Per cent written as the same octets, of those accepted and written (how many).\n")
+    print("Per cent written as the same octets, of those accepted and written (how many), if it isn't 100 for all.\n")
     writers = {name: written for name, (_, written) in counts.items() if written.all}
     groups = [f"{what} {kind}" for what in ("valid", "damaged") for kind in kinds]
+    groups = [group for group in groups if any(it.per_cent(group) not in ("100", "-") for it in writers.values())]
     print_table(["inputs", *writers], ([group, *(it.per_cent_of(group) for it in writers.values())] for group in groups))
 
 

@@ -21,7 +21,7 @@ OF_CRATE = {"2048.public_key": "public key of 2048 bits", "2048.private_key": "p
             "2048_3_primes.multi_prime_key": "of three primes", "sha1.pss": "PSS `3000`",
             "sha256.pss": "PSS with SHA-256", "sha3_256.pss": "PSS with SHA3-256", "sha256.oaep": "OAEP with SHA-256",
             "sha256_label.oaep": "OAEP with SHA-256 and a label"}
-WORST = 3
+WORST = 2
 
 
 def net(numbers):
@@ -52,7 +52,7 @@ def print_misses(it):
     def line(part, calls):
         rows = [row for row in it.rows if row[0] in calls]
         missed = sorted(filter(it.misses, rows), key=it.ratio, reverse=True)
-        such = ", ".join(f"`{'' if len(calls) == 1 else row[0] + ' '}{row[1]}` {it.ratio(row):.2f}"
+        such = ", ".join(f"{'' if len(calls) == 1 else row[0] + ' of '}{row[1]} {it.ratio(row):.2f}"
                          for row in missed[:WORST])
         return [part, f"{len(missed)} of {len(rows)}", such]
 

@@ -15,7 +15,8 @@ PSS = {"sha1.pss": "`3000`", "sha1_salt_32.pss": "SHA-1, salt 32", "sha256_mgf1_
        "sha256.pss_algorithm": "SHA-256 in its algorithm"}
 CASES = {**KEYS, **PARAMETERS}
 FIRST = "libpkcs1"
-READERS = ("mbedTLS", FIRST, "libpkcs1 strict", "our crate, structs", "our crate, views", "plain Rust")
+READERS = ("mbedTLS", FIRST, "libpkcs1 strict", "our crate, structs", "our crate, views")
+ELSEWHERE = ("nothing", "libpkcs1 strict", "plain Rust", "line of C")  # which rows.py prints
 READ, WRITTEN = "0", "1"
 
 
@@ -48,7 +49,7 @@ def print_lines(title, head, libraries, cells):
 
 
 def libraries_in(numbers):
-    named = dict.fromkeys(key[0] for key in numbers if key[0] != "nothing")
+    named = dict.fromkeys(key[0] for key in numbers if key[0] not in ELSEWHERE)
     return sorted(named, key=lambda library: library != FIRST)
 
 

@@ -134,18 +134,12 @@ of!(PrivateKey, RsaPrivateKey<'a>, read_private_key, put);
 of!(Pss, PssParams<'a>, read_pss, put);
 of!(PssAlgorithm, PssParams<'a>, |b| read_pss(parameters(b, PSS)?), |it: &_, to| put_algorithm(PSS, it, to));
 of!(Oaep, OaepParams<'a>, |b| parse_single(b).ok(), put);
-of!(
-    OaepAlgorithm,
-    OaepParams<'a>,
-    |b| parse_single(parameters(b, OAEP)?).ok(),
-    |it: &_, to| put_algorithm(OAEP, it, to)
-);
-of!(
-    Container,
-    (PrivateKeyInfo<'a>, RsaPrivateKey<'a>),
-    read_container,
-    |it: &(PrivateKeyInfo<'_>, _), to| put(&it.0, to)
-);
+of!(OaepAlgorithm, OaepParams<'a>, |b| parse_single(parameters(b, OAEP)?).ok(), |it: &_, to| put_algorithm(
+    OAEP, it, to
+));
+of!(Container, (PrivateKeyInfo<'a>, RsaPrivateKey<'a>), read_container, |it: &(PrivateKeyInfo<'_>, _), to| put(
+    &it.0, to
+));
 
 library!(
     rust_asn1,

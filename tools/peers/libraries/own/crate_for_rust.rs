@@ -27,13 +27,27 @@ fn both<'a, Key>(der: &'a [u8], key: impl Fn(PrivateKeyInfoRef<'a>) -> Result<Ke
 /// A key, which has no stricter reading.
 macro_rules! key {
     ($name:ident, $value:ident, $write:expr, $length:expr) => {
-        reads_and_writes!($name, $value<'a>, |b| $value::try_from(b).ok(), |b| $value::try_from(b).ok(), $write, $length);
+        reads_and_writes!(
+            $name,
+            $value<'a>,
+            |b| $value::try_from(b).ok(),
+            |b| $value::try_from(b).ok(),
+            $write,
+            $length
+        );
     };
 }
 /// Parameters, alone and in their algorithm identifier.
 macro_rules! params {
     ($alone:ident, $in_algorithm:ident, $value:ident) => {
-        reads_and_writes!($alone, $value<'a>, |b| $value::try_from(b).ok(), |b| $value::from_der_strict(b).ok(), put, size);
+        reads_and_writes!(
+            $alone,
+            $value<'a>,
+            |b| $value::try_from(b).ok(),
+            |b| $value::from_der_strict(b).ok(),
+            put,
+            size
+        );
         reads_and_writes!(
             $in_algorithm,
             $value<'a>,
@@ -79,7 +93,13 @@ library!(
     c"our crate, views",
     0,
     [
-        PublicKey, PrivateKeyViewed, PrivateKeyViewed, PssViewed, PssAlgorithmViewed, OaepViewed, OaepAlgorithmViewed,
+        PublicKey,
+        PrivateKeyViewed,
+        PrivateKeyViewed,
+        PssViewed,
+        PssAlgorithmViewed,
+        OaepViewed,
+        OaepAlgorithmViewed,
         ContainerViewed
     ]
 );
