@@ -162,7 +162,7 @@ times() {
 
 tables() {
     local it answers=() accepted=()
-    echo "Versions: $(rustc --version), gcc $(gcc -dumpfullversion), and" && { [ -n "$alone" ] || versions; } && echo
+    echo "Versions: $(rustc --version), gcc $(gcc -dumpfullversion)" && { [ -n "$alone" ] || versions; } && echo
     for it in libpkcs1 'libpkcs1 strict' "${libraries[@]}" Go; do
         [ ! -e "$(file answers "$it")" ] || answers+=("$(file answers "$it")")
         [ ! -e "$(file bounds "$it")" ] || accepted+=("$(file bounds "$it")")

@@ -36,5 +36,5 @@ def print_table(head, lines):
     """A table in Markdown."""
     print(f"| {' | '.join(head)} |\n|{'---|' * len(head)}".replace("|  |", "| |"))
     for line in lines:
-        print(f"| {' | '.join(line)} |")
+        print(f"| {' | '.join(line)} |".replace("|  |", "| |"))
     print()
