@@ -275,11 +275,13 @@ static void flags(uint8_t octet) {
     CHECK(len == want_len && memcmp(out, want, len) == 0);
     pkcs1_pss_params_init(&params, &pkcs1_oid_sha256, 32);
     CHECK(pkcs1_pss_params_encode(&params, want, sizeof want, &want_len) == PKCS1_OK);
-    memset(&params.hash.has_parameters, octet, 1);
-    memset(&params.mask_gen.has_hash, octet, 1);
-    memset(&params.mask_gen.hash.has_parameters, octet, 1);
-    CHECK(pkcs1_pss_params_encode(&params, out, sizeof out, &len) == PKCS1_OK);
-    CHECK(len == want_len && memcmp(out, want, len) == 0);
+    bool *const flags[] = {&params.mask_gen.has_hash, &params.mask_gen.hash.has_parameters, &params.hash.has_parameters};
+    for (size_t i = 0; i < 3; i++) {
+        pkcs1_pss_params_init(&params, &pkcs1_oid_sha256, 32);
+        memset(flags[i], octet, 1);
+        CHECK(pkcs1_pss_params_encode(&params, out, sizeof out, &len) == PKCS1_OK);
+        CHECK(len == want_len && memcmp(out, want, len) == 0);
+    }
     CHECK(pkcs1_algorithm_is(&params.hash, &pkcs1_oid_sha256));
 }
 
