@@ -4,8 +4,9 @@
 # test alone, for Windows over the DLL too. PART is one of the functions here: `objects` or `freestanding`. CC, CFLAGS,
 # NM, READELF and RUN are as in the Makefile, which calls this.
 set -eu
+# No test runs forever.
 # shellcheck disable=SC3045 # dash has it, and bash
-ulimit -t 600 # no test runs forever
+[ "$(ulimit -t)" != unlimited ] || ulimit -t 600
 out=$(cd "$1" && pwd)
 cd "$(dirname "$0")/../.."
 export LC_ALL=C

@@ -225,27 +225,6 @@ panics_are_traps() {
     { grep -qx '    TRAP();' "$room/it.c" && ! grep -q panicking "$room/it.c"; } || stop "a panic isn't a trap in C"
 }
 
-# The hash is of the text that rustc takes, and of what makes the files; not of the crate's other text.
-hash_is_of_all() {
-    local tree=$room/tree it hash
-    mkdir "$tree"
-    (cd "$here/../.." && tar c --exclude=target rust tools/{generate,fresh,debian_rust}.sh tools/generate) |
-        tar x -C "$tree"
-    hash=$("$tree/tools/fresh.sh" --hash)
-    for it in rust/src/{clones,proved/der_core/length,rattle_std/vec,bin/pkcs1_tool/{tool,rattle_std}/mod}.rs \
-        rust/{c,tool}/src/lib.rs rust/c/src/calls/pkcs1_c/status.rs rust/tool/src/rattle_std/system.rs \
-        tools/{generate,debian_rust}.sh tools/generate/{plain,marks,rust_names}.py \
-        tools/generate/{provenance.sh,border.c,ir2c/{head.c,calls.py}}; do
-        cp -p "$tree/$it" "$room/kept"
-        echo >> "$tree/$it"
-        [ "$("$tree/tools/fresh.sh" --hash)" != "$hash" ] || stop "the hash doesn't change with $it"
-        mv "$room/kept" "$tree/$it"
-    done
-    echo >> "$tree/rust/src/lib.rs"
-    [ "$("$tree/tools/fresh.sh" --hash)" = "$hash" ] || stop "the hash changes with what the files aren't made of"
-    mv "$tree/rust/c/src/calls/mod.rs" "$tree/rust/c/src/calls/other.rs"
-    [ "$("$tree/tools/fresh.sh" --hash)" != "$hash" ] || stop "the hash doesn't change with the name of a file"
-}
 # Code that goes to an address in a way that isn't known gets no marks.
 unknown_ways_are_refused() {
     local line
@@ -262,7 +241,6 @@ small_machines_are_refused
 unknown_is_refused
 panics_are_traps
 unknown_ways_are_refused
-hash_is_of_all
 "$here/test_opcodes.py" "$room"
 "$here/test_making.sh"
 echo "generated: the objects, the library's test over assembly and C, the translation, traps, other rustcs and texts"
