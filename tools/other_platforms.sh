@@ -64,6 +64,7 @@ windows_by_cmake() {
         by_cmake $it -DCMAKE_SYSTEM_NAME=Windows -DCMAKE_C_COMPILER=x86_64-w64-mingw32-gcc \
             -DCMAKE_CROSSCOMPILING_EMULATOR=wine
     done
+    ! grep pkcs1_c_ "$room/cmake.ON/prefix/lib/libpkcs1.dll.a" || stop "CMake's DLL exports proved calls"
 }
 wasi_by_cmake() {
     by_cmake OFF "-DCMAKE_TOOLCHAIN_FILE=$room/wasi.cmake"
@@ -72,6 +73,7 @@ wasi_by_cmake() {
 linux_by_cmake() {
     by_cmake OFF
     by_cmake ON
+    ffi/tests/check.sh "$room/cmake.ON" shared
     cmake -S "$room/program" -B "$room/part" -DCMAKE_BUILD_TYPE=Debug "-DPART=$PWD" -DPKCS1_CODE=c
     runs "$room/part"
 }
@@ -120,6 +122,10 @@ project(program C)
 if(PART)
     add_subdirectory(\${PART} pkcs1)
 else()
+    find_package(pkcs1 0.7 QUIET)
+    if(pkcs1_FOUND)
+        message(FATAL_ERROR "another minor version is found")
+    endif()
     find_package(pkcs1 0.8 REQUIRED)
 endif()
 add_executable(program $PWD/ffi/examples/modulus.c)

@@ -41,7 +41,6 @@ add() {
     local built=$1 tool=${2-} to_prefix text
     mkdir -p "$include" "$lib/pkgconfig" "$doc"
     put 644 "$here/include/pkcs1.h" "$include"
-    put 644 "$here/include/pkcs1_c.h" "$include"
     put 644 "$built/libpkcs1.a" "$lib"
     if [ -e "$built/$soname" ]; then
         put 644 "$built/$soname" "$lib"
@@ -74,7 +73,7 @@ remove() {
         echo "ffi/lib/install.sh: libpkcs1 isn't installed below ${DESTDIR-}$prefix" >&2
         exit 1
     }
-    rm -f "$include/pkcs1.h" "$include/pkcs1_c.h" "$lib"/libpkcs1.{a,so,dll.a} "$lib/$soname" \
+    rm -f "$include/pkcs1.h" "$lib"/libpkcs1.{a,so,dll.a} "$lib/$soname" \
         "$lib/pkgconfig/libpkcs1.pc" "$bin"/{pkcs1_tool,"$dll"} "$man/pkcs1_tool.1" \
         "$doc"/{LICENSE-APACHE,LICENSE-MIT,copyright}
     rmdir --ignore-fail-on-non-empty "$doc"

@@ -1,26 +1,23 @@
 #!/bin/sh
 # link.sh OUT: links OUT/proved.o, the proved calls, and OUT/calls.o, those of pkcs1.h over them, into libpkcs1.a and
-# libpkcs1.so.ABI, in which only what the headers declare is global, with the version PKCS1_ABI. No other definition
-# of a proved call takes its place there. For Windows it is libpkcs1-ABI.dll, with its import library libpkcs1.dll.a.
-# Elsewhere there is libpkcs1.a alone. The Makefile and build.sh call it. CC, CFLAGS, LDFLAGS, AR, OBJCOPY and NM are
-# as in the Makefile.
+# libpkcs1.so.ABI, in which only what pkcs1.h declares is global, with the version PKCS1_ABI. For Windows it is
+# libpkcs1-ABI.dll, with its import library libpkcs1.dll.a. Elsewhere there is libpkcs1.a alone. In the archives for
+# these the proved calls are global too. The Makefile and link_proved.sh call it. CC, CFLAGS, LDFLAGS, AR, OBJCOPY and
+# NM are as in the Makefile.
 set -eu
 out=$1
 here=$(dirname "$0")
-headers=$here/include
-abi=$(sed -n 's/^#define PKCS1_ABI //p' "$headers/pkcs1.h")
+header=$here/include/pkcs1.h
+abi=$(sed -n 's/^#define PKCS1_ABI //p' "$header")
 soname=libpkcs1.so.$abi
-symbols=PKCS1_$abi
 export LC_ALL=C
 
-# exports WORD..: what nm, called with these words, prints of the symbols that are defined.
+# exports LESS: whether libpkcs1.a exports what is declared, and what has the names of this pattern.
 exports() {
-    ${NM:-nm} --defined-only "$@" | sed -n 's/^[0-9a-f]* [A-Z] //p' | grep -v '^__x86\.get_pc_thunk\.' | sort
-}
-# same OF: whether the library of this kind exports what is declared.
-same() {
-    diff "$out/declared" "$out/exports.$1" || {
-        echo "ffi/lib/link.sh: what the headers declare (<) and what libpkcs1.$1 exports (>) differ" >&2
+    # On 32 bits C's names for Windows have a _ in front.
+    ${NM:-nm} -g --defined-only "$out/libpkcs1.a" | sed -n 's/^[0-9a-f]* [A-Z] //p' | sed 's/^_pkcs1/pkcs1/' |
+        grep -v "^$1" | sort | diff "$out/declared" - || {
+        echo "ffi/lib/link.sh: what pkcs1.h declares (<) and what libpkcs1.a exports (>) differ" >&2
         exit 1
     }
 }
@@ -32,7 +29,7 @@ elf() {
     ${OBJCOPY:-objcopy} -w --keep-global-symbols="$out/declared" --keep-global-symbol='__x86.get_pc_thunk.*' \
         "$out/pkcs1.o"
     # Else a C library's own start files, as those of musl, may add names.
-    printf '%s { global: %s local: *; };\n' "$symbols" "$(sed 's/$/;/' "$out/declared")" > "$out/exports.map"
+    printf 'PKCS1_%s { global: %s local: *; };\n' "$abi" "$(sed 's/$/;/' "$out/declared")" > "$out/exports.map"
     # A sanitizer's calls are in the program that is linked with it.
     hardened=-Wl,-Bsymbolic,-z,relro,-z,now
     case "$CC ${CFLAGS-}" in *-fsanitize=*) ;; *) hardened=$hardened,-z,defs ;; esac
@@ -41,11 +38,7 @@ elf() {
     # A copy, since rt ci takes no tree with links.
     cp "$out/$soname" "$out/libpkcs1.so"
     ${AR:-ar} rcs "$out/libpkcs1.a" "$out/pkcs1.o"
-    exports -g "$out/libpkcs1.a" > "$out/exports.a"
-    # GNU's ld also makes a symbol with the name of the version.
-    exports -D "$out/libpkcs1.so" | sed -n "s/@@$symbols\$//p" | grep -vx "$symbols" > "$out/exports.so"
-    same a
-    same so
+    exports '__x86\.get_pc_thunk\.'
 }
 # Each object of C has no other global names than those of the headers.
 archive() {
@@ -54,17 +47,15 @@ archive() {
 # shellcheck disable=SC2086 # words
 windows() {
     archive
-    # On 32 bits C's names have a _ in front.
-    exports -g "$out/libpkcs1.a" | sed 's/^_pkcs1/pkcs1/' > "$out/exports.a"
-    same a
+    exports pkcs1_c_
     { echo EXPORTS && sed "/^pkcs1_oid_equal\$/!s/^pkcs1_oid_.*/& DATA/" "$out/declared"; } > "$out/exports.def"
     $CC ${CFLAGS-} -fno-lto -shared -static-libgcc ${LDFLAGS-} -o "$out/libpkcs1-$abi.dll" \
         -Wl,--out-implib="$out/libpkcs1.dll.a" "$out/exports.def" "$out/proved.o" "$out/calls.o"
 }
 
 {
-    grep -oh 'pkcs1_[a-z0-9_]*(' "$headers/pkcs1.h" "$headers/pkcs1_c.h" | tr -d '('
-    grep -h '^extern const' "$headers/pkcs1.h" "$headers/pkcs1_c.h" | grep -o 'pkcs1_oid_[a-z0-9_]*'
+    grep -o 'pkcs1_[a-z0-9_]*(' "$header" | tr -d '('
+    grep '^extern const' "$header" | grep -o 'pkcs1_oid_[a-z0-9_]*'
 } | sort -u > "$out/declared"
 rm -f "$out"/libpkcs1[.-]*
 # shellcheck disable=SC2086

@@ -1,7 +1,7 @@
 #!/bin/sh
 # check.sh OUT [PART]: tests what make left in this folder: what a linker, a loader and a debugger ask of it, the C test
 # over the static and the shared library, a program without a C library, and the tool. Where there is no ELF it is the C
-# test alone, for Windows over the DLL too. PART is one of the functions here: `objects` or `freestanding`. CC, CFLAGS,
+# test alone, for Windows over the DLL too. PART is one of the functions here: `shared`, `objects` or `freestanding`. CC, CFLAGS,
 # NM, READELF and RUN are as in the Makefile, which calls this.
 set -eu
 # No test runs forever.
@@ -65,20 +65,32 @@ asks_for_little() {
         sort -u | grep -vxE "mem(cpy|move|set|cmp)|bcmp|$own" | paste -s -d ' ')
     [ -z "$asked" ] || stop "the library asks for $asked"
 }
-# What a linker, a loader and a debugger ask of the objects, of libpkcs1.so and of pkcs1_tool, where it was built.
+# hardened PROGRAM: the addresses of calls can't be written over.
+hardened() {
+    { $readelf -lW "$1" | grep -q GNU_RELRO && $readelf -dW "$1" | grep -qwE 'BIND_NOW|NOW'; } ||
+        stop "in $1 the addresses of calls can be written over"
+}
+# What a loader asks of libpkcs1.so: its name, what it exports, with its version, and what can't be replaced in it.
+shared() {
+    abi=$(sed -n 's/^PKCS1_ABI = //p' ffi/tests/abi)
+    $readelf -dW "$out/libpkcs1.so" | grep -qF "soname: [libpkcs1.so.$abi]" || stop "it has another soname"
+    sed -nE "s/^const .* (pkcs1_oid_.*)|.*[ *](pkcs1_[a-z0-9_]+)\(.*/\1\2@@PKCS1_$abi/p" ffi/tests/abi | sort > "$tests/listed"
+    # GNU's ld also makes a symbol with the name of the version.
+    $nm -D --defined-only "$out/libpkcs1.so" | sed 's/^[0-9a-f]* [A-Z] //' | grep -v "^PKCS1_$abi" | sort |
+        diff "$tests/listed" - || stop "libpkcs1.so exports other names (>) than ffi/tests/abi has (<)"
+    ! $readelf -dW "$out/libpkcs1.so" | grep TEXTREL || stop "libpkcs1.so has text relocations"
+    taken=$($readelf -rW "$out/libpkcs1.so" | grep -o 'pkcs1_[a-z0-9_]*' | paste -s -d ' ')
+    [ -z "$taken" ] || stop "a program can replace $taken in libpkcs1.so"
+    hardened "$out/libpkcs1.so"
+}
+# The same of the objects, and what a linker and a debugger ask of them, and of pkcs1_tool, where it was built.
 objects() {
     for object in "$out"/*.o; do
         $readelf -SW "$object" | grep -q '\.note\.GNU-stack *PROGBITS *0* [0-9a-f]* 0* 00 *0' ||
             stop "$object doesn't say that its stack isn't run"
     done
-    ! $readelf -dW "$out/libpkcs1.so" | grep TEXTREL || stop "libpkcs1.so has text relocations"
-    taken=$($readelf -rW "$out/libpkcs1.so" | grep -o 'pkcs1_[a-z0-9_]*' | paste -s -d ' ')
-    [ -z "$taken" ] || stop "a program can replace $taken in libpkcs1.so"
-    for program in "$out/libpkcs1.so" "$out/pkcs1_tool"; do
-        [ -e "$program" ] || continue
-        { $readelf -lW "$program" | grep -q GNU_RELRO && $readelf -dW "$program" | grep -qwE 'BIND_NOW|NOW'; } ||
-            stop "in $program the addresses of calls can be written over"
-    done
+    shared
+    [ ! -e "$out/pkcs1_tool" ] || hardened "$out/pkcs1_tool"
     asks_for_little
     # On 32-bit Arm the ways back are in a table of their own. LLVM's readelf has no --debug-dump.
     frames=$({ $readelf --debug-dump=frames --unwind "$out/pkcs1.o" || $readelf --unwind "$out/pkcs1.o"; } 2> "$tests/log" |
@@ -86,15 +98,15 @@ objects() {
     places=$($readelf -sW "$out/pkcs1.o" | awk '/ FUNC / { print $7, $2 }' | sort -u | wc -l)
     [ "$frames" = "$places" ] || stop "a debugger can't go back from each call: $frames ways back, $places calls"
 }
-# The C test in a program with functions of the proved calls' names, but for those that it calls itself: the shared
-# library calls its own.
-clash() {
-    own=$(grep -oh 'pkcs1_c_[a-z0-9_]*(' ffi/tests/test.c ffi/tests/rows.c | tr -d '(')
+# The C test with either library, in a program with functions of the proved calls' names: the library calls its own.
+both() {
     {
         echo '#include <stdlib.h>'
-        grep '^pkcs1_c_' "$out/declared" | grep -vxF "$own" | sed 's/.*/void &(void);\nvoid &(void) { abort(); }/'
+        sed -n 's/^[a-z].* \(pkcs1_c_[a-z0-9_]*\)(.*/void \1(void);\nvoid \1(void) { abort(); }/p' ffi/lib/include/pkcs1_c.h
     } > "$tests/clash.c"
-    c_test clash "$tests/clash.c" "-L$out" -lpkcs1 "-Wl,-rpath,$out"
+    c_test static "$tests/clash.c" "$out/libpkcs1.a"
+    c_test shared "$tests/clash.c" "-L$out" -lpkcs1 "-Wl,-rpath,$out"
+    say "the C test, with the static and the shared library"
 }
 # size CALL MOST: a program that makes this call alone has so many octets at most, with what a debugger needs.
 size() {
@@ -161,15 +173,12 @@ watched() {
 # shellcheck disable=SC2086
 machine=$(ffi/lib/machine.sh $CC ${CFLAGS-})
 case ${2-}:$machine in
-    objects:* | freestanding:*) "$2" ;;
+    shared:* | objects:* | freestanding:*) "$2" ;;
     :windows | :archive) "$machine" ;;
     :*)
         ffi/tests/check_abi.sh
         objects
-        c_test static "$out/libpkcs1.a"
-        c_test shared "-L$out" -lpkcs1 "-Wl,-rpath,$out"
-        clash
-        say "the C test, with the static and the shared library"
+        both
         freestanding
         [ ! -x "$out/pkcs1_tool" ] || tool
         ;;

@@ -1,6 +1,6 @@
 #!/bin/sh
-# check_abi.sh [--write]: compares the binary interface that the headers declare with the list in abi: the number
-# PKCS1_ABI, the size of each struct and where its fields stand, the types of each call, the values of statuses. The
+# check_abi.sh [--write]: compares the binary interface that pkcs1.h declares with the list in abi: the number PKCS1_ABI,
+# the size of each struct and where its fields stand, the types of each call and constant, the values of statuses. The
 # number is in the soname and in the version of symbols. So what is in the list may change only with the number.
 # --write keeps the list anew, but refuses such a change. CC, CFLAGS and NM are as in the Makefile. The list is for machines on
 # which a size has 64 bits.
@@ -33,17 +33,23 @@ members() {
     }'
 }
 list() {
-    $CC -E -P "-I$lib/include" "$lib/include/pkcs1_c.h" | tr -s '\n ' ' ' | sed 's/\<_Bool\>/bool/g' > "$room/text"
+    $CC -E -P "$lib/include/pkcs1.h" | tr -s '\n ' ' ' | sed 's/\<_Bool\>/bool/g' > "$room/text"
     members > "$room/members"
     # Compiled and not run: the size of each array tells a number.
-    { echo '#include "pkcs1_c.h"' && awk -F '|' '{ print "char at_" NR "[" $2 " + 1];" }' "$room/members"; } > "$room/sizes.c"
+    { echo '#include "pkcs1.h"' && awk -F '|' '{ print "char at_" NR "[" $2 " + 1];" }' "$room/members"; } > "$room/sizes.c"
     $CC -fno-common "-I$lib/include" -c "$room/sizes.c" -o "$room/sizes.o"
     sed -n 's/^#define \(PKCS1_ABI\) \([0-9]*\)$/\1 = \2/p' "$lib/include/pkcs1.h"
     ${NM:-nm} -P -t d "$room/sizes.o" | sed -n 's/^at_//p' | sort -n | awk '{ print $NF - 1 }' |
         paste -d ' ' "$room/members" - | sed 's/|.* / /'
     grep -oE '(const )?[A-Za-z0-9_]+ \*?pkcs1_[a-z0-9_]+\([^)]*\);' "$room/text" |
         sed -E -e 's/([ *])[a-z0-9_]+([,)])/\1\2/g' -e 's/ ([,)])/\1/g'
-    grep -oE 'extern const [^;]*;' "$room/text" | tr ',' '\n' | grep -o 'pkcs1_oid_[a-z0-9_]*' | sed 's/^/const struct pkcs1_bytes /'
+    sed 's/;/\n/g' "$room/text" | sed -n 's/^ *extern //p' | awk -F ', *' '{
+        type = $1
+        sub(/[^ ]*$/, "", type)
+        $1 = substr($1, length(type) + 1)
+        for (i = 1; i <= NF; i++)
+            print type $i
+    }'
     grep -oE 'PKCS1_[A-Z0-9_]+ = [0-9]+' "$room/text"
 }
 
@@ -51,7 +57,7 @@ CC=${CC:-cc}
 # shellcheck disable=SC2086
 case $("$lib/machine.sh" $CC ${CFLAGS-}) in other | windows | archive) exit 0 ;; esac
 list > "$room/abi"
-[ "$(wc -l < "$room/abi")" -gt 100 ] || stop "the headers can't be read"
+[ "$(wc -l < "$room/abi")" -gt 90 ] || stop "pkcs1.h can't be read"
 ! diff -N "$here/abi" "$room/abi" > "$room/differs" || exit 0
 if grep -q '^<' "$room/differs" && ! grep -q '^< PKCS1_ABI' "$room/differs"; then
     cat "$room/differs" >&2

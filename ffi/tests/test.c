@@ -2,7 +2,7 @@
  * rows.c tries. large.c has what is long. Structs to be filled are uninitialised, so that valgrind reports it if they
  * are read. */
 #include "test.h"
-#include "pkcs1_c.h"
+#include "pkcs1.h"
 #include <string.h>
 
 static const uint8_t two[] = {0x30, 27, 2, 1, 0, 2, 1, 1, 2, 1, 2, 2, 1, 3, 2, 1, 4, 2, 1, 5, 2, 1, 6, 2, 1, 7, 2, 1, 8};
@@ -161,9 +161,6 @@ static void many_other_primes(void) {
             key.modulus.len = 1;
             others[count - 1].exponent.len = 0;
             CHECK(pkcs1_private_key_encode(&key, others, count, out, sizeof out, &len) == PKCS1_LENGTH && len == 0);
-            others[count - 1].exponent.len = 1;
-            key.other_primes--;
-            CHECK(pkcs1_c_private_key_encode(&key, others, count, out, sizeof out, &len) == PKCS1_OTHER_PRIMES);
             return;
         }
         CHECK(pkcs1_private_key_encode(&key, others, count, NULL, 0, &len) == PKCS1_NO_ROOM);
@@ -456,24 +453,6 @@ static void texts(void) {
     CHECK(strcmp(pkcs1_strerror(PKCS1_OTHER_PRIMES), "the other primes are not as many as the key says") == 0);
 }
 
-/* The proved calls can be called too, with initialised structs. */
-static void proved_calls(void) {
-    struct pkcs1_private_key key = {PKCS1_NO_BYTES, PKCS1_NO_BYTES, PKCS1_NO_BYTES, PKCS1_NO_BYTES, PKCS1_NO_BYTES,
-                                    PKCS1_NO_BYTES, PKCS1_NO_BYTES, PKCS1_NO_BYTES, 0};
-    struct pkcs1_other_prime none = {PKCS1_NO_BYTES, PKCS1_NO_BYTES, PKCS1_NO_BYTES}, others[2] = {none, none};
-    struct pkcs1_bytes version = PKCS1_NO_BYTES, listed = PKCS1_NO_BYTES;
-    CHECK(pkcs1_c_private_key_decode(three, sizeof three, &key, &listed) == PKCS1_OK && same(key.modulus, "\1", 1));
-    CHECK(listed.data == three + 31 && listed.len == 11);
-    pkcs1_c_other_primes(two, sizeof two, others, 2); /* not the encoding of a prime */
-    CHECK(memcmp(&others[0], &none, sizeof none) == 0);
-    pkcs1_c_other_primes(listed.data, listed.len, others, 2);
-    CHECK(same(others[0].prime, "\11", 1) && same(others[0].coefficient, "\13", 1));
-    CHECK(memcmp(&others[1], &none, sizeof none) == 0);
-    CHECK(pkcs1_c_private_key_decode(two, sizeof two, &key, &listed) == PKCS1_OK && same(listed, "", 0));
-    pkcs1_c_version(&version);
-    CHECK((const char *)version.data == pkcs1_version() && version.len == strlen(pkcs1_version()) + 1);
-}
-
 int main(int argc, char **argv) {
     CHECK(argc == 2);
     if (strcmp(argv[1], "--version") == 0)
@@ -496,7 +475,6 @@ int main(int argc, char **argv) {
     texts();
     try_rows(argv[1]);
     try_large();
-    proved_calls();
     puts("c: ok");
     return 0;
 }

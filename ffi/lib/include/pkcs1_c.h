@@ -1,20 +1,14 @@
-/* The proved calls, on which those of pkcs1.h are built. Most callers want pkcs1.h. These do the same and require more.
+/* The proved calls, which pkcs1.c alone calls. They do what those of pkcs1.h do, and require more. This header isn't
+ * installed.
  *
  * Structs: each must hold valid values, even one that a decoder only fills. In it each `bool` must be 0 or 1, and no
- *   `pkcs1_bytes` may be null. PKCS1_NO_BYTES is an empty one.
+ *   `pkcs1_bytes` may be null.
  * Fields after a false `has_..`: they must be valid too. An encoder doesn't read them. A decoder sets them to empty.
  * Null: `der`, `listed`, `others`, `out`, `number` and `oid` may not be null, not even if their length is 0. */
 #ifndef PKCS1_C_H
 #define PKCS1_C_H
 
 #include "pkcs1.h"
-
-#ifdef __cplusplus
-extern "C" {
-#define PKCS1_NO_BYTES { reinterpret_cast<const uint8_t *>(""), 0 }
-#else
-#define PKCS1_NO_BYTES { (const uint8_t *)"", 0 }
-#endif
 
 /* The bit length of a number, in which zero octets in front don't count. */
 uint64_t pkcs1_c_bit_len(const uint8_t *number, size_t number_len);
@@ -70,7 +64,4 @@ bool pkcs1_c_oaep_label(const struct pkcs1_algorithm *source, struct pkcs1_bytes
 void pkcs1_c_status_text(uint32_t status, struct pkcs1_bytes *text);
 void pkcs1_c_version(struct pkcs1_bytes *text);
 
-#ifdef __cplusplus
-}
-#endif
 #endif

@@ -74,9 +74,10 @@ static void ask(const char *kind, const union value *value) {
 /* The input taken for a list of primes, with room behind them. */
 static void place(void) {
     enum { ROOM = 5 };
-    struct pkcs1_other_prime others[ROOM] = {{PKCS1_NO_BYTES, PKCS1_NO_BYTES, PKCS1_NO_BYTES}};
-    for (size_t i = 1; i < ROOM; i++)
-        others[i] = others[0];
+    const struct pkcs1_bytes none = {(const uint8_t *)"", 0};
+    struct pkcs1_other_prime others[ROOM];
+    for (size_t i = 0; i < ROOM; i++)
+        others[i] = (struct pkcs1_other_prime){none, none, none};
     pkcs1_c_other_primes(input.data, input.len, others, ROOM);
 }
 
