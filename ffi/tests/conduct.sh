@@ -8,7 +8,7 @@ cd "$(dirname "$0")/../.."
 . tools/shell.sh
 room=$(mktemp -d)
 trap 'rm -rf "$room"' EXIT
-export CC=gcc CFLAGS=-O2 LDFLAGS=
+export CC=gcc CFLAGS=-O2 CPPFLAGS= LDFLAGS=
 warned='-std=c99 -Wall -Wextra -Werror -pedantic -Iffi/lib/include'
 coders=$(grep -oE 'pkcs1_[a-z0-9_]*_(de|en)code(_strict)?\(' ffi/lib/include/pkcs1.h | tr -d '(')
 
@@ -38,12 +38,14 @@ leaves_nothing() {
 }
 # takes FOLDER DECODE ENCODE: whether pkcs1.h says so many octets of stack, or more, of the code in this folder.
 takes() {
-    awk -v of="$([ "$1" = "$room/c" ] && echo C || echo Assembly)" -v decode="${2-}" -v encode="${3-}" '
-        match($0, of ": [0-9]+ to decode, [0-9]+ to encode") { split(substr($0, RSTART), may, /[^0-9]+/) }
+    local of=assembly
+    case $1 in */c) of='Generated C' ;; */i386) of=i386 ;; esac
+    tr -s '\n *' ' ' < ffi/lib/include/pkcs1.h | awk -v of="$of" -v decode="${2-}" -v encode="${3-}" '
+        match($0, of ": [0-9]+ to decode, [0-9]+ to encode") { split(substr($0, RSTART + length(of)), may, /[^0-9]+/) }
         END {
             print "calls take " decode " and " encode " octets of stack"
             exit !(0 < decode && decode + 0 <= may[2] + 0 && 0 < encode && encode + 0 <= may[3] + 0)
-        }' ffi/lib/include/pkcs1.h
+        }'
 }
 stack_suffices() {
     # shellcheck disable=SC2046
@@ -76,15 +78,24 @@ for name in painted secrets stack test rows large; do
     # shellcheck disable=SC2086
     gcc $warned -O1 -g -c "ffi/tests/$name.c" -o "$room/$name.o"
 done
-for code in assembly c; do
-    make --silent OUT="$room/$code" CODE=$code "$room/$code/libpkcs1.a"
-    for test in path_is_public first_octets_are_alike leaves_nothing stack_suffices{,_in_tests} keeps_nothing; do
-        "$test" "$room/$code" > "$room/log" 2>&1 || {
+# holds FOLDER TEST..: the calls in this folder of the room pass the tests.
+holds() {
+    local test
+    for test in "${@:2}"; do
+        "$test" "$room/$1" > "$room/log" 2>&1 || {
             cat "$room/log" >&2
-            stop "$test fails with $code, by gcc $(gcc -dumpfullversion)"
+            stop "$test fails with $1, by gcc $(gcc -dumpfullversion)"
         }
     done
+}
+for code in assembly c; do
+    make --silent OUT="$room/$code" CODE=$code "$room/$code/libpkcs1.a"
+    holds $code path_is_public first_octets_are_alike leaves_nothing stack_suffices{,_in_tests} keeps_nothing
 done
+if have i686-linux-gnu-gcc "the stack on i386 isn't looked at"; then
+    make --silent OUT="$room/i386" CC=i686-linux-gnu-gcc "$room/i386/libpkcs1.a"
+    holds i386 stack_suffices
+fi
 
 on_read='*key = *read;'
 on_write='uint8_t *place = output(out, room);'

@@ -3,7 +3,7 @@
 
     deepest.py LIBPKCS1.SO      prints two numbers: of the calls that decode, and of those that encode
 
-They are those of the deepest way from call to call in the code for x86-64. How deep the stack is at an instruction say
+They are those of the deepest way from call to call in the code for x86-64 or i386. How deep the stack is at an instruction say
 the tables by which a debugger goes back. Functions of the C library aren't looked into. Code is refused if it calls an
 address, if a frame has no fixed size, or if a way comes back to a call that hasn't returned, but for one function.
 """
@@ -13,7 +13,6 @@ import subprocess
 import sys
 
 OF_CALLS = re.compile(r"pkcs1_(?!c_)\w+_(de|en)code(?:_strict)?")
-RETURN_ADDRESS = 8
 # first_written calls itself, once for each field of parameters: those of PSS have four.
 CALLS_ITSELF = re.compile(r"\w*first_written")
 FIELDS = 4
@@ -25,19 +24,21 @@ def printed(*words):
 
 
 def read_depths(library):
-    """Where the depth of the stack changes, and to what. It is None in a frame of no fixed size."""
+    """Where the depth of the stack changes, and to what; and the octets of an address, by which a call deepens it. The depth
+    is None in a frame of no fixed size."""
     table = printed("readelf", "--debug-dump=frames-interp", library)
-    depths = {int(begin, 16): RETURN_ADDRESS for begin in re.findall(r" pc=([0-9a-f]+)\.\.", table)}
-    for at, depth in re.findall(r"^([0-9a-f]{16}) (?:rsp\+(\d+)|\S+) ", table, re.M):
+    address = int(re.search(r" cf=\d+ df=-(\d+) ", table)[1])
+    depths = {int(begin, 16): address for begin in re.findall(r" pc=([0-9a-f]+)\.\.", table)}
+    for at, depth in re.findall(r"^([0-9a-f]{8,}) (?:[er]sp\+(\d+)|[a-z]\S*) ", table, re.M):
         depths[int(at, 16)] = int(depth) if depth else None
-    return sorted(depths), [depths[it] for it in sorted(depths)]
+    return sorted(depths), [depths[it] for it in sorted(depths)], address
 
 
 def read_functions(library):
     """The name of each function by its address, and its instructions with theirs."""
     functions = {}
     for line in printed("objdump", "-dw", "--no-show-raw-insn", library).splitlines():
-        head = re.match(r"([0-9a-f]{16}) <(.*)>:$", line)
+        head = re.match(r"([0-9a-f]{8,}) <(.*)>:$", line)
         instruction = re.match(r" *([0-9a-f]+):\t(.*)", line)
         if head:
             instructions = []
@@ -51,7 +52,7 @@ class Library:
     """A library, and how deep the calls in it go."""
 
     def __init__(self, library):
-        self.places, self.depths = read_depths(library)
+        self.places, self.depths, self.address = read_depths(library)
         self.functions = read_functions(library)
         self.deepest = {}
 
@@ -77,19 +78,19 @@ class Library:
         if to == address and is_call and CALLS_ITSELF.fullmatch(name):
             return 0
         if to is None or to == address and not is_call:
-            below = re.findall(r"-0x([0-9a-f]+)\(%rsp", text)
+            below = re.findall(r"-0x([0-9a-f]+)\(%[er]sp", text)
             return depth + max((int(it, 16) for it in below), default=0)
         if is_call:
             return depth + self.depth_of(to)
         # What is jumped to stands in place of this function, or is a part of it, which begins with its frame.
-        is_part = self.depth_at(name, to) > RETURN_ADDRESS
-        return self.depth_of(to) + (0 if is_part else depth - RETURN_ADDRESS)
+        is_part = self.depth_at(name, to) > self.address
+        return self.depth_of(to) + (0 if is_part else depth - self.address)
 
     def depth_of(self, address):
         """How deep the stack gets in the function there."""
         name, instructions = self.functions[address]
         if name.endswith("@plt"):
-            return RETURN_ADDRESS
+            return self.address
         if address not in self.deepest:
             self.deepest[address] = None
             itself = [self.depth_at(name, at) for at, text in instructions if self.goes_to(text) == (address, True)]

@@ -21,7 +21,7 @@
  * It reads no salt length over 255. With SHA-256, OpenSSL 3.0 writes such a one by default for keys over 2313 bits.
  * What it writes with -sigopt rsa_pss_saltlen:digest is read.
  *
- * The calls of pkcs1_c.h are proved. These, in ffi/lib/pkcs1.c, are proved over them: ffi/proof/pkcs1.acsl.h says what.
+ * The calls are proved. ffi/proof/pkcs1.acsl.h says what.
  *
  * Only the encoding is checked. Nothing checks that the modulus is the product of the primes, or that a key is strong.
  *
@@ -77,9 +77,10 @@
  * Pointers: no call keeps one.
  * Memory: no call allocates. Of the C library they call memcpy, memmove, memset and memcmp alone, or bcmp in its place
  *   where clang compiles them. So a signal handler may make each call, and a program without a C library.
- * Stack: on x86-64, compiled by gcc 12 with -O2, calls take at most so many octets, whatever is passed. Functions of
- *   the C library come on top, and in a program that isn't linked with -z now, for the first call of each of them, over
- *   2000 octets of the loader. Assembly: 1168 to decode, 968 to encode. Generated C: 1280 to decode, 824 to encode.
+ * Stack: compiled by gcc 12 with -O2, calls take at most so many octets, whatever is passed. Functions of the C library
+ *   come on top, and in a program that isn't linked with -z now, for the first call of each of them, over 2000 octets
+ *   of the loader. On x86-64 assembly: 1168 to decode, 968 to encode. Generated C: 1280 to decode, 824 to encode. On
+ *   i386: 1872 to decode, 4352 to encode. Other machines aren't measured.
  * Time: which way a call takes on a valid private key depends alone on the lengths of its numbers and their encodings.
  *   This is tested on x86-64, not proved. Leading zeros that you pass are counted by a loop. Of other octets, status
  *   and time tell where the first fault is. If you decrypt keys without authentication, show neither to the sender.
