@@ -9,7 +9,8 @@
 #     make clean
 #
 # PREFIX, LIBDIR, DESTDIR   where to install: /usr/local, PREFIX/lib, and a folder to install below
-# CC, CFLAGS, LDFLAGS       the compiler, its options, and those for linking; check and install take those of make
+# CC, CFLAGS, CPPFLAGS, LDFLAGS   the compiler, its options, those for compiling C and those for linking; check and
+#                           install take those of make
 # CROSS, RUN                for another machine: CROSS=aarch64-linux-gnu- RUN=qemu-aarch64 make check, and for Windows
 #                           CROSS=x86_64-w64-mingw32- RUN=wine
 # CODE=c                    the generated C in place of the assembly for this machine
@@ -54,7 +55,8 @@ ifneq ($(missing),)
 $(error there is no $($(missing)): install binutils, or name your own, as in make $(missing)=FILE)
 endif
 endif
-export CC CFLAGS LDFLAGS AR OBJCOPY NM READELF RUN
+export CC CFLAGS LDFLAGS AR OBJCOPY NM READELF RUN PREFIX LIBDIR DESTDIR
+unexport CDPATH
 
 CODE ?= $(if $(filter x86_64 aarch64,$(machine)),assembly,c)
 code := $(GENERATED)/$(if $(filter c,$(CODE)),pkcs1_c.c,$(machine)/pkcs1_c.s)
@@ -65,7 +67,7 @@ tool := $(if $(wildcard $(GENERATED)/$(machine)/pkcs1_tool.s),$(OUT)/pkcs1_tool)
 # What is left to the link can't be made local; debuggers go back from each call; a program need not keep all of them.
 library := $(if $(filter windows archive,$(machine)),,-fPIC) -fno-lto -fasynchronous-unwind-tables \
     -ffunction-sections -fdata-sections
-compile = $(CC) -std=c99 $(CFLAGS) $(library) -Iffi/lib/include -c $< -o $@
+compile = $(CC) -std=c99 $(CPPFLAGS) $(CFLAGS) $(library) -Iffi/lib/include -c $< -o $@
 assemble = $(CC) $(CFLAGS) -g0 -Wno-unused-command-line-argument -c $< -o $@
 
 all: fresh $(OUT)/libpkcs1.a $(tool)
@@ -75,10 +77,10 @@ fresh:
 	@tools/fresh.sh || true
 
 # All is made again if it would be made in another way, or by another Makefile.
-export settings := $(CC) $(CFLAGS) $(library) $(LDFLAGS) $(AR) $(OBJCOPY) $(code) $(shell cksum < $(firstword $(MAKEFILE_LIST)))
+export settings := $(CC) $(CPPFLAGS) $(CFLAGS) $(library) $(LDFLAGS) $(AR) $(OBJCOPY) $(code) $(shell cksum < $(firstword $(MAKEFILE_LIST)))
 hash := \#
 define told :=
-$(foreach it,CC CFLAGS LDFLAGS CODE AR OBJCOPY NM READELF,
+$(foreach it,CC CFLAGS CPPFLAGS LDFLAGS CODE AR OBJCOPY NM READELF,
 ifneq ($$(filter default undefined,$$(origin $(it))),)
 $(it) := $(subst $(hash),\$(hash),$(subst $$,$$$$,$($(it))))
 endif)
@@ -89,11 +91,12 @@ $(OUT)/settings: FORCE
 	@printf '%s\n' "$$told" | cmp -s - $(OUT)/told || printf '%s\n' "$$told" > $(OUT)/told
 	@printf '%s\n' "$$settings" | cmp -s - $@ || printf '%s\n' "$$settings" > $@
 
-$(OUT)/proved.o: $(code) $(OUT)/settings
+headers := ffi/lib/include/pkcs1.h ffi/lib/include/pkcs1_c.h
+$(OUT)/proved.o: $(code) $(headers) $(OUT)/settings
 	$(if $(filter c,$(CODE)),$(compile),$(assemble))
 $(OUT)/tool.o: $(GENERATED)/$(machine)/pkcs1_tool.s $(OUT)/settings
 	$(assemble)
-$(OUT)/calls.o: ffi/lib/pkcs1.c ffi/lib/include/pkcs1.h ffi/lib/include/pkcs1_c.h $(OUT)/settings
+$(OUT)/calls.o: ffi/lib/pkcs1.c $(headers) $(OUT)/settings
 	$(compile)
 $(OUT)/os.o: ffi/lib/os.c $(OUT)/settings
 	$(compile)
@@ -112,9 +115,9 @@ check test: all
 	ffi/tests/check.sh $(OUT)
 
 install: all
-	DESTDIR='$(DESTDIR)' LIBDIR='$(LIBDIR)' ffi/lib/install.sh add '$(PREFIX)' $(version) $(OUT) $(tool)
+	ffi/lib/install.sh add "$$PREFIX" $(version) $(OUT) $(tool)
 uninstall:
-	DESTDIR='$(DESTDIR)' LIBDIR='$(LIBDIR)' ffi/lib/install.sh remove '$(PREFIX)' $(version)
+	ffi/lib/install.sh remove "$$PREFIX" $(version)
 
 clean:
 	rm -rf $(OUT)

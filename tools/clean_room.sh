@@ -7,7 +7,7 @@
 #     tools/clean_room.sh             all of this
 #     tools/clean_room.sh FOLDER      the first half of it, of a copy of this folder: README's commands, and programs
 set -eu
-here=$(cd "$(dirname "$0")" && pwd)
+here=$(realpath "$(dirname "$0")")
 ulimit -t 600 # no test runs forever
 . "$here/shell.sh"
 . "$here/platforms.sh"
@@ -47,7 +47,11 @@ c_program() {
     local prefix=$room/installed
     make install PREFIX="$prefix"
     [ "$(find "$prefix" -type f ! -perm 644 -printf '%P %m')" = 'bin/pkcs1_tool 755' ] || stop "what is installed has other modes"
+    [ ! -e SBOM.spdx.json ] || cmp SBOM.spdx.json "$prefix/share/doc/libpkcs1/SBOM.spdx.json"
     export PKG_CONFIG_PATH=$prefix/lib/pkgconfig
+    # shellcheck disable=SC2046 # words
+    [ "$(echo $(pkg-config --cflags-only-other --libs-only-other --libs-only-l libpkcs1))" = -lpkcs1 ] ||
+        stop "libpkcs1.pc adds options"
     # shellcheck disable=SC2046 # words
     cc ffi/examples/modulus.c $(pkg-config --cflags --libs libpkcs1) -Wl,-rpath,"$prefix/lib" -o "$room/shared"
     # shellcheck disable=SC2046 # words
@@ -109,8 +113,9 @@ sanitized() {
 # What make was told is what is installed; another Makefile makes all again.
 # shellcheck disable=SC2016 # make and the shell that it starts expand this
 told() {
-    local prefix=$room/told
-    make OUT=out/options CFLAGS='-O1 -DX="\"a#b\$$c\""' LDFLAGS=-Wl,-z,nodelete
+    local prefix=$room/what\'s\ told
+    ! make OUT=out/options CPPFLAGS='-include nowhere.h' || stop "CPPFLAGS aren't used"
+    make OUT=out/options CFLAGS='-O1 -DX="\"a#b\$$c\""' CPPFLAGS=-D_FORTIFY_SOURCE=2 LDFLAGS=-Wl,-z,nodelete
     cp -r out/options "$room/built"
     make install OUT=out/options PREFIX="$prefix"
     diff -r out/options "$room/built" || stop "make install makes other files than make"
@@ -122,6 +127,23 @@ told() {
     sed -i 's,-z\,now -o,-z\,now -Wl\,-rpath\,/nowhere -o,' "$room/edited/Makefile"
     make -C "$room/edited"
     readelf -d "$room/edited/out/pkcs1_tool" | grep -q /nowhere || stop "another Makefile makes nothing again"
+    touch "$room/edited/ffi/lib/include/pkcs1_c.h"
+    make -C "$room/edited" | grep -q -- '-c ffi/lib/pkcs1.c ' || stop "another header makes nothing again"
+}
+# Installed below DESTDIR, where nothing is asked of this system, and uninstalled: all of it, or nothing.
+staged() {
+    local to=$room/staged
+    mkdir "$room/system"
+    printf '#!/bin/sh\ntouch "%s"\n' "$room/asked" > "$room/system/ldconfig"
+    chmod +x "$room/system/ldconfig"
+    PATH=$room/system:$PATH make install DESTDIR="$to" PREFIX=/usr LIBDIR=/usr/lib64
+    [ ! -e "$room/asked" ] || stop "ldconfig is called for what is staged"
+    cp -r "$to" "$room/kept"
+    ! make uninstall DESTDIR="$to" PREFIX=/usr 2> "$room/printed" || stop "uninstall takes another LIBDIR"
+    grep -q 'there is no .*/usr/lib/libpkcs1.a: ' "$room/printed" || stop "uninstall doesn't say what is missing"
+    diff -r "$to" "$room/kept" || stop "uninstall is refused, and done in part"
+    make uninstall DESTDIR="$to" PREFIX=/usr LIBDIR=/usr/lib64
+    [ -z "$(find "$to" ! -type d)" ] || stop "uninstall leaves files"
 }
 # With clang alone, by the name cc or its own.
 without_gcc() {
@@ -209,7 +231,7 @@ changes() {
 }
 interface() {
     changes 's/uint8_t salt_len;/uint16_t salt_len;/' 's/\(prime1\), \(prime2\)/\2, \1/' 's/size_t others_room/uint32_t others_room/' \
-        's/struct pkcs1_bytes \*listed/struct pkcs1_other_prime *listed/' '/^const char \*pkcs1_version/d' \
+        's/^extern const struct pkcs1_bytes /&*/' '/^const char \*pkcs1_version/d' \
         's/PKCS1_VALUE = 14/PKCS1_VALUE = 18/' 's/^bool pkcs1_pss_is/int pkcs1_pss_is/' 's/pkcs1_oid_mgf1, //'
     "$room/changed/tests/check_abi.sh"
     sed -i 's/^uint64_t pkcs1_bit_len/uint64_t pkcs1_new(void);\n&/' "$room/changed/lib/include/pkcs1.h"
@@ -234,12 +256,12 @@ plain_program() {
 crate_tests() {
     cargo test --offline --quiet --manifest-path rust/Cargo.toml
 }
-# Made in another folder, of sources that can't be written, by a user who isn't root, where this machine has one here. It
-# is made as for a machine that isn't like x86-64.
+# A release, made in another folder, of sources that can't be written, by a user who isn't root, where this machine has one
+# here. It is made as for a machine that isn't like x86-64.
 read_only() {
     local user=(setpriv --reuid=65534 --regid=65534 --clear-groups)
     "${user[@]}" true || user=()
-    git clone --quiet . "$room/locked"
+    cp -r . "$room/locked"
     chmod -R a-w,go+rX "$room/locked"
     chmod 711 "$room"
     mkdir -m 777 "$room/c"
@@ -248,10 +270,12 @@ read_only() {
 }
 release() {
     local it
-    tools/release.sh "$room/release"
+    ssh-keygen -q -t ed25519 -N '' -f "$room/key"
+    tools/release.sh "$room/release" "$room/key"
     git clone --quiet . "$room/again"
-    (umask 077 && cd "$room/again" && tools/release.sh "$room/release_again")
+    (umask 077 && cd "$room/again" && tools/release.sh "$room/release_again" "$room/key")
     diff -r "$room/release" "$room/release_again"
+    (verified "$room/release_again")
     echo > "$room/again/new"
     ! "$room/again/tools/release.sh" "$room/refused" || stop "a release is made of what isn't committed"
     [ ! -e "$room/refused" ] || stop "a release is refused, and made in part"
@@ -264,6 +288,7 @@ release() {
         tar xzf "$it" -C "$room"
     done
     mv "$room"/pkcs1-proved-*-one-file "$room/one file"
+    mv "$room"/pkcs1-proved-*-corpus "$room/corpus"
     mv "$room"/pkcs1-proved-* "$room/unpacked"
     (cd "$room/unpacked" && sha256sum --quiet -c SHA256SUMS && tools/fresh.sh && tools/erase/compare.py)
     for it in crates/*/{src,specs,proofs}; do
@@ -272,6 +297,19 @@ release() {
     tools/docs/check_tree.py "$room/unpacked" README.md
     grep -qx "commit: $(git rev-parse HEAD)" "$room/unpacked/ffi/lib/generated/PROVENANCE" || stop "no commit is named"
     parts "$room/unpacked"
+}
+# verified FOLDER: the commands in VERIFY.txt accept each archive, and none that is changed.
+verified() {
+    local command commands
+    cd "$1"
+    echo "pkcs1-proved $(cat "$room/key.pub")" > SIGNERS
+    mapfile -t commands < <(sed -n 's/^    //p' VERIFY.txt)
+    [ ${#commands[@]} = 3 ] || stop "VERIFY.txt has ${#commands[@]} commands, not 3"
+    for command in "${commands[@]}"; do
+        sh -c "$command"
+        echo >> "${command##*< }"
+        ! sh -c "$command" || stop "a changed archive is verified"
+    done
 }
 # The one file of a release, which is that of make too: in a program of one's own, and under the C test.
 one_file() {
@@ -297,7 +335,13 @@ others = {"pkcs1-proved", "pkcs1-proved-crate", "core", "alloc", "rustc", "LLVM"
 assert len(built) == 8 and parts.keys() == built | others, parts.keys()
 hashes = [it["checksums"][0]["checksumValue"] for it in parts.values() if "checksums" in it]
 assert hashes == re.findall(r"sha256 ([0-9a-f]{64})", said) and len(hashes) == 1, hashes
-assert all("Apache-2.0" in it["licenseDeclared"] for it in parts.values()), parts
+for it in parts.values():
+    names = {ref["referenceType"]: ref["referenceLocator"] for ref in it["externalRefs"]}
+    assert "Apache-2.0" in it["licenseConcluded"] == it["licenseDeclared"], it
+    assert it["supplier"] in ("Organization: Vedqunor maintainers", "Organization: Debian"), it
+    number = it["versionInfo"].split()[0]
+    assert re.fullmatch(rf"pkg:(generic|deb/debian)/[a-z0-9-]+@{number}(%2B\S+)?(\?arch=source)?(#[a-z0-9_/]+)?", names["purl"]), it
+    assert re.fullmatch(rf"cpe:2\.3:a:[a-z-]+:[a-z0-9-]+:{number}(:\*){{7}}", names["cpe23Type"]), it
 ends = {it[end] for it in list_["relationships"] for end in ("spdxElementId", "relatedSpdxElement")}
 assert ends == {"SPDXRef-DOCUMENT", *(it["SPDXID"] for it in parts.values())}, ends
 END
@@ -309,14 +353,16 @@ inside() {
     ! command -v rt > /dev/null || stop "the toolchain can be reached, as $(command -v rt)"
     ! grep : /proc/net/dev | grep -qv ' lo:' || stop "the network can be reached"
     cd "$room/the tree"
+    mkdir -p "$room"/elsewhere/{ffi/{lib,tests},tools}
+    export CDPATH=$room/elsewhere # where no script goes
     use tree
     [ "$2" = all ] || return 0
     step "tree: the crate's tests" crate_tests
     step "tree: a program in Rust with the crate vendored" vendored_program
-    platform "Linux" "x86-64" "C as for other machines, by make and gcc" "tested" -- read_only
     platform "Linux" "x86-64" "C, by make and clang, with sanitizers" "tested" -- sanitized
     platform "Linux" "x86-64" "assembly, by make and clang" "linked" -- without_gcc
     step "tree: what make was told" told
+    step "tree: make install and uninstall, staged" staged
     platform "Linux" "x86-64" "assembly, by make and gcc, with -fsanitize=address" "tested" -- address
     platform "Linux" "x86-64 with musl" "assembly, by make and musl-gcc" "tested" -- musl
     platform "Linux" "x86-64" "assembly, by make, clang and LLVM's tools" "linked" -- llvm
@@ -326,8 +372,10 @@ inside() {
     step "tree: make install, without a prefix" prints plain_program
     step "a release" release
     cd "$room/unpacked"
+    platform "Linux" "x86-64" "C as for other machines, by make and gcc" "tested" -- read_only
     use release
     step "release: the crate's tests" crate_tests
+    step "release: what is fuzzed" ffi/tests/fuzz/run.sh 0 out
     platform "Linux" "x86-64" "one file, by gcc" "tested" -- one_file
     all_declared "$here/clean_room.sh"
 }
@@ -355,7 +403,7 @@ trap 'rm -rf "$room"' EXIT
 needs unshare make cc ar objcopy readelf pkg-config cargo
 case $#:${1-} in
     0:)
-        needs git clang python3 setpriv musl-gcc llvm-nm
+        needs git clang python3 setpriv ssh-keygen musl-gcc llvm-nm
         echo 'int main(void) { return 0; }' > "$room/empty.c"
         clang -fsanitize=address,undefined "$room/empty.c" -o "$room/empty" 2> /dev/null ||
             stop "clang's sanitizers (libclang-rt-14-dev) aren't installed, and are needed"

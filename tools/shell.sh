@@ -1,6 +1,7 @@
 # shellcheck shell=bash
 # Sourced by scripts: how they end where they can't go on, with the status $failure, and what they need.
 failure=1
+unset CDPATH # by which cd may print, or go elsewhere
 
 # stop TEXT: says in a line why the script ends.
 stop() {

@@ -5,7 +5,7 @@
 #     install.sh remove PREFIX VERSION
 set -eu
 umask 022
-here=$(cd "$(dirname "$0")" && pwd)
+here=$(realpath "$(dirname "$0")")
 top=$here/../..
 action=$1 prefix=$2 version=$3
 case $prefix in
@@ -59,6 +59,7 @@ add() {
     put 644 "$top/LICENSE-APACHE" "$doc"
     put 644 "$top/LICENSE-MIT" "$doc"
     put 644 "$here/copyright" "$doc"
+    [ ! -e "$top/SBOM.spdx.json" ] || put 644 "$top/SBOM.spdx.json" "$doc" # a release has it
     if [ -n "$tool" ]; then
         mkdir -p "$bin" "$man"
         put 755 "$tool" "$bin"
@@ -69,13 +70,16 @@ add() {
     echo "installed below ${DESTDIR-}$prefix: libpkcs1${tool:+, pkcs1_tool and its man page}"
 }
 remove() {
-    [ -e "$include/pkcs1.h" ] || {
-        echo "ffi/lib/install.sh: libpkcs1 isn't installed below ${DESTDIR-}$prefix" >&2
-        exit 1
-    }
+    local it
+    for it in "$include/pkcs1.h" "$lib/libpkcs1.a"; do
+        [ -e "$it" ] || {
+            echo "ffi/lib/install.sh: there is no $it: PREFIX and LIBDIR are to be those of the install" >&2
+            exit 1
+        }
+    done
     rm -f "$include/pkcs1.h" "$lib"/libpkcs1.{a,so,dll.a} "$lib/$soname" \
         "$lib/pkgconfig/libpkcs1.pc" "$bin"/{pkcs1_tool,"$dll"} "$man/pkcs1_tool.1" \
-        "$doc"/{LICENSE-APACHE,LICENSE-MIT,copyright}
+        "$doc"/{LICENSE-APACHE,LICENSE-MIT,copyright,SBOM.spdx.json}
     rmdir --ignore-fail-on-non-empty "$doc"
 }
 case $action in

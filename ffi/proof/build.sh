@@ -17,7 +17,7 @@ usage="usage: ffi/proof/build.sh                    builds libpkcs1 into ffi/out
    CRATES: another folder of the same crates, with the libraries that rt ci proved, for --library
    DESTDIR, LIBDIR: a folder to install below, and the libraries' folder in place of PREFIX/lib
    CC, CFLAGS, LDFLAGS: the compiler, its options, and those for linking libpkcs1.so"
-here=$(cd "$(dirname "$0")" && pwd)
+here=$(realpath "$(dirname "$0")")
 ffi=$here/..
 . "$here/../../tools/shell.sh"
 crate=$ffi/../crates/pkcs1_c

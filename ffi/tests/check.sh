@@ -7,7 +7,7 @@ set -eu
 # No test runs forever.
 # shellcheck disable=SC3045 # dash has it, and bash
 [ "$(ulimit -t)" != unlimited ] || ulimit -t 600
-out=$(cd "$1" && pwd)
+out=$(realpath "$1")
 cd "$(dirname "$0")/../.."
 export LC_ALL=C
 CC=${CC:-cc} nm=${NM:-nm} readelf=${READELF:-readelf}

@@ -58,7 +58,7 @@ count_all() {
         return
     fi
     for code in assembly c; do
-        quietly make OUT="$room/$code.out" CC=gcc CFLAGS=-O2 LDFLAGS= CODE=$code "$room/$code.out/libpkcs1.a"
+        quietly make OUT="$room/$code.out" CC=gcc CFLAGS=-O2 CPPFLAGS= LDFLAGS= CODE=$code "$room/$code.out/libpkcs1.a"
         count $code "$room/$code.out/libpkcs1.a"
     done
     awk 'NR == FNR { c[$1, $2] = $3; next } { printf "%s %8d\n", $0, c[$1, $2] }' "$room"/{c,assembly} >> "$room/counts"

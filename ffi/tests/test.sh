@@ -4,7 +4,7 @@
 # libFuzzer makes; installed, and found by pkg-config; on what OpenSSL makes. A tool that isn't installed is reported, and
 # its tests are left out.
 set -eu
-here=$(cd "$(dirname "$0")" && pwd)
+here=$(realpath "$(dirname "$0")")
 . "$here/../../tools/shell.sh"
 ffi=$here/..
 out=$ffi/out

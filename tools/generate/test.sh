@@ -4,7 +4,7 @@
 # them: a panic is a trap, and what isn't known is refused. It needs gcc, clang, llc, binutils and python3, and for the
 # other processor its gcc and qemu.
 set -eu
-here=$(cd "$(dirname "$0")" && pwd)
+here=$(realpath "$(dirname "$0")")
 . "$here/../shell.sh"
 ffi=$here/../../ffi
 rows=$here/../../crates/pkcs1_vectors/stdin

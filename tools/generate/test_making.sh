@@ -2,7 +2,7 @@
 # test_making.sh: tests how generate.sh makes and compares files, and what it refuses. rustc is a stand-in here, which
 # gives a function of its own, and what was made isn't tested. test.sh calls it.
 set -eu
-here=$(cd "$(dirname "$0")" && pwd)
+here=$(realpath "$(dirname "$0")")
 . "$here/../shell.sh"
 room=$(mktemp -d)
 trap 'rm -rf "$room"' EXIT

@@ -8,18 +8,8 @@ cd "$(dirname "$0")/../../.."
 seconds=${1:-60} out=${2:-out}
 room=$(mktemp -d)
 trap 'rm -rf "$room"' EXIT
-mkdir "$room/rows" "$room/found"
-python3 - "$room/rows" << 'END'
-import glob, re, sys
-tests = open("ffi/tests/rows.c").read()
-kinds = re.findall(r'"([a-z-]+)"', re.search(r"kinds\[KINDS\] = \{(.*?)\}", tests, re.S)[1])
-rows = [line.split()[:2] for line in open("crates/pkcs1_vectors/stdin") if line.split(" ")[0] in kinds]
-inputs = [(kinds.index(kind), b"" if der == "-" else bytes.fromhex(der)) for kind, der in rows]
-for path in glob.glob("ffi/tests/keys/*.der"):
-    inputs += [(kind, open(path, "rb").read()) for kind in range(len(kinds))]
-for i, (kind, der) in enumerate(inputs):
-    open(f"{sys.argv[1]}/{i}", "wb").write(bytes([kind]) + der)
-END
+mkdir "$room/found"
+ffi/tests/fuzz/corpus.py "$room/rows"
 ffi/proof/seam/seam.py ffi/proof/pkcs1.acsl.h ffi/lib/include/pkcs1.h > "$room/seam.c"
 mapfile -t wraps < <(sed -n 's/^[a-z0-9_]* __real_\(pkcs1_c_[a-z_]*\)(.*;$/-Wl,--wrap=\1/p' "$room/seam.c")
 # build PROGRAM FLAG.. SOURCE..: links it with the proved calls, which are watched.
