@@ -146,7 +146,31 @@ static void long_identifier(void) {
     free(der);
 }
 
-/* Numbers of 512 MB and of over 4 GB. The first one that can't be held tells the status. */
+/* Of each two numbers that can't be held, the first tells the status: in a key, and in its other prime, if it has one. */
+static void first_faults(struct pkcs1_bytes small, struct pkcs1_bytes past) {
+    const struct pkcs1_bytes none = {NULL, 0};
+    struct pkcs1_private_key key;
+    struct pkcs1_other_prime other;
+    struct pkcs1_bytes *numbers[] = {
+        &key.modulus, &key.public_exponent, &key.private_exponent, &key.prime1, &key.prime2, &key.exponent1,
+        &key.exponent2, &key.coefficient, &other.prime, &other.exponent, &other.coefficient};
+    for (size_t i = 0; i < 2 * 11 * 11 * 2; i++) {
+        size_t others = i % 2, first = i / 4 % 11, second = i / 44, len = 77;
+        bool is_past = i / 2 % 2 == 1;
+        if (first >= second || (others == 0 && second > 7))
+            continue;
+        for (size_t at = 0; at < 11; at++)
+            *numbers[at] = small;
+        key.other_primes = others;
+        other.coefficient = none;
+        *numbers[first] = is_past ? past : none;
+        *numbers[second] = is_past ? none : past;
+        uint32_t status = pkcs1_private_key_encode(&key, &other, others, NULL, 0, &len);
+        CHECK(status == (is_past ? PKCS1_OVERFLOW : PKCS1_LENGTH) && len == 77);
+    }
+}
+
+/* Numbers of 512 MB and of over 4 GB. */
 static void longest_numbers(void) {
     static const uint8_t one[] = {0x80};
     const uint64_t most = UINT32_MAX;
@@ -154,16 +178,12 @@ static void longest_numbers(void) {
     size_t len = 77;
     if (far == NULL)
         return;
-    struct pkcs1_bytes small = {one, 1}, none = {NULL, 0}, large = {far, 0x20000000}, past = {far, (size_t)(most + 2)};
-    struct pkcs1_private_key key = {large, small, small, small, small, small, small, small, 1};
-    struct pkcs1_other_prime other = {none, past, small};
+    struct pkcs1_bytes small = {one, 1}, large = {far, 0x20000000}, past = {far, (size_t)(most + 2)};
     CHECK(pkcs1_bit_len(large) == most + 1 && pkcs1_bit_len(past) == UINT64_MAX);
-    CHECK(pkcs1_private_key_encode(&key, &other, 1, NULL, 0, &len) == PKCS1_LENGTH && len == 77);
-    key.exponent2 = past;
-    CHECK(pkcs1_private_key_encode(&key, &other, 1, NULL, 0, &len) == PKCS1_OVERFLOW && len == 77);
-    key.prime1 = none;
-    CHECK(pkcs1_private_key_encode(&key, &other, 1, NULL, 0, &len) == PKCS1_LENGTH && len == 77);
-    struct pkcs1_public_key wide = {small, past};
+    first_faults(small, past);
+    struct pkcs1_public_key wide = {{NULL, 0}, past};
+    CHECK(pkcs1_public_key_encode(&wide, NULL, 0, &len) == PKCS1_LENGTH && len == 77);
+    wide.modulus = small;
     CHECK(pkcs1_public_key_encode(&wide, NULL, 0, &len) == PKCS1_OVERFLOW && len == 77);
     wide.public_exponent.len = (size_t)(most - 16); /* with 17 octets beside it, one is too many */
     CHECK(pkcs1_public_key_encode(&wide, NULL, 0, &len) == PKCS1_OVERFLOW && len == 77);

@@ -125,27 +125,27 @@ static void other_primes(void) {
 #if defined PKCS1_FOREIGN || SIZE_MAX != UINT64_MAX || __BYTE_ORDER__ != __ORDER_LITTLE_ENDIAN__
 enum { MOST_PRIMES = 64 };
 #else
-enum { MOST_PRIMES = 260 };
+enum { MOST_PRIMES = 520 };
 #endif
 
 /* A container of this key: all its other primes are read, of which the last begins with this number. */
 static void in_a_container(const uint8_t *der, size_t der_len, size_t count) {
     struct pkcs1_private_key_info info = {{der, der_len}, false, {NULL, 0}};
     struct pkcs1_private_key key;
-    struct pkcs1_other_prime read[260];
-    uint8_t out[4100];
+    struct pkcs1_other_prime read[520];
+    uint8_t out[8000];
     size_t len;
     CHECK(pkcs1_private_key_info_encode(&info, out, sizeof out, &len) == PKCS1_OK);
     CHECK(pkcs1_private_key_info_decode(out, len, &info, &key, read, count) == PKCS1_OK && key.other_primes == count);
     CHECK(read[count - 1].prime.len == 1 && read[count - 1].prime.data[0] == (uint8_t)count);
 }
 
-/* Each number of other primes that is written, up to 260, written and read again; not written, for lack of room or of
+/* Each number of other primes that is written, up to 520, written and read again; not written, for lack of room or of
  * a number. */
 static void many_other_primes(void) {
-    uint8_t octets[260], out[4000];
-    struct pkcs1_other_prime others[260], read[260];
-    for (size_t count = 1; count <= 260; count++) {
+    uint8_t octets[520], out[8000];
+    struct pkcs1_other_prime others[520], read[520];
+    for (size_t count = 1; count <= 520; count++) {
         struct pkcs1_private_key key, again;
         size_t len = 0;
         octets[count - 1] = (uint8_t)count;
@@ -264,6 +264,8 @@ static void absent_fields(void) {
 static void flags(uint8_t octet) {
     struct pkcs1_private_key_info info = {{two, sizeof two}, true, {NULL, 0}};
     struct pkcs1_pss_params params;
+    struct pkcs1_oaep_params oaep;
+    struct pkcs1_bytes label;
     uint8_t want[64], out[64];
     size_t want_len, len;
     CHECK(pkcs1_private_key_info_encode(&info, want, sizeof want, &want_len) == PKCS1_OK);
@@ -280,6 +282,9 @@ static void flags(uint8_t octet) {
         CHECK(len == want_len && memcmp(out, want, len) == 0);
     }
     CHECK(pkcs1_algorithm_is(&params.hash, &pkcs1_oid_sha256));
+    pkcs1_oaep_params_init(&oaep, &pkcs1_oid_sha256, two, sizeof two);
+    memset(&oaep.p_source.has_parameters, octet, 1);
+    CHECK(pkcs1_oaep_label(&oaep, &label) && label.data == two && label.len == sizeof two);
 }
 
 /* Parameters for each hash function: the constants are the right octets. */
@@ -427,11 +432,11 @@ static void labels(void) {
 
 static void compared(void) {
     uint8_t copy[9];
-    struct pkcs1_bytes left = {copy, 9}, none = {NULL, 0}, empty = {copy, 0};
+    struct pkcs1_bytes left = {copy, 9}, shorter = {copy, 8}, none = {NULL, 0}, empty = {copy, 0};
     memcpy(copy, pkcs1_oid_sha256.data, 9);
     CHECK(pkcs1_oid_equal(&left, &pkcs1_oid_sha256) && !pkcs1_oid_equal(&left, &pkcs1_oid_sha384));
-    left.len = 8;
-    CHECK(!pkcs1_oid_equal(&left, &pkcs1_oid_sha256) && !pkcs1_oid_equal(&pkcs1_oid_sha256, &left));
+    CHECK(!pkcs1_oid_equal(&left, &shorter) && !pkcs1_oid_equal(&shorter, &left));
+    CHECK(!pkcs1_oid_equal(&shorter, &pkcs1_oid_sha256) && !pkcs1_oid_equal(&pkcs1_oid_sha256, &shorter));
     CHECK(pkcs1_oid_equal(&none, &empty) && pkcs1_oid_equal(&none, &none) && !pkcs1_oid_equal(&none, &left));
 }
 
