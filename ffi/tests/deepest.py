@@ -3,9 +3,10 @@
 
     deepest.py LIBPKCS1.SO      prints two numbers: of the calls that decode, and of those that encode
 
-They are those of the deepest way from call to call in the code for x86-64 or i386. How deep the stack is at an instruction say
-the tables by which a debugger goes back. Functions of the C library aren't looked into. Code is refused if it calls an
-address, if a frame has no fixed size, or if a way comes back to a call that hasn't returned, but for one function.
+They are those of the deepest way from call to call in the code for x86-64 or i386. How deep the stack is at an
+instruction say the tables by which a debugger goes back. Functions of the C library aren't looked into. Code is refused
+if it calls an address, if a frame has no fixed size, or if a way comes back to a call that hasn't returned, but for one
+function.
 """
 import bisect
 import re
@@ -24,8 +25,8 @@ def printed(*words):
 
 
 def read_depths(library):
-    """Where the depth of the stack changes, and to what; and the octets of an address, by which a call deepens it. The depth
-    is None in a frame of no fixed size."""
+    """Where the depth of the stack changes, to what, and by how much a call deepens it. It is None in a frame of no fixed
+    size."""
     table = printed("readelf", "--debug-dump=frames-interp", library)
     address = int(re.search(r" cf=\d+ df=-(\d+) ", table)[1])
     depths = {int(begin, 16): address for begin in re.findall(r" pc=([0-9a-f]+)\.\.", table)}
