@@ -49,8 +49,7 @@ c_program() {
     [ "$(find "$prefix" -type f ! -perm 644 -printf '%P %m')" = 'bin/pkcs1_tool 755' ] || stop "what is installed has other modes"
     [ ! -e SBOM.spdx.json ] || cmp SBOM.spdx.json "$prefix/share/doc/libpkcs1/SBOM.spdx.json"
     export PKG_CONFIG_PATH=$prefix/lib/pkgconfig
-    # shellcheck disable=SC2046 # words
-    [ "$(echo $(pkg-config --cflags-only-other --libs-only-other --libs-only-l libpkcs1))" = -lpkcs1 ] ||
+    [ "$(pkg-config --cflags-only-other --libs-only-other --libs-only-l libpkcs1 | xargs)" = -lpkcs1 ] ||
         stop "libpkcs1.pc adds options"
     # shellcheck disable=SC2046 # words
     cc ffi/examples/modulus.c $(pkg-config --cflags --libs libpkcs1) -Wl,-rpath,"$prefix/lib" -o "$room/shared"

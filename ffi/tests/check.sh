@@ -1,9 +1,10 @@
 #!/bin/sh
 # check.sh OUT [PART]: tests what make left in this folder: what a linker, a loader and a debugger ask of it, the C test
 # over the static and the shared library, a program without a C library, and the tool. Where there is no ELF it is the C
-# test alone, for Windows over the DLL too. PART is one of the functions here: `shared`, `objects` or `freestanding`. CC, CFLAGS,
-# NM, READELF and RUN are as in the Makefile, which calls this.
+# test alone, for Windows over the DLL too. PART is one of the functions here: `shared`, `objects` or `freestanding`. CC,
+# CFLAGS, NM, READELF and RUN are as in the Makefile, which calls this.
 set -eu
+unset CDPATH
 # No test runs forever.
 # shellcheck disable=SC3045 # dash has it, and bash
 [ "$(ulimit -t)" != unlimited ] || ulimit -t 600

@@ -8,7 +8,7 @@ cd "$(dirname "$0")/../.."
 . tools/shell.sh
 room=$(mktemp -d)
 trap 'rm -rf "$room"' EXIT
-export CC=gcc CFLAGS=-O2 CPPFLAGS= LDFLAGS=
+export CC=gcc CFLAGS=-O2 CPPFLAGS='' LDFLAGS=''
 warned='-std=c99 -Wall -Wextra -Werror -pedantic -Iffi/lib/include'
 coders=$(grep -oE 'pkcs1_[a-z0-9_]*_(de|en)code(_strict)?\(' ffi/lib/include/pkcs1.h | tr -d '(')
 
