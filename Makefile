@@ -56,7 +56,6 @@ $(error there is no $($(missing)): install binutils, or name your own, as in mak
 endif
 endif
 export CC CFLAGS LDFLAGS AR OBJCOPY NM READELF RUN PREFIX LIBDIR DESTDIR
-unexport CDPATH
 
 CODE ?= $(if $(filter x86_64 aarch64,$(machine)),assembly,c)
 code := $(GENERATED)/$(if $(filter c,$(CODE)),pkcs1_c.c,$(machine)/pkcs1_c.s)

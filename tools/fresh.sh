@@ -4,6 +4,7 @@
 #
 #     tools/fresh.sh [--hash]    the hash of what the files are made of, and of what makes them, alone
 set -eu
+unset CDPATH
 cd "$(dirname "$0")/.."
 generated=ffi/lib/generated
 text='rust/src/clones.rs rust/src/proved rust/src/rattle_std rust/src/bin/pkcs1_tool/rattle_std

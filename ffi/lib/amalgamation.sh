@@ -2,6 +2,7 @@
 # amalgamation.sh GENERATED: prints the library for C as one file, of which pkcs1.h is the only header. The Makefile calls
 # it.
 set -eu
+unset CDPATH
 generated=$(realpath "$1")
 cd "$(dirname "$0")"
 version=$(sed -n 's/^#define PKCS1_VERSION_[A-Z]* //p' include/pkcs1.h | paste -s -d .)
