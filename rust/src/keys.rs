@@ -3,10 +3,11 @@
 use crate::der::asn1::{OctetStringRef, Uint, UintRef};
 use crate::der::{self, decoded, encoded, from_slices};
 use crate::proved::der_core::read_borrowed;
-use crate::proved::pkcs1::{OtherPrimeInfo, PrivateKeyOf, RsaPrivateKeyView, Version};
+use crate::proved::pkcs1::{OtherPrimeInfo, PrivateKeyOf, Version};
 use crate::public_key::{RsaPublicKey, RsaPublicKeyRef};
 use crate::rattle_std::{alloc::Global, prelude::Vec};
 use crate::values::{Hex, Number};
+use crate::view::RsaPrivateKeyView;
 use crate::{Error, Result};
 use core::fmt;
 
@@ -235,8 +236,7 @@ pub(crate) fn asn1<T>(read: Result<T>) -> der::Result<T> {
 
 decoded! {
     {} OtherPrimeInfo<UintRef<'a>>, bytes => read_borrowed(bytes);
-    {} RsaPrivateKeyView<'a>, bytes => asn1(RsaPrivateKeyView::try_from(bytes));
-    {} RsaPrivateKey<UintRef<'a>>, bytes => RsaPrivateKey::of_view(&asn1(RsaPrivateKeyView::try_from(bytes))?);
+    {} RsaPrivateKey<UintRef<'a>>, bytes => RsaPrivateKey::of_view(&RsaPrivateKeyView::from_der(bytes)?);
     {} RsaPrivateKey<Uint>, bytes => RsaPrivateKeyRef::from_der(bytes)?.try_into();
 }
 from_slices! { RsaPrivateKey<UintRef<'a>>; RsaPrivateKey<Uint>; }

@@ -80,6 +80,7 @@ mod public_key;
 mod rattle_std;
 mod traits;
 mod values;
+mod view;
 
 pub use der::asn1::{ObjectIdentifier, Uint, UintRef};
 #[cfg(feature = "std")]
@@ -93,11 +94,12 @@ pub use param_calls::{
     RsaOaepParamsOwned, RsaOaepParamsRef, RsaOaepParamsView, RsaPssParamsOwned, RsaPssParamsRef, RsaPssParamsView,
 };
 pub use params::{RsaOaepParams, RsaPssParams};
-pub use proved::pkcs1::{Error, OtherPrimeInfo, OtherPrimes, Result, RsaPrivateKeyView, TrailerField, Version};
+pub use proved::pkcs1::{Error, OtherPrimeInfo, OtherPrimes, Result, TrailerField, Version};
 pub use public_key::{RsaPublicKey, RsaPublicKeyOwned, RsaPublicKeyRef};
 pub use traits::{DecodeRsaPrivateKey, DecodeRsaPublicKey};
 #[cfg(feature = "alloc")]
 pub use traits::{EncodeRsaPrivateKey, EncodeRsaPublicKey};
+pub use view::RsaPrivateKeyView;
 
 /// The object identifier of RSA keys, rsaEncryption (RFC 8017 A.1).
 pub const ALGORITHM_OID: ObjectIdentifier = <RsaEncryption as der::oid::AssociatedOid>::OID;

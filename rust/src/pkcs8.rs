@@ -52,7 +52,8 @@ impl<'a> PrivateKeyInfoRef<'a> {
             oid: self.algorithm.oid.as_identifier().0.to_object_identifier(),
             parameters: self.algorithm.parameters.map(|any| any.0),
         };
-        proved::PrivateKeyInfoRef { algorithm, private_key: self.private_key, attributes: None }.rsa_view()
+        let info = proved::PrivateKeyInfoRef { algorithm, private_key: self.private_key, attributes: None };
+        info.rsa_view().map(RsaPrivateKeyView)
     }
 }
 
@@ -90,7 +91,7 @@ impl<'a> RsaPrivateKeyRef<'a> {
     ///
     /// The slice is no container, or as of `PrivateKeyInfoRef::rsa_view`.
     pub fn from_pkcs8_der(bytes: &'a [u8]) -> Result<RsaPrivateKeyRef<'a>> {
-        Ok(RsaPrivateKeyRef::of_view(&proved::rsa_from_pkcs8_der(bytes)?)?)
+        Ok(RsaPrivateKeyRef::of_view(&RsaPrivateKeyView(proved::rsa_from_pkcs8_der(bytes)?))?)
     }
 }
 

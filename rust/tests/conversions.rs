@@ -41,6 +41,8 @@ fn structs_are_made_of_views() {
     let (der, pss) = (made::private_key(0), made::pss(made::SHA_256, 32));
     let key = RsaPrivateKeyRef::try_from(RsaPrivateKeyView::try_from(&der[..]).unwrap()).unwrap();
     assert_eq!(key.encode_to_slice(&mut [0; 1400]).unwrap(), der);
+    let public: RsaPublicKeyRef<'_> = RsaPrivateKeyView::try_from(&der[..]).unwrap().public_key();
+    assert_eq!(public, key.public_key());
     let view = RsaPssParamsView::try_from(&pss[..]).unwrap();
     assert_eq!((RsaPssParamsRef::from(view), salt(&view)), (RsaPssParamsRef::new::<Sha256>(32), (9, 32)));
     let view = RsaOaepParamsView::default();

@@ -1,0 +1,91 @@
+//! RSA private keys over the input.
+
+use crate::der::asn1::UintRef;
+use crate::der::{decoded, from_slices};
+use crate::keys::asn1;
+use crate::proved::pkcs1::{self as proved, OtherPrimes, Version};
+use crate::public_key::{RsaPublicKey, RsaPublicKeyRef};
+use crate::values::Hex;
+use core::fmt;
+
+/// An RSA private key (RFC 8017 A.1.2) over its encoding. It allocates nothing, however many primes there are. No
+/// relation between the numbers is checked.
+#[derive(Clone, Copy)]
+pub struct RsaPrivateKeyView<'a>(pub(crate) proved::RsaPrivateKeyView<'a>);
+
+macro_rules! numbers {
+    ($($(#[doc = $doc:literal])* $name:ident;)*) => {
+        impl<'a> RsaPrivateKeyView<'a> { $(
+            $(#[doc = $doc])*
+            #[inline]
+            #[must_use]
+            pub fn $name(&self) -> UintRef<'a> {
+                self.0.$name()
+            }
+        )* }
+    };
+}
+numbers! {
+    /// The modulus n.
+    modulus;
+    /// The public exponent e.
+    public_exponent;
+    /// The private exponent d.
+    private_exponent;
+    /// The first prime p.
+    prime1;
+    /// The second prime q.
+    prime2;
+    /// The exponent of the first prime: d modulo p - 1.
+    exponent1;
+    /// The exponent of the second prime: d modulo q - 1.
+    exponent2;
+    /// The coefficient: the inverse of q modulo p.
+    coefficient;
+}
+
+impl<'a> RsaPrivateKeyView<'a> {
+    /// The version: `Multi` if there are other primes.
+    #[inline]
+    #[must_use]
+    pub fn version(&self) -> Version {
+        self.0.version()
+    }
+
+    /// The public key.
+    #[inline]
+    #[must_use]
+    pub fn public_key(&self) -> RsaPublicKeyRef<'a> {
+        RsaPublicKey { modulus: self.modulus(), public_exponent: self.public_exponent() }
+    }
+
+    /// The primes after the first two, in order. There are none if the version is `TwoPrime`.
+    #[inline]
+    #[must_use]
+    pub fn other_primes(&self) -> OtherPrimes<'a> {
+        self.0.other_primes()
+    }
+
+    /// The encoding of the key: the slice that was read, or the octets in the container's privateKey.
+    #[inline]
+    #[must_use]
+    pub fn as_bytes(&self) -> &'a [u8] {
+        self.0.as_bytes()
+    }
+}
+
+impl fmt::Debug for RsaPrivateKeyView<'_> {
+    /// Prints the version, the modulus and the public exponent, but nothing secret.
+    fn fmt(&self, f: &mut fmt::Formatter<'_>) -> fmt::Result {
+        f.debug_struct("RsaPrivateKeyView")
+            .field("version", &self.version())
+            .field("modulus", &Hex(self.modulus().as_bytes()))
+            .field("public_exponent", &Hex(self.public_exponent().as_bytes()))
+            .finish_non_exhaustive()
+    }
+}
+
+decoded! {
+    {} RsaPrivateKeyView<'a>, bytes => asn1(proved::RsaPrivateKeyView::try_from(bytes)).map(RsaPrivateKeyView);
+}
+from_slices! { RsaPrivateKeyView<'a>; }
