@@ -1,0 +1,86 @@
+//! Errors.
+
+use core::fmt;
+
+/// The result of the calls in this crate.
+pub type Result<T> = core::result::Result<T, Error>;
+
+/// The error of the calls in this crate.
+#[derive(Clone, Copy, Debug, PartialEq, Eq)]
+#[non_exhaustive]
+pub enum Error {
+    /// The encoding is wrong, or a file can't be read or written.
+    Asn1(der::Error),
+    /// For callers: the numbers make no key.
+    Crypto,
+    /// For callers: the key is malformed.
+    KeyMalformed,
+    /// A container is wrong.
+    #[cfg(feature = "pkcs8")]
+    Pkcs8(pkcs8::Error),
+    /// There is no such version.
+    Version,
+}
+
+impl fmt::Display for Error {
+    fn fmt(&self, f: &mut fmt::Formatter<'_>) -> fmt::Result {
+        match self {
+            Error::Asn1(error) => write!(f, "PKCS#1 ASN.1 error: {error}"),
+            Error::Crypto => f.write_str("PKCS#1 cryptographic error"),
+            Error::KeyMalformed => f.write_str("PKCS#1 malformed key"),
+            #[cfg(feature = "pkcs8")]
+            Error::Pkcs8(error) => error.fmt(f),
+            Error::Version => f.write_str("PKCS#1 version error"),
+        }
+    }
+}
+
+impl core::error::Error for Error {}
+
+impl From<der::Error> for Error {
+    fn from(error: der::Error) -> Error {
+        Error::Asn1(error)
+    }
+}
+
+#[cfg(feature = "pem")]
+impl From<der::pem::Error> for Error {
+    fn from(error: der::pem::Error) -> Error {
+        Error::Asn1(error.into())
+    }
+}
+
+#[cfg(feature = "pkcs8")]
+impl From<pkcs8::Error> for Error {
+    fn from(error: pkcs8::Error) -> Error {
+        Error::Pkcs8(error)
+    }
+}
+
+#[cfg(feature = "pkcs8")]
+impl From<Error> for pkcs8::Error {
+    fn from(error: Error) -> pkcs8::Error {
+        match error {
+            Error::Asn1(error) => pkcs8::Error::Asn1(error),
+            Error::Pkcs8(error) => error,
+            _ => crate::release::containers::MALFORMED,
+        }
+    }
+}
+
+#[cfg(feature = "pkcs8")]
+impl From<pkcs8::spki::Error> for Error {
+    fn from(error: pkcs8::spki::Error) -> Error {
+        Error::Pkcs8(error.into())
+    }
+}
+
+#[cfg(feature = "pkcs8")]
+impl From<Error> for pkcs8::spki::Error {
+    fn from(error: Error) -> pkcs8::spki::Error {
+        match error {
+            Error::Asn1(error) => pkcs8::spki::Error::Asn1(error),
+            _ => pkcs8::spki::Error::KeyMalformed,
+        }
+    }
+}
