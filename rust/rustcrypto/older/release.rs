@@ -23,7 +23,7 @@ macro_rules! decode_value {
     ($name:ty, $read:path) => {
         impl<'a> ::der::DecodeValue<'a> for $name {
             fn decode_value<R: ::der::Reader<'a>>(reader: &mut R, header: ::der::Header) -> ::der::Result<Self> {
-                $read(reader, header.length)
+                $read(reader, $crate::release::length(&header))
             }
         }
     };
@@ -32,6 +32,10 @@ pub(crate) use decode_value;
 
 pub(crate) fn header(tag: Tag, length: Length) -> der::Result<Header> {
     Header::new(tag, length)
+}
+
+pub(crate) fn length(header: &Header) -> Length {
+    header.length
 }
 
 /// Reads an explicit field if it is next, for the error alone.

@@ -4,7 +4,7 @@ use crate::small::Version;
 use crate::whole::{Proved, Written, decode_borrowed, decoded, encoded};
 use core::fmt;
 use der::asn1::UintRef;
-use der::{Decode, Reader, Sequence};
+use der::{Decode, ErrorKind, Reader, Sequence, Tag};
 
 /// The primes of a private key after the first two: a list, or without the feature `alloc` none.
 #[cfg(feature = "alloc")]
@@ -214,15 +214,26 @@ where
     }
 
     fn fault<'r>(contents: &mut impl Reader<'r>) -> der::Result<()> {
-        let version = Version::decode(contents)?;
+        let version = u8::decode(contents)?;
+        let wrong = ErrorKind::Value { tag: Tag::Integer };
+        if version > Version::Multi.into() {
+            return Err(wrong.into());
+        }
         numbers(contents, 8)?;
-        if version.is_multi() {
+        let others = match contents.peek_byte() {
+            Some(octet) => Tag::from_der(&[octet])? == Tag::Sequence,
+            None => false,
+        };
+        if others {
             contents.sequence(|list| {
                 while !list.is_finished() {
                     list.sequence(|prime| numbers(prime, 3))?;
                 }
                 Ok::<(), der::Error>(())
             })?;
+        }
+        if version != u8::from(others) {
+            return Err(contents.error(wrong));
         }
         Ok(())
     }
@@ -241,7 +252,7 @@ fn other<'w, 'a, U: Held<'a>>(
 
 /// Reads so many numbers as `der` does, for the error alone.
 fn numbers<'r>(contents: &mut impl Reader<'r>, count: usize) -> der::Result<()> {
-    (0..count).try_for_each(|_| UintRef::decode(contents).map(|_| ()))
+    (0..count).try_for_each(|_| contents.decode::<UintRef<'r>>().map(|_| ()))
 }
 
 impl<U: Number> Written for RsaPublicKey<U>

@@ -22,7 +22,7 @@ macro_rules! decode_value {
             type Error = ::der::Error;
 
             fn decode_value<R: ::der::Reader<'a>>(reader: &mut R, header: ::der::Header) -> ::der::Result<Self> {
-                $read(reader, header.length())
+                $read(reader, $crate::release::length(&header))
             }
         }
     };
@@ -32,6 +32,10 @@ pub(crate) use decode_value;
 #[expect(clippy::unnecessary_wraps, reason = "of der 0.7 it returns a Result")]
 pub(crate) fn header(tag: Tag, length: Length) -> der::Result<Header> {
     Ok(Header::new(tag, length))
+}
+
+pub(crate) fn length(header: &Header) -> Length {
+    header.length()
 }
 
 /// Reads an explicit field if it is next, for the error alone.

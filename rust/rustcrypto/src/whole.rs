@@ -1,8 +1,8 @@
 //! Encodings in memory of their own. The proved functions read and write whole ones, and the traits of `der` contents
 //! without a header.
 
-use crate::release::{finish, header};
-use der::{Encode, Error, ErrorKind, FixedTag, Length, Reader, SliceReader, Writer};
+use crate::release::{finish, header, length};
+use der::{Decode, Encode, Error, ErrorKind, FixedTag, Header, Length, Reader, SliceReader, Writer};
 
 #[cfg(feature = "alloc")]
 type Memory = der::zeroize::Zeroizing<alloc::vec::Vec<u8>>;
@@ -100,16 +100,18 @@ fn contents_len(end: usize) -> Option<usize> {
     (2..=6).filter_map(|header| end.checked_sub(header)).find(fits)
 }
 
-/// The fault of contents that begin at a position, and that a proved function refused.
-fn fault<'a, T: Proved<'a>>(contents: &[u8], start: Length) -> Error {
-    let told = SliceReader::new(contents).and_then(|mut reader| {
-        T::fault(&mut reader)?;
+/// The fault of an encoding that a proved function refused, and whose contents begin at a position.
+fn fault<'a, T: Proved<'a>>(whole: &Whole, start: Length) -> Error {
+    let told = SliceReader::new(whole.octets()).and_then(|mut reader| {
+        let length = length(&Header::decode(&mut reader)?);
+        reader.read_nested(length, |contents| T::fault(contents))?;
         finish(reader)
     });
     let error = told.err().unwrap_or_else(refused::<T>);
-    match start + error.position().unwrap_or(Length::ZERO) {
-        Ok(position) => error.kind().at(position),
-        Err(overflow) => overflow,
+    let front = Length::try_from(whole.header).unwrap_or(Length::ZERO);
+    match error.position().map(|position| start.saturating_sub(front) + position) {
+        Some(Ok(position)) => error.kind().at(position),
+        _ => error,
     }
 }
 
@@ -119,7 +121,7 @@ pub fn decode_borrowed<'a, T: Proved<'a>, R: Reader<'a>>(reader: &mut R, length:
     let contents = reader.read_slice(length)?;
     let mut whole = Whole::with_room::<T>(length)?;
     whole.contents_mut().copy_from_slice(contents);
-    T::read(whole.octets(), |part| whole.original(part, contents)).ok_or_else(|| fault::<T>(contents, start))
+    T::read(whole.octets(), |part| whole.original(part, contents)).ok_or_else(|| fault::<T>(&whole, start))
 }
 
 /// Reads contents of a type that owns what it holds.
@@ -130,7 +132,7 @@ pub fn decode_owned<'a, T: for<'w> Proved<'w>, R: Reader<'a>>(reader: &mut R, le
     }
     let mut whole = Whole::with_room::<T>(length)?;
     reader.read_into(whole.contents_mut())?;
-    T::read(whole.octets(), Some).ok_or_else(|| fault::<T>(whole.contents(), start))
+    T::read(whole.octets(), Some).ok_or_else(|| fault::<T>(&whole, start))
 }
 
 /// `EncodeValue`.
