@@ -9,8 +9,13 @@ extern crate alloc;
 #[cfg(feature = "std")]
 extern crate std;
 
+#[cfg(feature = "pkcs8")]
+#[path = "../src/containers.rs"]
+mod containers;
 #[path = "../src/error.rs"]
 mod error;
+#[path = "../src/key_coding.rs"]
+mod key_coding;
 #[path = "../src/keys.rs"]
 mod keys;
 #[path = "../src/params.rs"]

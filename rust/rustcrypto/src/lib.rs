@@ -9,7 +9,10 @@ extern crate alloc;
 #[cfg(feature = "std")]
 extern crate std;
 
+#[cfg(feature = "pkcs8")]
+mod containers;
 mod error;
+mod key_coding;
 mod keys;
 mod params;
 mod release;

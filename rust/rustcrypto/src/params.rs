@@ -14,15 +14,6 @@ const MGF_1: ObjectIdentifier = ObjectIdentifier::new_unwrap("1.2.840.113549.1.1
 const P_SPECIFIED: ObjectIdentifier = ObjectIdentifier::new_unwrap("1.2.840.113549.1.1.9");
 
 /// Parameters of RSASSA-PSS (RFC 8017 A.2.3). Explicit defaults are read, but not written.
-///
-/// ```text
-/// RSASSA-PSS-params ::= SEQUENCE {
-///     hashAlgorithm     [0] HashAlgorithm     DEFAULT sha1,
-///     maskGenAlgorithm  [1] MaskGenAlgorithm  DEFAULT mgf1SHA1,
-///     saltLength        [2] INTEGER           DEFAULT 20,
-///     trailerField      [3] TrailerField      DEFAULT trailerFieldBC
-/// }
-/// ```
 #[derive(Clone, Debug, PartialEq, Eq)]
 pub struct RsaPssParams<P> {
     /// The hash function.
@@ -36,14 +27,6 @@ pub struct RsaPssParams<P> {
 }
 
 /// Parameters of RSAES-OAEP (RFC 8017 A.2.1). Explicit defaults are read, but not written.
-///
-/// ```text
-/// RSAES-OAEP-params ::= SEQUENCE {
-///     hashAlgorithm     [0] HashAlgorithm     DEFAULT sha1,
-///     maskGenAlgorithm  [1] MaskGenAlgorithm  DEFAULT mgf1SHA1,
-///     pSourceAlgorithm  [2] PSourceAlgorithm  DEFAULT pSpecifiedEmpty
-/// }
-/// ```
 #[derive(Clone, Debug, PartialEq, Eq)]
 pub struct RsaOaepParams<P> {
     /// The hash function.
@@ -182,10 +165,7 @@ fn held<'w, 'a, P: HeldParameters<'a>>(
     P::held(Tag::from_der(&[any.tag().octet()]).ok()?, kept(any.value())?)
 }
 
-impl<'a, P: HeldParameters<'a>> Proved<'a> for RsaPssParams<P>
-where
-    RsaPssParams<P>: Sequence<'a>,
-{
+impl<'a, P: HeldParameters<'a>> Proved<'a> for RsaPssParams<P> {
     fn read<'w>(whole: &'w [u8], kept: impl Fn(&'w [u8]) -> Option<&'a [u8]>) -> Option<Self> {
         let view = proved::RsaPssParamsView::try_from(whole).ok()?;
         let plain = |algorithm| read(algorithm, |any| held(any, &kept));
@@ -207,10 +187,7 @@ where
     }
 }
 
-impl<'a, P: HeldParameters<'a>> Proved<'a> for RsaOaepParams<P>
-where
-    RsaOaepParams<P>: Sequence<'a>,
-{
+impl<'a, P: HeldParameters<'a>> Proved<'a> for RsaOaepParams<P> {
     fn read<'w>(whole: &'w [u8], kept: impl Fn(&'w [u8]) -> Option<&'a [u8]>) -> Option<Self> {
         let view = proved::RsaOaepParamsView::try_from(whole).ok()?;
         let plain = |algorithm| read(algorithm, |any| held(any, &kept));
@@ -228,10 +205,7 @@ where
     }
 }
 
-impl<P: Parameters> Written for RsaPssParams<P>
-where
-    RsaPssParams<P>: der::FixedTag,
-{
+impl<P: Parameters> Written for RsaPssParams<P> {
     fn lend<T>(&self, writes: impl FnOnce(&dyn proved::der::Encode) -> Option<T>) -> Option<T> {
         writes(&proved::RsaPssParamsRef {
             hash: lent(&self.hash, P::lent)?,
@@ -244,10 +218,7 @@ where
     }
 }
 
-impl<P: Parameters> Written for RsaOaepParams<P>
-where
-    RsaOaepParams<P>: der::FixedTag,
-{
+impl<P: Parameters> Written for RsaOaepParams<P> {
     fn lend<T>(&self, writes: impl FnOnce(&dyn proved::der::Encode) -> Option<T>) -> Option<T> {
         writes(&proved::RsaOaepParamsRef {
             hash: lent(&self.hash, P::lent)?,
@@ -264,6 +235,6 @@ decoded! {
     RsaOaepParams<AnyRef<'a>>, decode_borrowed;
 }
 encoded! {
-    {P} RsaPssParams<P>;
-    {P} RsaOaepParams<P>;
+    {P: Parameters} RsaPssParams<P>;
+    {P: Parameters} RsaOaepParams<P>;
 }

@@ -64,6 +64,8 @@ macro_rules! small {
         }
 
         impl<'a> Proved<'a> for $name {
+            const TAG: Tag = Tag::Integer;
+
             fn read<'w>(whole: &'w [u8], _kept: impl Fn(&'w [u8]) -> Option<&'a [u8]>) -> Option<Self> {
                 match proved::$name::from_der(whole).ok()? {
                     $(proved::$name::$value => Some($name::$value),)*
@@ -77,6 +79,8 @@ macro_rules! small {
         }
 
         impl Written for $name {
+            const TAG: Tag = Tag::Integer;
+
             fn lend<T>(&self, lent: impl FnOnce(&dyn proved::der::Encode) -> Option<T>) -> Option<T> {
                 lent(match self {
                     $($name::$value => &proved::$name::$value,)*

@@ -2,7 +2,7 @@
 //! without a header.
 
 use crate::release::{finish, header, length};
-use der::{Decode, Encode, Error, ErrorKind, FixedTag, Header, Length, Reader, SliceReader, Writer};
+use der::{Decode, Encode, Error, ErrorKind, Header, Length, Reader, SliceReader, Tag, Writer};
 
 #[cfg(feature = "alloc")]
 type Memory = der::zeroize::Zeroizing<alloc::vec::Vec<u8>>;
@@ -21,12 +21,14 @@ fn room(size: usize) -> der::Result<Memory> {
 }
 
 /// The error of what only a proved function refuses.
-fn refused<T: FixedTag>() -> Error {
-    ErrorKind::Value { tag: T::TAG }.into()
+fn refused(tag: Tag) -> Error {
+    ErrorKind::Value { tag }.into()
 }
 
 /// A type that a proved function reads.
-pub trait Proved<'a>: FixedTag + Sized {
+pub trait Proved<'a>: Sized {
+    const TAG: Tag = Tag::Sequence;
+
     /// The value, if the octets are a whole encoding of one. `kept` is where the caller keeps a part of them.
     fn read<'w>(whole: &'w [u8], kept: impl Fn(&'w [u8]) -> Option<&'a [u8]>) -> Option<Self>;
 
@@ -35,7 +37,9 @@ pub trait Proved<'a>: FixedTag + Sized {
 }
 
 /// A type that a proved function writes.
-pub trait Written: FixedTag {
+pub trait Written {
+    const TAG: Tag = Tag::Sequence;
+
     /// What the function gives that is handed the value as a proved type, if it is one.
     fn lend<T>(&self, lent: impl FnOnce(&dyn proved::der::Encode) -> Option<T>) -> Option<T>;
 }
@@ -49,8 +53,8 @@ pub struct Whole {
 
 impl Whole {
     /// The header of so many octets under the tag, with room for them.
-    fn with_room<T: FixedTag>(length: Length) -> der::Result<Whole> {
-        let front = header(T::TAG, length)?;
+    fn with_room(tag: Tag, length: Length) -> der::Result<Whole> {
+        let front = header(tag, length)?;
         let (header, contents) = (usize::try_from(front.encoded_len()?)?, usize::try_from(length)?);
         let end = header.checked_add(contents).ok_or(ErrorKind::Overflow)?;
         let mut memory = room(end)?;
@@ -60,12 +64,12 @@ impl Whole {
 
     /// What a proved function writes.
     pub fn written<T: Written>(value: &T) -> der::Result<Whole> {
-        let end = value.lend(|encoded| Some(encoded.encoded_len().ok()?.to_usize())).ok_or(refused::<T>())?;
+        let end = value.lend(|encoded| Some(encoded.encoded_len().ok()?.to_usize())).ok_or(refused(T::TAG))?;
         let mut memory = room(end)?;
         let written = value.lend(|encoded| encoded.encode_to_slice(&mut memory[..end]).ok().map(<[u8]>::len));
         match written.and_then(contents_len) {
             Some(contents) => Ok(Whole { memory, header: end - contents, end }),
-            None => Err(refused::<T>()),
+            None => Err(refused(T::TAG)),
         }
     }
 
@@ -107,7 +111,7 @@ fn fault<'a, T: Proved<'a>>(whole: &Whole, start: Length) -> Error {
         reader.read_nested(length, |contents| T::fault(contents))?;
         finish(reader)
     });
-    let error = told.err().unwrap_or_else(refused::<T>);
+    let error = told.err().unwrap_or_else(|| refused(T::TAG));
     let front = Length::try_from(whole.header).unwrap_or(Length::ZERO);
     match error.position().map(|position| start.saturating_sub(front) + position) {
         Some(Ok(position)) => error.kind().at(position),
@@ -119,7 +123,7 @@ fn fault<'a, T: Proved<'a>>(whole: &Whole, start: Length) -> Error {
 pub fn decode_borrowed<'a, T: Proved<'a>, R: Reader<'a>>(reader: &mut R, length: Length) -> der::Result<T> {
     let start = reader.position();
     let contents = reader.read_slice(length)?;
-    let mut whole = Whole::with_room::<T>(length)?;
+    let mut whole = Whole::with_room(T::TAG, length)?;
     whole.contents_mut().copy_from_slice(contents);
     T::read(whole.octets(), |part| whole.original(part, contents)).ok_or_else(|| fault::<T>(&whole, start))
 }
@@ -130,7 +134,7 @@ pub fn decode_owned<'a, T: for<'w> Proved<'w>, R: Reader<'a>>(reader: &mut R, le
     if length > reader.remaining_len() {
         return Err(Error::incomplete(reader.input_len()));
     }
-    let mut whole = Whole::with_room::<T>(length)?;
+    let mut whole = Whole::with_room(T::TAG, length)?;
     reader.read_into(whole.contents_mut())?;
     T::read(whole.octets(), Some).ok_or_else(|| fault::<T>(&whole, start))
 }
@@ -138,7 +142,7 @@ pub fn decode_owned<'a, T: for<'w> Proved<'w>, R: Reader<'a>>(reader: &mut R, le
 /// `EncodeValue`.
 pub fn value_len<T: Written>(value: &T) -> der::Result<Length> {
     let contents = value.lend(|encoded| contents_len(encoded.encoded_len().ok()?.to_usize()));
-    contents.ok_or(refused::<T>())?.try_into()
+    contents.ok_or(refused(T::TAG))?.try_into()
 }
 
 /// `EncodeValue`.
@@ -169,10 +173,7 @@ pub(crate) use decoded;
 /// `EncodeValue`.
 macro_rules! encoded {
     ($({$($generics:tt)*} $name:ty;)*) => { $(
-        impl<$($generics)*> ::der::EncodeValue for $name
-        where
-            $name: $crate::whole::Written,
-        {
+        impl<$($generics)*> ::der::EncodeValue for $name {
             fn value_len(&self) -> ::der::Result<::der::Length> {
                 $crate::whole::value_len(self)
             }

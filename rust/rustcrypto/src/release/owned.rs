@@ -1,9 +1,10 @@
 //! Keys and parameters that own what they hold.
 
-use crate::keys::{Held, Number, OtherPrimeInfo, RsaPrivateKey, RsaPublicKey};
+use crate::key_coding::{Held, Number};
+use crate::keys::{OtherPrimeInfo, RsaPrivateKey, RsaPublicKey};
 use crate::params::{HeldParameters, Parameters, RsaOaepParams, RsaPssParams, any};
 use crate::release::RsaPublicKeyRef;
-use crate::whole::{Written, decode_owned, decoded};
+use crate::whole::{decode_owned, decoded};
 use crate::{DecodeRsaPrivateKey, DecodeRsaPublicKey, EncodeRsaPrivateKey, EncodeRsaPublicKey, Result};
 use der::asn1::{Any, Uint};
 use der::referenced::OwnedToRef;
@@ -81,19 +82,13 @@ impl DecodeRsaPublicKey for RsaPublicKeyOwned {
     }
 }
 
-impl<U: Number> EncodeRsaPrivateKey for RsaPrivateKey<U>
-where
-    Self: Written,
-{
+impl<U: Number> EncodeRsaPrivateKey for RsaPrivateKey<U> {
     fn to_pkcs1_der(&self) -> Result<SecretDocument> {
         self.try_into()
     }
 }
 
-impl<U: Number> EncodeRsaPublicKey for RsaPublicKey<U>
-where
-    Self: Written,
-{
+impl<U: Number> EncodeRsaPublicKey for RsaPublicKey<U> {
     fn to_pkcs1_der(&self) -> Result<Document> {
         self.try_into()
     }
