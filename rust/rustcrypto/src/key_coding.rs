@@ -16,6 +16,16 @@ fn listed<T>(mut items: impl Iterator<Item = Option<T>>) -> Option<[T; 0]> {
     items.next().is_none().then_some([])
 }
 
+/// The primes for a proved function. Without the feature `alloc` there is none, and an empty list isn't written.
+#[cfg(feature = "alloc")]
+fn lent_list<U: Number>(primes: &[OtherPrimeInfo<U>]) -> Option<proved::OtherPrimeInfos<proved::UintRef<'_>>> {
+    primes.iter().map(OtherPrimeInfo::lent).collect()
+}
+#[cfg(not(feature = "alloc"))]
+fn lent_list<U: Number>(_primes: &[OtherPrimeInfo<U>]) -> Option<proved::OtherPrimeInfos<proved::UintRef<'_>>> {
+    None
+}
+
 /// What holds a number.
 pub trait Number {
     /// The number for a proved function.
@@ -160,7 +170,7 @@ impl<U: Number> Written for RsaPrivateKey<U> {
             exponent2: self.exponent2.lent()?,
             coefficient: self.coefficient.lent()?,
             other_prime_infos: match &self.other_prime_infos {
-                Some(others) => Some(listed(others.iter().map(OtherPrimeInfo::lent))?),
+                Some(others) => Some(lent_list(others)?),
                 None => None,
             },
         })

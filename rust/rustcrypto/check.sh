@@ -1,0 +1,81 @@
+#!/usr/bin/env bash
+# Builds and tests the crate with the names of RustCrypto's pkcs1, 0.7 over the crates of Debian 13, 0.8 over those of
+# forky, and nothing of another registry:
+#
+#     rust/rustcrypto/check.sh
+#
+#     each feature, without a warning of clippy; layout; documentation; its own tests
+#     over 0.7, each with not a line changed: the tests of keys of rsa 0.9, and those of RustCrypto's pkcs1
+#     inputs by damage, beside RustCrypto's pkcs1 0.7
+#     programs with sha2, and with x509-cert
+#
+# What is made stands in out/rust, or below OUT. It needs cargo with clippy and rustfmt, apt-get, and Debian's packages
+# from the network or the folder DEBIAN, out/debian unless said, into which they were unpacked. Nothing is installed.
+set -eu
+cd "$(dirname "$0")/../.."
+. tools/shell.sh
+. tools/debian_rust.sh
+OUT=$(realpath -m "${OUT:-out/rust}")/rustcrypto
+here=$PWD/rust/rustcrypto
+export CARGO_TERM_QUIET=true CARGO_NET_OFFLINE=true
+
+trixie=(arbitrary autocfg base64ct bitflags block-buffer byteorder cfg-if const-oid cpufeatures crypto-common der
+    der-derive derive-arbitrary digest errno fastrand flagset generic-array getrandom hex-literal lazy-static libc libm
+    linux-raw-sys num-bigint-dig num-integer num-iter num-traits once-cell pem-rfc7468 pkcs1 pkcs5 pkcs8 ppv-lite86
+    proc-macro-error proc-macro-error-attr proc-macro2 quote rand rand-chacha rand-core rsa rustix sha2 signature
+    smallvec spin spki subtle syn syn-1 tempfile typenum unicode-ident version-check zerocopy zerocopy-derive zeroize
+    zeroize-derive)
+forky=(base64ct block-buffer cfg-if const-oid const-oid-0.9 cpufeatures cpufeatures-0.2 crypto-common der der-0.7
+    der-derive der-derive-0.7 digest flagset hybrid-array libc pem-rfc7468 pkcs8 proc-macro2 quote sha2 spki spki-0.7
+    syn syn-2 typenum unicode-ident x509-cert zeroize zeroize-derive)
+
+# crates SUITE PACKAGE..: cargo takes crates from these packages of Debian alone.
+crates() {
+    local root=$DEBIAN/crates-$1 packages=("${@:2}")
+    packages=("${packages[@]/#/librust-}")
+    [ -d "$root" ] || unpack "$root" "$1" '"amd64";' "${packages[@]/%/-dev}" || stop "crates of Debian's $1 aren't there"
+    export CARGO_HOME=$OUT/$1/home CARGO_TARGET_DIR=$OUT/$1/target
+    registry=$root/usr/share/cargo/registry
+    mkdir -p "$CARGO_HOME"
+    printf '[source.crates-io]\nreplace-with = "debian"\n[source.debian]\ndirectory = "%s"\n' "$registry" \
+        > "$CARGO_HOME/config.toml"
+}
+
+# quietly WHAT COMMAND..: what the command prints is shown if it fails.
+quietly() {
+    "${@:2}" > "$OUT/log" 2>&1 || { cat "$OUT/log" >&2 && stop "$1 fails"; }
+}
+
+# itself FOLDER: the crate of the folder.
+itself() {
+    local features manifest=$1/Cargo.toml
+    for features in "" zeroize alloc std pem pkcs8 alloc,pkcs8 std,pem,pkcs8; do
+        cargo clippy --manifest-path "$manifest" --features "$features" -- -D warnings
+    done
+    cargo fmt --manifest-path "$manifest" --check
+    RUSTDOCFLAGS="-D warnings" cargo doc --manifest-path "$manifest" --features std,pem,pkcs8 --no-deps
+    quietly "cargo test of $1" cargo test --manifest-path "$manifest" --features std,pem,pkcs8
+    grep -q '^test result: ok. [1-9]' "$OUT/log" || stop "$1 has no test"
+}
+
+# of_debian NAME: cargo test of check/NAME, over the crates that `crates` chose.
+of_debian() {
+    local room=$OUT/check
+    rm -rf "$room"
+    cp -r "$here/check" "$room"
+    sed -i "s|REGISTRY|$registry|; s|HERE|$here|" "$room"/*.rs "$room"/*/Cargo.toml
+    # Tests of RustCrypto's pkcs1 read files of this folder.
+    ln -s "$registry/pkcs1-0.7.5/tests" "$room/$1/tests"
+    quietly "cargo test of $1" cargo test --manifest-path "$room/$1/Cargo.toml" --tests
+    awk -v of="$1" '/^test result: ok/ { all += $4 } END { print "rustcrypto: " of ": " all " tests passed"; exit !all }' \
+        "$OUT/log" || stop "$1 has no test"
+}
+
+mkdir -p "$OUT"
+crates trixie "${trixie[@]}"
+itself "$here/older"
+of_debian trixie
+of_debian beside
+crates forky "${forky[@]}"
+itself "$here"
+of_debian forky
