@@ -13,15 +13,16 @@
 #                      line says so. The SEED is another one each day
 #     memory           each request for memory refused
 #     secrets          the path on a private key, under valgrind
+#     rustcrypto       the crate with the names of RustCrypto's pkcs1, over Debian's crates: rustcrypto/check.sh
 #     oldest           the crate and the rows, by Debian's rustc 1.85
 #     machines         rows, memory and beside for a 32-bit and a big-endian machine, by the same rustc, under qemu
 #     wasm             the crate without std for wasm32; the rows, and those of the tool, for wasm32-wasip1, under node
 #
 # What is made stands in out/rust, or below OUT. It needs cargo with clippy and rustfmt, and python3. `beside`,
 # `secrets` and `machines` need make and gcc, `secrets` valgrind too, and `machines` qemu-user and
-# gcc-{i686,s390x}-linux-gnu. `oldest`, `machines` and `wasm` need apt-get and Debian's packages from the network, or the
-# folder DEBIAN, ~/.cache/pkcs1-gate/debian unless said, into which they were unpacked. Nothing is installed. Without
-# node or its packages `wasm` is left out.
+# gcc-{i686,s390x}-linux-gnu. `rustcrypto`, `oldest`, `machines` and `wasm` need apt-get and Debian's packages from the
+# network, or the folder DEBIAN, ~/.cache/pkcs1-gate/debian unless said, into which they were unpacked. Nothing is
+# installed. Without node or its packages `wasm` is left out.
 set -eu
 cd "$(dirname "$0")/.."
 . tools/shell.sh
@@ -35,7 +36,7 @@ export CARGO_TARGET_DIR=$OUT/target CARGO_TERM_QUIET=true
 crate=rust/Cargo.toml check=rust/check/Cargo.toml tool=rust/tool/Cargo.toml
 rows=(crates/pkcs1_vectors/stdin crates/pkcs1_tool/rows)
 keys=(ffi/tests/keys/{priv2,priv3,p8_2,p8_3}.der)
-parts=(erase crate preconditions rows beside memory secrets oldest machines wasm)
+parts=(erase crate preconditions rows beside memory secrets rustcrypto oldest machines wasm)
 
 # quietly WHAT COMMAND..: what the command prints is shown if it fails.
 quietly() {
@@ -191,6 +192,10 @@ secrets() {
         stop "a branch on a secret octet isn't noticed"
     grep -q 'depends on uninitialised' "$OUT/log" || stop "a branch on a secret octet is noticed otherwise"
     echo "secrets: by $(rustc --version), the path on ${#keys[@]} private keys doesn't depend on their secret numbers"
+}
+
+rustcrypto() {
+    OUT=$OUT DEBIAN=$DEBIAN rust/rustcrypto/check.sh
 }
 
 # with_debian_rust: Debian's rustc 1.85 is what cargo calls.
