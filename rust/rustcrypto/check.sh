@@ -16,7 +16,7 @@ cd "$(dirname "$0")/../.."
 . tools/shell.sh
 . tools/debian_rust.sh
 OUT=$(realpath -m "${OUT:-out/rust}")/rustcrypto
-here=$PWD/rust/rustcrypto
+here=$OUT/tree/rust/rustcrypto
 export CARGO_TERM_QUIET=true CARGO_NET_OFFLINE=true
 
 trixie=(arbitrary autocfg base64ct bitflags block-buffer byteorder cfg-if const-oid cpufeatures crypto-common der
@@ -71,7 +71,11 @@ of_debian() {
         "$OUT/log" || stop "$1 has no test"
 }
 
-mkdir -p "$OUT"
+# In a copy of what it reads, as cargo writes Cargo.lock.
+rm -rf "$OUT/tree"
+mkdir -p "$OUT/tree/rust" "$OUT/tree/ffi/tests"
+cp -r rust/{Cargo.toml,README.md,rustfmt.toml,src,examples,rustcrypto} "$OUT/tree/rust"
+cp -r ffi/tests/keys "$OUT/tree/ffi/tests"
 crates trixie "${trixie[@]}"
 itself "$here/older"
 of_debian trixie

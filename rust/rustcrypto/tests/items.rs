@@ -13,6 +13,10 @@ fn owned() {
     assert_eq!(pkcs1::EncodeRsaPublicKey::to_pkcs1_der(&public).unwrap().as_bytes(), PUBLIC);
     assert_eq!(RsaPssParamsOwned::from_der(&PSS).unwrap().to_der().unwrap(), PSS);
     assert_eq!(RsaOaepParamsOwned::from_der(&LABEL).unwrap().to_der().unwrap(), LABEL);
+    let two = [SMALL, SMALL].concat();
+    let mut reader = SliceReader::new(&two).unwrap();
+    assert_eq!(RsaPublicKeyOwned::decode(&mut reader).unwrap().to_der().unwrap(), SMALL);
+    assert_eq!(reader.remaining_len(), 8u8.into());
     let announced = [0x30, 0x84, 0x0f, 0xff, 0xff, 0xff, 2];
     assert_eq!(RsaPublicKeyOwned::from_der(&announced).unwrap_err(), der::Error::incomplete(7u8.into()));
     #[cfg(feature = "pem")]

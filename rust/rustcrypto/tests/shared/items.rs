@@ -102,10 +102,11 @@ fn small_numbers() {
     assert_eq!(kind(TrailerField::from_der(&[2, 1, 2])), ErrorKind::Value { tag: Tag::Integer });
 }
 
-/// With each octet changed in each way, and cut off at each: a type reads what a proved function reads, and no more.
+/// With each octet changed in each way, cut off at each, and with one more: a type reads what a proved function reads, and no more.
 #[test]
 fn as_proved() {
     fn damaged(whole: &[u8], try_it: impl Fn(&[u8])) {
+        try_it(&[whole, &[0]].concat());
         for at in 0..whole.len() {
             try_it(&whole[..at]);
             for octet in 0..=255 {
