@@ -10,7 +10,8 @@
 #     programs with sha2, and with x509-cert
 #
 # What is made stands in out/rust, or below OUT. It needs cargo with clippy and rustfmt, apt-get, and Debian's packages
-# from the network or the folder DEBIAN, out/debian unless said, into which they were unpacked. Nothing is installed.
+# from the network or the folder DEBIAN, ~/.cache/pkcs1-gate/debian unless said, into which they were unpacked. Nothing
+# is installed. forky isn't released: where it has no der 0.8 any more, 0.8 isn't tried, and a line says so.
 set -eu
 cd "$(dirname "$0")/../.."
 . tools/shell.sh
@@ -33,7 +34,7 @@ forky=(base64ct block-buffer cfg-if const-oid const-oid-0.9 cpufeatures cpufeatu
 crates() {
     local root=$DEBIAN/crates-$1 packages=("${@:2}")
     packages=("${packages[@]/#/librust-}")
-    [ -d "$root" ] || unpack "$root" "$1" '"amd64";' "${packages[@]/%/-dev}" || stop "crates of Debian's $1 aren't there"
+    [ -d "$root" ] || unpack "$root" "$1" '"amd64";' "${packages[@]/%/-dev}" || return
     export CARGO_HOME=$OUT/$1/home CARGO_TARGET_DIR=$OUT/$1/target
     registry=$root/usr/share/cargo/registry
     mkdir -p "$CARGO_HOME"
@@ -76,10 +77,13 @@ rm -rf "$OUT/tree"
 mkdir -p "$OUT/tree/rust" "$OUT/tree/ffi/tests"
 cp -r rust/{Cargo.toml,README.md,rustfmt.toml,src,examples,rustcrypto} "$OUT/tree/rust"
 cp -r ffi/tests/keys "$OUT/tree/ffi/tests"
-crates trixie "${trixie[@]}"
+crates trixie "${trixie[@]}" || stop "crates of Debian 13 aren't there"
 itself "$here/older"
 of_debian trixie
 of_debian beside
-crates forky "${forky[@]}"
-itself "$here"
-of_debian forky
+if crates forky "${forky[@]}" && compgen -G "$registry/der-0.8.*" > "$OUT/log"; then
+    itself "$here"
+    of_debian forky
+else
+    echo "rustcrypto: Debian's forky has no der 0.8, so pkcs1 0.8 isn't tried"
+fi
