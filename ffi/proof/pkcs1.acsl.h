@@ -268,6 +268,8 @@
 #define PLACES_OTHERS(kind)                                                                                            \
     COUNTS(kind, ok);                                                                                                  \
     PLACES(WHEN_OK, listed_of(kind, der, ENCODING).data, listed_of(kind, der, ENCODING).len, LISTED(kind));            \
+    ensures part: WHEN_OK listed_of(kind, der, ENCODING).len == 0 ||                                                   \
+        part_of(listed_of(kind, der, ENCODING), der, der_len);                                                         \
     ensures unchanged: UNLESS_OK \forall integer i; 0 <= i < others_room ==> others[i] == \old(others[i])
 /* The key in a container. */
 #define FILLS_KEY                                                                                                      \
@@ -361,7 +363,8 @@ bool pkcs1_oaep_is(const OAEP, const struct pkcs1_bytes *hash);
 
 /* Two structs mean the same, as `so` of their values says. */
 #define MEAN_SAME(is, name, so)                                                                                        \
-    requires \valid_read(left) && is##_##name(*left) && \valid_read(right) && is##_##name(*right);                     \
+    requires \valid_read(left) && is##_##name(*left);                                                                  \
+    requires \valid_read(right) && is##_##name(*right);                                                                \
     TELLS(so(name##_seen(*left), name##_seen(*right)))
 #define TWO_ALGORITHMS const struct pkcs1_algorithm *left, const struct pkcs1_algorithm *right
 #define TWO_PSS const struct pkcs1_pss_params *left, const struct pkcs1_pss_params *right

@@ -1,5 +1,5 @@
-/* What ffi/proof/prove.sh proves: pkcs1.c as it is, and the octets of its identifiers. */
-#include "pkcs1.acsl.h"
+/* What ffi/proof/prove.sh proves: pkcs1.c as it is, what its calls promise, and the octets of its identifiers. */
+#include "promises.c"
 #include "../lib/pkcs1.c"
 
 /* The arcs as RFC 8017 and RFC 5758 have them, in octets as X.690 8.19 says: 840 and 113549 take two and three. */

@@ -1,14 +1,14 @@
 #!/usr/bin/env bash
 # Proves ffi/lib/pkcs1.c with Frama-C: that each call of pkcs1.h does what ffi/proof/pkcs1.acsl.h says, over the proved
-# calls, as gcc reads it for x86-64 and for x86 of 32 bits. Names each goal that isn't proved, says how many are, and
-# fails if one isn't.
+# calls, as gcc reads it for x86-64 and for x86 of 32 bits, and that what ffi/proof/promises.c says follows. Names each
+# goal that isn't proved, says how many are, and fails if one isn't.
 #
 #     ffi/proof/prove.sh [--must] [WORD..]    WORDs go to Frama-C, such as -wp-fct NAME: only their goals are proved then
 #
 # Where the variable SAMPLE is set, and no WORD is there, tools/verdicts.py draws the calls that are proved.
 # It needs frama-c, why3, z3 and cvc4, which tools/install.sh installs on Debian. If they aren't there, the proof is left
 # out, which is a failure with --must or if CI is set.
-# AT_ONCE: how many provers run at a time. GIVE_UP: in how many seconds, where it is known that goals are open. KEEP: a
+# AT_ONCE: how many provers run at a time. GIVE_UP: after how many steps, where it is known that goals are open. KEEP: a
 # folder for the names of the goals that are proved and open.
 set -eu
 cd "$(dirname "$0")/../.."
@@ -18,7 +18,8 @@ must=${CI-}
     shift
 }
 if [ $# = 0 ] && [ -n "${SAMPLE-}" ]; then
-    drawn=$(grep -oE '\bpkcs1_[a-z0-9_]+\(' ffi/lib/include/pkcs1.h | tr -d '(' | sort -u | tools/verdicts.py drawn 3)
+    drawn=$(grep -oE '\bpkcs1_[a-z0-9_]+\(' ffi/lib/include/pkcs1.h | tr -d '(' | sort -u | tools/verdicts.py drawn 3 |
+        sed 's/^pkcs1_\(.*\)/&,promises_\1/')
     drawn=$(paste -s -d , <<< "$drawn")
     echo "ffi/proof/prove.sh: drawn: $drawn"
     set -- -wp-fct "$drawn"
@@ -61,7 +62,7 @@ prove() {
     local log=$1
     shift
     if [ -n "${GIVE_UP-}" ]; then
-        frama "$log" "$@" -wp-prover cvc4 -wp-timeout "$GIVE_UP"
+        frama "$log" "$@" -wp-prover cvc4 -wp-timeout 1200 -wp-steps "$GIVE_UP"
         return
     fi
     frama "$log" "$@" -wp-prover cvc4 -wp-timeout 120 -wp-steps 1000000 \

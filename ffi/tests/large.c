@@ -146,6 +146,24 @@ static void long_identifier(void) {
     free(der);
 }
 
+/* A key of 100000 other primes, of which the first are asked for. */
+static void many_primes(void) {
+    enum { COUNT = 100000, FRONT = 37 };
+    static const uint8_t front[FRONT] = {0x30, 0x83, 0x10, 0xc9, 0, 2, 1, 1, 2, 1, 1, 2, 1, 1, 2, 1, 1, 2, 1, 1,
+                                         2, 1, 1, 2, 1, 1, 2, 1, 1, 2, 1, 1, 0x30, 0x83, 0x10, 0xc8, 0xe0};
+    static const uint8_t prime[] = {0x30, 9, 2, 1, 1, 2, 1, 1, 2, 1, 1};
+    struct pkcs1_private_key key;
+    struct pkcs1_other_prime others[2];
+    size_t len = FRONT + COUNT * sizeof prime;
+    uint8_t *der = filled(len);
+    memcpy(der, front, FRONT);
+    for (size_t i = 0; i < COUNT; i++)
+        memcpy(der + FRONT + i * sizeof prime, prime, sizeof prime);
+    CHECK(pkcs1_private_key_decode(der, len, &key, others, 2) == PKCS1_OK && key.other_primes == COUNT);
+    CHECK(others[1].coefficient.data == der + FRONT + 2 * sizeof prime - 1);
+    free(der);
+}
+
 /* Of each two numbers that can't be held, the first tells the status: in a key, and in its other prime, if it has one. */
 static void first_faults(struct pkcs1_bytes small, struct pkcs1_bytes past) {
     const struct pkcs1_bytes none = {NULL, 0};
@@ -201,6 +219,9 @@ void try_large(void) {
     bit_lengths();
     labels();
     identifiers();
+    written_and_read("pub", sizeof ones / 4);
+    written_and_read("oaep", sizeof ones / 4);
+    many_primes();
     long_identifier();
     longest_numbers();
 }

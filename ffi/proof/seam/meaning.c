@@ -23,7 +23,8 @@ void __real_pkcs1_c_version(struct pkcs1_bytes *text);
 
 
 octets octets_of(const uint8_t *data, integer len) {
-    return (octets){copy(data, len > 0 ? (size_t)len : 0), len > 0 ? (size_t)len : 0};
+    size_t size = len > 0 ? (size_t)len : 0;
+    return (octets){is_far(data) ? data : copy(data, size), size};
 }
 
 bool of_library(const uint8_t *data, integer len) {

@@ -39,6 +39,9 @@ class Cases:
             if kind.endswith("*"):
                 length = length_of(name, self.call.params)
                 self.refuses(f"{name} is null", {name: "NULL", **({length: "0"} if length else {})})
+                size = "4" if kind == "uint8_t *" else f"sizeof *{name}"
+                count = {length: "4" if kind == "uint8_t *" else "1"} if length else {}
+                self.refuses(f"the last octet of {name} isn't there", {name: f"before_end({size} - 1)", **count})
 
     def overlaps(self):
         pointers = [it for it in self.call.params if it[0].endswith("*")]
@@ -72,6 +75,7 @@ class Cases:
             yield "is 2", "*(uint8_t *)&{} = 2"
             return
         yield "is null", "{0}.data = NULL, {0}.len = 0"
+        yield "has its last octet where none is", "{0}.data = before_end(3), {0}.len = 4"
         if "len" in self.places and name not in self.places:
             yield "is len", "{0}.data = (const uint8_t *)len, {0}.len = 1"
             yield "is in out", "{0}.data = out, {0}.len = 1"

@@ -1,5 +1,30 @@
 /* The memory, values and equalities of terms.h. */
+#define _DEFAULT_SOURCE
 #include "terms.h"
+#include <sys/mman.h>
+
+/* A one with zeros behind it, which nobody writes, so that no copy is needed: a number of over 4294967295 octets. The
+ * page behind them may not be read. */
+enum { PAGE = 65536 };
+static void add_far_number(const uint8_t *octets, size_t len);
+static const size_t far_len = ((size_t)1 << 32) + PAGE;
+static uint8_t *far;
+
+static void map_octets(void) {
+    far = mmap(NULL, far_len + PAGE, PROT_READ | PROT_WRITE, MAP_PRIVATE | MAP_ANONYMOUS | MAP_NORESERVE, -1, 0);
+    if (far == MAP_FAILED || mprotect(far + far_len, PAGE, PROT_NONE) != 0)
+        abort();
+    far[0] = 1;
+    add_far_number(far, far_len);
+}
+
+bool is_far(const void *place) {
+    return far != NULL && (uintptr_t)place - (uintptr_t)far < far_len;
+}
+
+const void *before_end(size_t size) {
+    return far + far_len - size;
+}
 
 static struct block {
     _Alignas(integer) struct block *next;
@@ -21,6 +46,7 @@ void begin_call(const char *call) {
     called = "no call";
     if (!tried) {
         tried = true;
+        map_octets();
         try_axioms();
     }
     called = call;
@@ -62,7 +88,7 @@ const void *at(const void *base, integer offset) {
 bool is_there(const void *place, integer size) {
     if (size <= 0)
         return true;
-    if (place == NULL)
+    if (place == NULL || (is_far(place) && (uintptr_t)place - (uintptr_t)far + (size_t)size > far_len))
         return false;
     const volatile uint8_t *octets = place;
     return octets[0] + octets[(size_t)size - 1] >= 0;
@@ -94,7 +120,8 @@ struct part part_of_integer(integer of) {
 }
 
 bool equal_octets(octets left, octets right) {
-    return left.len == right.len && (left.len == 0 || memcmp(left.data, right.data, left.len) == 0);
+    bool alike = left.len == 0 || left.data == right.data;
+    return left.len == right.len && (alike || memcmp(left.data, right.data, left.len) == 0);
 }
 
 static bool equal_part(const struct part *left, const struct part *right) {
@@ -126,6 +153,11 @@ static struct memory {
     {{1, 2, 3, 3, 2, 1}, {{NUMBER("\3"), NUMBER("\5"), NUMBER("")}, {NUMBER("\1"), NUMBER("\1"), NUMBER("\1")}}},
     {{8, 2, 9, 3, 2, 1}, {{NUMBER(""), NUMBER("\5"), NUMBER("\7")}, {NUMBER("\1"), NUMBER("\1"), NUMBER("\1")}}},
 };
+
+/* In one state a number of the first prime is empty, and a later one too long. */
+static void add_far_number(const uint8_t *octets, size_t len) {
+    states[3].primes[0].coefficient = (struct pkcs1_bytes){octets, len};
+}
 
 void enter(int state) {
     now = states[state];

@@ -48,6 +48,9 @@ void *copy(const void *from, size_t size);
 void unchanged(const char *name, const void *now, const void *before, integer assigned, size_t size);
 uint8_t octet_at(const void *place);
 const void *at(const void *base, integer offset);
+/* So many octets that end where no memory is behind them. Of those that are far none may be written. */
+const void *before_end(size_t size);
+bool is_far(const void *place);
 bool is_there(const void *place, integer size);
 bool are_apart(const void *left, integer left_size, const void *right, integer right_size);
 

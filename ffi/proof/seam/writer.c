@@ -46,6 +46,8 @@ static uint32_t put_number(struct buffer *to, octets number) {
         return PKCS1_LENGTH;
     while (number.len > 1 && number.data[0] == 0)
         number.data++, number.len--;
+    if (number.len > 0xffffffff)
+        return PKCS1_OVERFLOW;
     if (number.data[0] >= 0x80)
         put_octet(&contents, 0);
     put(&contents, number.data, number.len);
