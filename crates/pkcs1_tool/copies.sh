@@ -136,12 +136,41 @@ keeps_rights() {
     chmod 644 "$room/files/priv.der"
 }
 
+# A private key's new file, and one behind a link to nothing, gives another group than that of IN nothing.
+keeps_from_other_groups() {
+    local it group wanted out
+    [ "$(id -u)" = 0 ] || {
+        less='not all of '
+        echo "run_built: the group of a new file isn't tried: only root gives IN another"
+        return
+    }
+    ln -s none.der "$room/files/nothing.der"
+    for it in '0 640 out.der' '1 600 out.der' '1 600 nothing.der'; do
+        read -r group wanted out <<< "$it"
+        rm -f "$room/files"/{out,none}.der
+        chgrp "$group" "$room/files/priv.der" && chmod 640 "$room/files/priv.der"
+        (umask 022 && runs copy priv priv.der "$out")
+        ends "copy priv of the group $group to $out" 0 "" "" $?
+        [ "$(stat -L -c %a "$room/files/$out")" = "$wanted" ] || fails "copy priv of the group $group: rights of $out"
+    done
+    rm "$room/files"/{nothing,none}.der
+    chgrp 0 "$room/files/priv.der" && chmod 644 "$room/files/priv.der"
+}
+
+# Copies into one folder at the same time take the names of new files from each other.
+copies_at_the_same_time() {
+    mkdir "$room/files/many"
+    seq 200 | (cd "$room/files" && xargs -P 16 -I{} "$program" copy pub pub.der many/{}.der) 2> "$room/error"
+    [ "$(cat "$room/files/many"/* | wc -c)" = 1600 ] || fails "copies at the same time: $(sort "$room/error" | uniq -c)"
+    rm -r "$room/files/many"
+}
+
 # The name of the new file is another one than those that are there. Where all are taken, nothing is written.
 takes_no_name() {
     printf mine > "$room/files/.pkcs1_tool"
     copies 0 "" out.der "$public" copy pub pub.der out.der
     touch "$room/files"/.pkcs1_tool.{0..99}
-    copies 1 "writing kept.der: no file can be created beside it" kept.der "$old" copy pub pub.der kept.der
+    copies 1 "writing kept.der: no name for a file beside it is free" kept.der "$old" copy pub pub.der kept.der
     rm "$room/files"/.pkcs1_tool*
 }
 
@@ -225,7 +254,7 @@ out.der" ] || fails "copies to a full disk: the key is lost, or another file is 
 }
 
 # The calls on files, in order, where strace is there to tell: the new file is created, written, on the disk and closed
-# before it is renamed, and OUT isn't truncated. OUT is looked at only behind a key.
+# before it is renamed, and then its name is; OUT isn't truncated. OUT is looked at only behind a key.
 calls_in_order() {
     local -x ASAN_OPTIONS=detect_leaks=0 # under strace a sanitizer can't look for leaks
     { command -v strace > /dev/null && strace -o "$room/trace" true 2> "$room/error"; } || {
@@ -235,12 +264,13 @@ calls_in_order() {
     runs_by strace -y -o "$room/trace" -e trace=file,write,fsync,ftruncate,close "$program" copy pub pub.der out.der
     ends "copy pub pub.der out.der, traced" 0 "" "" $?
     sed -n -E -e '/^open.*(\.der|\.pkcs1_tool)"/s/^open[^"]*"([^"]*\/)?([^"]*)", ([A-Z_|]*).*/\2 \3/p' \
-        -e 's/^(write|fsync|ftruncate|close)\([0-9]+<([^>]*\/)?(\.pkcs1_tool|[^>\/]*\.der)>.*/\1 \3/p' \
+        -e 's/^(write|fsync|ftruncate|close)\([0-9]+<([^>]*\/)?(\.pkcs1_tool|[^>\/]*\.der|files)>.*/\1 \3/p' \
         -e '/^(truncate|creat)\(/s/\(.*//p' \
         -e 's/^(rename|unlink)[^"]*"([^"]*\/)?([^"]*)".*"([^"]*\/)?([^"]*)".*/\1 \3 \5/p' "$room/trace" |
         sed -E 's/\|O_(CLOEXEC|NOCTTY|LARGEFILE)//g' > "$room/calls"
     printf '%s\n' 'pub.der O_RDONLY' 'out.der O_WRONLY' 'close out.der' '.pkcs1_tool O_WRONLY|O_CREAT|O_EXCL' \
-        'write .pkcs1_tool' 'fsync .pkcs1_tool' 'close .pkcs1_tool' 'rename .pkcs1_tool out.der' 'close pub.der' |
+        'write .pkcs1_tool' 'fsync .pkcs1_tool' 'close .pkcs1_tool' 'rename .pkcs1_tool out.der' 'fsync files' \
+        'close files' 'close pub.der' |
         diff - "$room/calls" || fails "copy pub pub.der out.der: other calls (>)"
     runs_by strace -o "$room/trace" -e trace=file,ftruncate "$program" copy pub null.der out.der
     ends "copy pub null.der out.der, traced" 1 "reading null.der: $error tag 0x30 was expected, 0x05 was found" "" $?
@@ -288,6 +318,8 @@ copies_keys() {
     copies_by_other_names
     copies_through_links
     keeps_rights
+    keeps_from_other_groups
+    copies_at_the_same_time
     takes_no_name
     copies_to_a_full_disk
     calls_in_order

@@ -2,7 +2,7 @@
  * of errors, and structs. rust/tool/src/rattle_std/system.rs, which calls these, declares them once more. Trusted, not
  * proved.
  *
- * Each returns FAILED or NO_MEMORY if the system didn't do it. What a signal interrupts is asked again. */
+ * Each returns FAILED, NO_MEMORY or EXISTS if the system didn't do it. What a signal interrupts is asked again. */
 #define _XOPEN_SOURCE 700
 #include <errno.h>
 #include <fcntl.h>
@@ -15,9 +15,14 @@
 #include <sys/stat.h>
 #include <unistd.h>
 
-enum { FAILED = -1, NO_MEMORY = -2 };
-enum how { READ, WRITE, CREATE_NEW, IN_PLACE };
+enum { FAILED = -1, NO_MEMORY = -2, EXISTS = -3 };
+enum how { READ, WRITE, CREATE, CREATE_NEW };
 enum kind { REGULAR, LINK, OTHER };
+/* What is known of a file. No two files have the same device and number. */
+struct found {
+    uint64_t device, number, len;
+    uint32_t mode, group;
+};
 /* The octets of a path, with the zero octet behind it. */
 enum { LONGEST = 4096 };
 #if PATH_MAX > 4096
@@ -31,15 +36,15 @@ ptrdiff_t pkcs1_os_write(int file, const uint8_t *octets, size_t len);
 ptrdiff_t pkcs1_os_sync(int file);
 ptrdiff_t pkcs1_os_set_mode(int file, unsigned mode);
 void pkcs1_os_close(int file);
-ptrdiff_t pkcs1_os_look(const char *path, int through_link, unsigned *mode);
-ptrdiff_t pkcs1_os_is_same(const char *one, const char *other);
+ptrdiff_t pkcs1_os_look(const char *path, int through_link, struct found *found);
+ptrdiff_t pkcs1_os_look_at(int file, struct found *found);
 ptrdiff_t pkcs1_os_real_path(const char *path, char room[LONGEST]);
 ptrdiff_t pkcs1_os_rename(const char *from, const char *to);
 ptrdiff_t pkcs1_os_remove(const char *path);
 
 /* What is returned of a call that failed. */
 static ptrdiff_t failed(void) {
-    return errno == ENOMEM ? NO_MEMORY : FAILED;
+    return errno == ENOMEM ? NO_MEMORY : errno == EEXIST ? EXISTS : FAILED;
 }
 
 static int opened(const char *path, int flags, unsigned mode) {
@@ -50,28 +55,14 @@ static int opened(const char *path, int flags, unsigned mode) {
     return file;
 }
 
-/* A file that is written in place, such as a device. What isn't there is created. A regular file that is there is left
- * as it is: a write that fails would lose what it holds. */
-static int opened_in_place(const char *path, unsigned mode) {
-    struct stat found;
-    int file = opened(path, O_WRONLY, 0), is_new = file < 0 && errno == ENOENT;
-    if (is_new)
-        file = opened(path, O_WRONLY | O_CREAT, mode);
-    if (file < 0 || (fstat(file, &found) == 0 && (!S_ISREG(found.st_mode) || (is_new && found.st_size == 0))))
-        return file;
-    (void)close(file);
-    errno = EEXIST;
-    return -1;
-}
-
 /* The number of the file. The mode is that of a file that is created. */
 ptrdiff_t pkcs1_os_open(const char *path, int how, unsigned mode) {
     int file = -1;
     switch ((enum how)how) {
         case READ: file = opened(path, O_RDONLY, 0); break;
         case WRITE: file = opened(path, O_WRONLY, 0); break;
+        case CREATE: file = opened(path, O_WRONLY | O_CREAT, mode); break;
         case CREATE_NEW: file = opened(path, O_WRONLY | O_CREAT | O_EXCL, mode); break;
-        case IN_PLACE: file = opened_in_place(path, mode); break;
     }
     return file < 0 ? failed() : file;
 }
@@ -116,21 +107,23 @@ void pkcs1_os_close(int file) {
     (void)close(file);
 }
 
-/* The kind of what stands at the path, or of what a link there names, and its mode. */
-ptrdiff_t pkcs1_os_look(const char *path, int through_link, unsigned *mode) {
-    struct stat found;
-    if ((through_link ? stat(path, &found) : lstat(path, &found)) < 0)
-        return failed();
-    *mode = (unsigned)found.st_mode;
-    return S_ISREG(found.st_mode) ? REGULAR : S_ISLNK(found.st_mode) ? LINK : OTHER;
+/* The kind of what is found. */
+static ptrdiff_t told(const struct stat *it, struct found *found) {
+    *found = (struct found){(uint64_t)it->st_dev, (uint64_t)it->st_ino, (uint64_t)it->st_size, (uint32_t)it->st_mode,
+                            (uint32_t)it->st_gid};
+    return S_ISREG(it->st_mode) ? REGULAR : S_ISLNK(it->st_mode) ? LINK : OTHER;
 }
 
-/* Whether both paths name one file. */
-ptrdiff_t pkcs1_os_is_same(const char *one, const char *other) {
-    struct stat first, second;
-    if (stat(one, &first) < 0 || stat(other, &second) < 0)
-        return failed();
-    return first.st_dev == second.st_dev && first.st_ino == second.st_ino;
+/* Of what stands at the path, or of what a link there names. */
+ptrdiff_t pkcs1_os_look(const char *path, int through_link, struct found *found) {
+    struct stat it;
+    return (through_link ? stat(path, &it) : lstat(path, &it)) < 0 ? failed() : told(&it, found);
+}
+
+/* Of an open file. */
+ptrdiff_t pkcs1_os_look_at(int file, struct found *found) {
+    struct stat it;
+    return fstat(file, &it) < 0 ? failed() : told(&it, found);
 }
 
 /* The path of the same file that goes through no link. */

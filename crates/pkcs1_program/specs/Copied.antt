@@ -83,6 +83,7 @@ write_error_text error.Used = codes "it was written before"
 write_error_text error.Memory = codes "no memory was found"
 write_error_text error.Open = codes "it can't be opened"
 write_error_text error.Create = codes "no file can be created beside it"
+write_error_text error.Taken = codes "no name for a file beside it is free"
 write_error_text error.Write = codes "a write failed"
 write_error_text error.Rename = codes "the new file can't be renamed to it"
 

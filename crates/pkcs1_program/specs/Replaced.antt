@@ -1,25 +1,34 @@
 -- Files that are written in place, or replaced by new ones.
-use Rattle.std.specs.Prelude.{◌≡◌, ◌⊎◌, ℕ, Bool, true, false, List, Option, Some, None, Result, Ok, Err}
+use Rattle.std.specs.Prelude.{◌≡◌, ◌⊎◌, ℕ, ⊤, Bool, true, false, List, Option, Some, None, Result, Ok, Err}
 use Rattle.std.specs.Io.KnownBytes.{Appends}
 use Rattle.std.specs.Path.{path_buf_bytes}
-use Rattle.der_core.specs.Words.{AppendsFront, FileTakes, OneFailed}
+use Rattle.der_core.specs.declared.error.Error.{Error}
+use Rattle.der_core.specs.Words.{AppendsFront, FileTakes, Obtains, OneFailed}
 use Rattle.pkcs1_program.specs.declared.copy_error.WriteError.{WriteError}
 use Rattle.pkcs1_program.specs.declared.copy_error.WriteError.TheVariants as error
 use Rattle.pkcs1_program.specs.declared.replace.Target.{Target}
-use Rattle.pkcs1_program.specs.declared.replace.Target.TheVariants.{InPlace, Beside}
+use Rattle.pkcs1_program.specs.declared.replace.Target.TheVariants.{Refused, InPlace, Beside}
 
--- How a file is written: in place, or by a new file at the path `beside`, which is then renamed to the path `to`.
+-- How a file is written: not at all, in place, or by a new file at the path `beside`, which is then renamed to the path
+-- `to`.
 pub data Aim : Type 0 where
+  refused : Aim
   in_place : Aim
   replaced : (to beside : List ℕ) → Aim
 
 abbrev pub aim_of : Target → Aim
-aim_of InPlace = in_place
+aim_of Refused = refused
+aim_of (InPlace rights) = in_place
 aim_of (Beside it) = replaced (path_buf_bytes it.to) (path_buf_bytes it.path)
 
 abbrev pub aimed : {E : Type 0} → Result Target E → Option Aim
 aimed (Ok target) = Some (aim_of target)
 aimed (Err e) = None
+
+-- A new file was created, or none was: something was at its path, or the error says that it is of files.
+abbrev pub ObtainsNew : {F : Type 0} → (Option F → Type 0) → Result (Option F) Error → Type 0
+ObtainsNew Is (Ok file) = Is file
+ObtainsNew Is (Err e) = Obtains Is (Err e)
 
 -- How writing a file ended: it has all bytes; or a write failed; or there is none.
 pub data Filled : Type 0 where
@@ -50,6 +59,7 @@ FillsFile creates IsClosed contents IsFlushed failures path absent bytes = creat
 -- The file has the bytes: it took them; or the new file took them, and was then renamed.
 abbrev pub PutsAt : (List ℕ → Filled → List ℕ → Type 0) → (List ℕ → Filled → List ℕ → Type 0)
     → (List ℕ → List ℕ → Bool → Type 0) → Aim → List ℕ → List ℕ → Type 0
+PutsAt old new renames refused path bytes = ⊥
 PutsAt old new renames in_place path bytes = old path whole bytes
 PutsAt old new renames (replaced to beside) path bytes = new beside whole bytes × renames beside to true
 
@@ -58,20 +68,27 @@ abbrev pub PutsFile : (List ℕ → Option Aim → Type 0) → (List ℕ → Fil
 PutsFile aims old new renames path bytes =
     (aim : Aim) × aims path (Some aim) × PutsAt old new renames aim path bytes
 
--- Why the file doesn't get the bytes. A new file that was created wasn't renamed, or that failed, and removing it was
--- tried. One that wasn't created here isn't removed.
+-- Why the file doesn't get the bytes. A refused one can't be opened. A new file that was created wasn't renamed, or that
+-- failed, and removing it was tried. One that wasn't created here isn't removed.
 abbrev pub RefusesAt : (List ℕ → Filled → List ℕ → Type 0) → (List ℕ → Filled → List ℕ → Type 0)
     → (List ℕ → List ℕ → Bool → Type 0) → (List ℕ → Bool → Type 0) → WriteError → Aim → List ℕ → List ℕ → Type 0
+RefusesAt old new renames removes error.Open refused path bytes = ⊤
 RefusesAt old new renames removes error.Open in_place path bytes = old path absent bytes
 RefusesAt old new renames removes error.Write in_place path bytes = old path stopped bytes
 RefusesAt old new renames removes error.Create (replaced to beside) path bytes = new beside absent bytes
+RefusesAt old new renames removes error.Taken (replaced to beside) path bytes = new beside absent bytes
 RefusesAt old new renames removes error.Write (replaced to beside) path bytes =
     new beside stopped bytes × (done : Bool) × removes beside done
 RefusesAt old new renames removes error.Rename (replaced to beside) path bytes =
     new beside whole bytes × renames beside to false × (done : Bool) × removes beside done
 RefusesAt old new renames removes error.Used aim path bytes = ⊥
 RefusesAt old new renames removes error.Memory aim path bytes = ⊥
+RefusesAt old new renames removes error.Create refused path bytes = ⊥
+RefusesAt old new renames removes error.Taken refused path bytes = ⊥
+RefusesAt old new renames removes error.Write refused path bytes = ⊥
+RefusesAt old new renames removes error.Rename refused path bytes = ⊥
 RefusesAt old new renames removes error.Create in_place path bytes = ⊥
+RefusesAt old new renames removes error.Taken in_place path bytes = ⊥
 RefusesAt old new renames removes error.Rename in_place path bytes = ⊥
 RefusesAt old new renames removes error.Open (replaced to beside) path bytes = ⊥
 

@@ -138,12 +138,12 @@ fn copy_file<'a, K: Copied, F: ReplaceFiles>(
     output: Path<'a>,
     rights: Option<Path<'a>>,
 ) -> Result<(), CopyError>
-    ensures copied { let old = FillsFile F.creates F.Created.is_closed F.Created.contents F.Created.is_flushed
+    ensures copied { let old = FillsFile F.opens_in_place F.Created.is_closed F.Created.contents F.Created.is_flushed
         F.Created.failures in
         let new = FillsFile F.creates_new F.New.is_closed F.New.contents F.New.is_flushed F.New.failures in
         OnOk result (CopiesFile K.encoding (F.opens (path_bytes input.entry)) F.Opened.remaining
         (PutsFile F.aims old new F.renames (path_bytes output.entry))) }
-    ensures err { let old = FillsFile F.creates F.Created.is_closed F.Created.contents F.Created.is_flushed
+    ensures err { let old = FillsFile F.opens_in_place F.Created.is_closed F.Created.contents F.Created.is_flushed
         F.Created.failures in
         let new = FillsFile F.creates_new F.New.is_closed F.New.contents F.New.is_flushed F.New.failures in
         IfErr result (WhyNotCopied K.encoding K.given (F.opens (path_bytes input.entry)) F.Opened.remaining
@@ -165,12 +165,12 @@ pub fn copy_pub<'a, F: ReplaceFiles>(
     input: Path<'a>,
     output: Path<'a>,
 ) -> Result<(), FileError<'a>>
-    ensures copied { let old = FillsFile F.creates F.Created.is_closed F.Created.contents F.Created.is_flushed
+    ensures copied { let old = FillsFile F.opens_in_place F.Created.is_closed F.Created.contents F.Created.is_flushed
         F.Created.failures in
         let new = FillsFile F.creates_new F.New.is_closed F.New.contents F.New.is_flushed F.New.failures in
         OnOk result (CopiesFile PublicKeyEncoding (F.opens (path_bytes input.entry)) F.Opened.remaining
         (PutsFile F.aims old new F.renames (path_bytes output.entry))) }
-    ensures err { let old = FillsFile F.creates F.Created.is_closed F.Created.contents F.Created.is_flushed
+    ensures err { let old = FillsFile F.opens_in_place F.Created.is_closed F.Created.contents F.Created.is_flushed
         F.Created.failures in
         let new = FillsFile F.creates_new F.New.is_closed F.New.contents F.New.is_flushed F.New.failures in
         IfErr result (λ told. WhyNotCopied PublicKeyEncoding rsa_public_key (F.opens (path_bytes input.entry))
@@ -191,12 +191,12 @@ pub fn copy_priv<'a, F: ReplaceFiles>(
     input: Path<'a>,
     output: Path<'a>,
 ) -> Result<(), FileError<'a>>
-    ensures copied { let old = FillsFile F.creates F.Created.is_closed F.Created.contents F.Created.is_flushed
+    ensures copied { let old = FillsFile F.opens_in_place F.Created.is_closed F.Created.contents F.Created.is_flushed
         F.Created.failures in
         let new = FillsFile F.creates_new F.New.is_closed F.New.contents F.New.is_flushed F.New.failures in
         OnOk result (CopiesFile PrivateKeyEncoding (F.opens (path_bytes input.entry)) F.Opened.remaining
         (PutsFile F.aims old new F.renames (path_bytes output.entry))) }
-    ensures err { let old = FillsFile F.creates F.Created.is_closed F.Created.contents F.Created.is_flushed
+    ensures err { let old = FillsFile F.opens_in_place F.Created.is_closed F.Created.contents F.Created.is_flushed
         F.Created.failures in
         let new = FillsFile F.creates_new F.New.is_closed F.New.contents F.New.is_flushed F.New.failures in
         IfErr result (λ told. WhyNotCopied PrivateKeyEncoding rsa_private_key (F.opens (path_bytes input.entry))

@@ -20,6 +20,8 @@ pub enum WriteError {
     Open,
     /// No new file can be created beside the file.
     Create,
+    /// Something is at each path of a new file beside the file.
+    Taken,
     /// A write, or the wait for the disk, failed.
     Write,
     /// The new file can't take the place of the file.
@@ -35,6 +37,7 @@ impl fmt::Display for WriteError {
             WriteError::Memory => write!(f, "no memory was found"),
             WriteError::Open => write!(f, "it can't be opened"),
             WriteError::Create => write!(f, "no file can be created beside it"),
+            WriteError::Taken => write!(f, "no name for a file beside it is free"),
             WriteError::Write => write!(f, "a write failed"),
             WriteError::Rename => write!(f, "the new file can't be renamed to it"),
         }

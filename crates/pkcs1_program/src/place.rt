@@ -5,7 +5,7 @@ ghost use Rattle.pkcs1_program.specs.Words.{FillsFile, PutsFile, PutsAt, Refuses
 
 use crate::copy_error::WriteError;
 use crate::filter::finish;
-use crate::replace::{Beside, ReplaceFiles, Target};
+use crate::replace::{Beside, ReplaceFiles, Rights, Target};
 use der_core::Close;
 use std::alloc::Global;
 use std::path::Path;
@@ -41,22 +41,23 @@ fn fill<W: Close>(sink: W, bytes: &[u8]) -> Result<(), WriteError>
     }
 }
 
-/// Creates the file, or truncates an old one, and writes the bytes.
+/// Opens what is no regular file, and writes the bytes.
 fn write_in_place<F: ReplaceFiles>(
     files: &F,
     path: Path<'_>,
+    rights: Rights,
     bytes: &[u8],
 ) -> Result<(), WriteError>
-    ensures ok { let old = FillsFile F.creates F.Created.is_closed F.Created.contents F.Created.is_flushed
+    ensures ok { let old = FillsFile F.opens_in_place F.Created.is_closed F.Created.contents F.Created.is_flushed
         F.Created.failures in
         let new = FillsFile F.creates_new F.New.is_closed F.New.contents F.New.is_flushed F.New.failures in
         OnOk result (PutsAt old new F.renames in_place (path_bytes path.entry) bytes.now) }
-    ensures err { let old = FillsFile F.creates F.Created.is_closed F.Created.contents F.Created.is_flushed
+    ensures err { let old = FillsFile F.opens_in_place F.Created.is_closed F.Created.contents F.Created.is_flushed
         F.Created.failures in
         let new = FillsFile F.creates_new F.New.is_closed F.New.contents F.New.is_flushed F.New.failures in
         IfErr result (λ error. RefusesAt old new F.renames F.removes error in_place (path_bytes path.entry) bytes.now) }
 {
-    match files.create(path) {
+    match files.open_in_place(path, rights) {
         Ok(sink) => fill(sink, bytes),
         Err(_) => Err(WriteError::Open),
     }
@@ -69,20 +70,22 @@ fn write_beside<F: ReplaceFiles>(
     path: Path<'_>,
     bytes: &[u8],
 ) -> Result<(), WriteError>
-    ensures ok { let old = FillsFile F.creates F.Created.is_closed F.Created.contents F.Created.is_flushed
+    ensures ok { let old = FillsFile F.opens_in_place F.Created.is_closed F.Created.contents F.Created.is_flushed
         F.Created.failures in
         let new = FillsFile F.creates_new F.New.is_closed F.New.contents F.New.is_flushed F.New.failures in
         let aim = replaced (path_buf_bytes beside.now.to) (path_buf_bytes beside.now.path) in
         OnOk result (PutsAt old new F.renames aim (path_bytes path.entry) bytes.now) }
-    ensures err { let old = FillsFile F.creates F.Created.is_closed F.Created.contents F.Created.is_flushed
+    ensures err { let old = FillsFile F.opens_in_place F.Created.is_closed F.Created.contents F.Created.is_flushed
         F.Created.failures in
         let new = FillsFile F.creates_new F.New.is_closed F.New.contents F.New.is_flushed F.New.failures in
         let aim = replaced (path_buf_bytes beside.now.to) (path_buf_bytes beside.now.path) in
         IfErr result (λ error. RefusesAt old new F.renames F.removes error aim (path_bytes path.entry) bytes.now) }
 {
     let new = beside.path.as_path();
-    let Ok(sink) = files.create_new(new, beside.rights) else {
-        return Err(WriteError::Create);
+    let sink = match files.create_new(new, beside.rights) {
+        Ok(Some(sink)) => sink,
+        Ok(None) => return Err(WriteError::Taken),
+        Err(_) => return Err(WriteError::Create),
     };
     if let Err(error) = fill(sink, bytes) {
         let _ = files.remove(new);
@@ -94,6 +97,9 @@ fn write_beside<F: ReplaceFiles>(
     }
     Ok(())
 }
+
+/// How many more names are tried for a new file where one is taken.
+const NAMES: u32 = 100;
 
 /// The file at a path. A regular one is replaced when the bytes are written, another one is written in place.
 #[derive(Drop)]
@@ -116,26 +122,49 @@ impl<'a, F: ReplaceFiles> FileAt<'a, F> {
             model,
         }
     }
+
+    /// Writes the bytes. The name of a new file has this number.
+    fn write_once(&self, number: u32, bytes: &[u8]) -> Result<(), WriteError>
+        ensures ok { let old = FillsFile F.opens_in_place F.Created.is_closed F.Created.contents F.Created.is_flushed
+            F.Created.failures in
+            let new = FillsFile F.creates_new F.New.is_closed F.New.contents F.New.is_flushed F.New.failures in
+            OnOk result (PutsFile F.aims old new F.renames (path_bytes self.now.path) bytes.now) }
+        ensures err { let old = FillsFile F.opens_in_place F.Created.is_closed F.Created.contents F.Created.is_flushed
+            F.Created.failures in
+            let new = FillsFile F.creates_new F.New.is_closed F.New.contents F.New.is_flushed F.New.failures in
+            IfErr result (λ error. RefusesFile F.aims old new F.renames F.removes (path_bytes self.now.path) error
+            bytes.now) }
+    {
+        match self.files.target(self.alloc, self.path, self.model, number) {
+            Ok(Target::Refused) => Err(WriteError::Open),
+            Ok(Target::InPlace(rights)) => write_in_place(self.files, self.path, rights, bytes),
+            Ok(Target::Beside(beside)) => write_beside(self.files, &beside, self.path, bytes),
+            Err(_) => Err(WriteError::Memory),
+        }
+    }
 }
 
 impl<F: ReplaceFiles> Place for FileAt<'_, F> {
     ghost takes = { λ place.
-        let old = FillsFile F.creates F.Created.is_closed F.Created.contents F.Created.is_flushed
+        let old = FillsFile F.opens_in_place F.Created.is_closed F.Created.contents F.Created.is_flushed
         F.Created.failures in
         let new = FillsFile F.creates_new F.New.is_closed F.New.contents F.New.is_flushed F.New.failures in
         PutsFile F.aims old new F.renames (path_bytes place.path) };
 
     ghost refuses = { λ place.
-        let old = FillsFile F.creates F.Created.is_closed F.Created.contents F.Created.is_flushed
+        let old = FillsFile F.opens_in_place F.Created.is_closed F.Created.contents F.Created.is_flushed
         F.Created.failures in
         let new = FillsFile F.creates_new F.New.is_closed F.New.contents F.New.is_flushed F.New.failures in
         RefusesFile F.aims old new F.renames F.removes (path_bytes place.path) };
 
     fn write(self, bytes: &[u8]) -> Result<(), WriteError> {
-        match self.files.target(self.alloc, self.path, self.model) {
-            Ok(Target::InPlace) => write_in_place(self.files, self.path, bytes),
-            Ok(Target::Beside(beside)) => write_beside(self.files, &beside, self.path, bytes),
-            Err(_) => Err(WriteError::Memory),
+        let mut written = self.write_once(0, bytes);
+        for number in 1..=NAMES {
+            if written != Err(WriteError::Taken) {
+                break;
+            }
+            written = self.write_once(number, bytes);
         }
+        written
     }
 }

@@ -35,8 +35,6 @@ PAIRS = [
     ("a private key over a file", "rename,1,EIO unlink,1,EIO"),
     ("a private key over a file", "stat,1,EIO open,2,ENOENT"),
     ("a private key over itself", "stat,1,EIO open,2,ENOENT"),
-    ("through a link", "realpath,1,EIO open,3,ENOENT"),
-    ("to a device", "open,2,ENOENT fstat,1,EIO"),
 ]
 
 
@@ -117,7 +115,7 @@ class Faults:
         """These calls fail."""
         kinds, error = [it.split(",")[0] for it in refused.split()], refused.split(",")[-1]
         again = error == "EINTR" and kinds[0] in AGAIN
-        left_out = {tools.RATTLE} if error == "EINTR" or len(kinds) > 1 or kinds[0] in tools.ITS_OWN else set()
+        left_out = {tools.RATTLE} if error == "EINTR" or len(kinds) > 1 else set()
         left_out |= {"cargo"} if again and kinds[0] in NOT_BY_CARGO else set()
         ran = {tool: self.run(tool, case, refused) for tool in self.compared if tool.name not in left_out}
         result, calls = ran[self.compared[0]]

@@ -1,7 +1,6 @@
 #!/usr/bin/env python3
 """folders.py NAME=TOOL..: copies in folders that have no path: one that would be too long, one whose file system is
-unmounted, and one over which another is mounted. OUT is replaced by its own name, or left as it is. The tool that
-rattle builds isn't tried."""
+unmounted, and one over which another is mounted. OUT is replaced by its own name, or left as it is."""
 import functools
 import os
 import shutil
@@ -86,8 +85,7 @@ def copied(tool, at, out, may_grow, error):
     shell = tools.Tool(tool.name, FULL[0] if not may_grow else tool.path)
     result = tools.run(shell, [*(FULL[1:] + [tool.path] if not may_grow else []), "copy", "priv", "key", out], at)
     if not error:
-        mode = 0o100644 if out == "link_to_nothing" else 0o100600
-        wanted[WRITTEN.get(out, out)] = (PRIVATE, mode)
+        wanted[WRITTEN.get(out, out)] = (PRIVATE, 0o100600)
     if (result.status, result.error.decode()) != (1 if error else 0, error):
         yield f"{tool.name} ends otherwise: {result}"
     if {name: (what, mode) for name, what, mode in result.files} != wanted:
@@ -116,5 +114,5 @@ def trials(compared):
 
 
 if __name__ == "__main__":
-    compared = [it for it in tools.tools_of(sys.argv[1:]) if it.name != tools.RATTLE]
+    compared = tools.tools_of(sys.argv[1:])
     sys.exit(tools.try_all("folders", compared, trials(compared)))

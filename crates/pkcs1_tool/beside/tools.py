@@ -12,9 +12,8 @@ from concurrent.futures import ThreadPoolExecutor
 PUBLIC = bytes.fromhex("3006020107020103")
 PRIVATE = bytes.fromhex("301b02010002010702010302010502010b02010d020102020104020106")
 OLD = b"old"
-# The tool that rattle builds has a std of its own. It asks for the real path of what is no link, writes a regular file
-# in place where that can't be had, and doesn't wait for the folder. A fault of these calls tells it from the others.
-RATTLE, ITS_OWN = "rattle", ("open", "stat", "lstat", "fstat", "realpath")
+# The tool that rattle builds has a std of its own, by which it does other calls again.
+RATTLE = "rattle"
 
 
 @dataclasses.dataclass(frozen=True)

@@ -58,7 +58,7 @@ fn carry_out<P: Eprint, F: ReplaceFiles, R: Source, W: Sink>(
     ensures status { (ok : Bool) × (result ≡ exit_status_of plan.now ok) }
     ensures done { let answered = (input : List ℕ) × GivesAll (R.remaining source.old) (R.remaining source.new) input
         × WritesOutput (W.contents sink.old) (W.contents sink.new) (lines_of input) × W.is_flushed sink.new in
-        let old = FillsFile F.creates F.Created.is_closed F.Created.contents F.Created.is_flushed
+        let old = FillsFile F.opens_in_place F.Created.is_closed F.Created.contents F.Created.is_flushed
         F.Created.failures in
         let new = FillsFile F.creates_new F.New.is_closed F.New.contents F.New.is_flushed F.New.failures in
         let takes = PutsFile F.aims old new F.renames in

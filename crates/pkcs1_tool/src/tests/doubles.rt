@@ -50,21 +50,22 @@ pub fn giving(left: &[u8], failing: u64) -> Slow<'_> {
     }
 }
 
-/// A source that gives `left` bytes, each of them `byte`.
+/// A source that gives `left` bytes, a front of the block per call.
 #[derive(Drop)]
-pub struct Many {
-    pub byte: u8,
+pub struct Many<'a> {
+    pub block: &'a [u8],
     pub left: u64,
 }
 
-impl Source for Many {
+impl Source for Many<'_> {
     ghost remaining = { λ _. None };
 
     ghost failures = { λ _. 0 };
 
     fn read(&mut self, buf: &mut [u8]) -> Result<usize> {
-        let count = self.left.min(buf.len() as u64) as usize;
-        buf[..count].fill(self.byte);
+        let most = self.block.len().min(buf.len());
+        let count = self.left.min(most as u64) as usize;
+        buf[..count].copy_from_slice(&self.block[..count]);
         self.left -= count as u64;
         Ok(count)
     }

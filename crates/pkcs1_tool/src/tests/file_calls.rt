@@ -2,12 +2,12 @@
 //! before it is whole, and no other file is touched.
 use crate::tests::checks::{equal, holds};
 use crate::tests::key_files::{PRIVATE, PUBLIC};
-use crate::tests::recorded::{Call, Calls, Recorder};
+use crate::tests::recorded::{Call, Calls, Recorder, Way};
 use pkcs1::{
     DecodeRsaPrivateKey, DecodeRsaPublicKey, EncodeRsaPrivateKey, EncodeRsaPublicKey,
     RsaPrivateKeyOwned, RsaPublicKeyOwned, RsaPublicKeyRef,
 };
-use pkcs1_program::{ReplaceFiles, Rights, Target, copy_priv, copy_pub};
+use pkcs1_program::{CopyError, ReplaceFiles, Rights, Target, WriteError, copy_priv, copy_pub};
 use std::alloc::Global;
 use std::cell::RefCell;
 use std::path::Path;
@@ -49,7 +49,7 @@ const IN_PLACE: &[Call] = &[
     Call::Read,
     Call::Read,
     Call::Target,
-    Call::Create,
+    Call::OpenInPlace,
     Call::Write,
     Call::Flush,
     Call::Close,
@@ -61,7 +61,8 @@ fn files<'a>(calls: &'a Calls, input: &'a [u8], failing: Option<Call>) -> Record
         calls,
         input,
         failing,
-        in_place: false,
+        way: Way::Beside,
+        free: "new.0",
     }
 }
 
@@ -69,20 +70,21 @@ fn files<'a>(calls: &'a Calls, input: &'a [u8], failing: Option<Call>) -> Record
 fn copies_call_files_in_order(rt: HostRuntime) {
     let alloc = rt.alloc();
     let (from, to) = (Path::new("in"), Path::new("out"));
-    for (input, in_place, private) in [
-        (PUBLIC, false, READ),
-        (PRIVATE, false, REPLACED),
-        (PRIVATE, true, IN_PLACE),
-        (b"0\x00".as_slice(), false, READ),
-        (b"1\x00".as_slice(), false, &READ[..2]),
+    for (input, way, private) in [
+        (PUBLIC, Way::Beside, READ),
+        (PRIVATE, Way::Beside, REPLACED),
+        (PRIVATE, Way::InPlace, IN_PLACE),
+        (PRIVATE, Way::NotAtAll, &REPLACED[..4]),
+        (b"0\x00".as_slice(), Way::Beside, READ),
+        (b"1\x00".as_slice(), Way::Beside, &READ[..2]),
     ] {
         let calls = RefCell::new(Vec::new(alloc));
         let recorder = Recorder {
-            in_place,
+            way,
             ..files(&calls, input, None)
         };
         let done = copy_priv(&recorder, alloc, from, to);
-        equal(&rt, done.is_ok(), input == PRIVATE);
+        equal(&rt, done.is_ok(), input == PRIVATE && way != Way::NotAtAll);
         equal(&rt, calls.into_inner().as_slice(), private);
     }
 }
@@ -152,6 +154,36 @@ fn a_new_file_is_removed(rt: HostRuntime) {
     }
 }
 
+/// Where the name of a new file is taken, the next one is tried, up to 101 of them.
+#[test]
+fn the_next_name_is_tried(rt: HostRuntime) {
+    let alloc = rt.alloc();
+    for (free, tried, is_copied) in [
+        ("new.1", 2, true),
+        ("new.100", 101, true),
+        ("new.101", 101, false),
+    ] {
+        let calls = RefCell::new(Vec::new(alloc));
+        let recorder = Recorder {
+            free,
+            ..files(&calls, PRIVATE, None)
+        };
+        let done = copy_priv(&recorder, alloc, Path::new("in"), Path::new("out"));
+        equal(&rt, done.is_ok(), is_copied);
+        if let Err(told) = done {
+            equal(&rt, told.error, CopyError::Write(WriteError::Taken));
+        }
+        let calls = calls.into_inner();
+        let count = 3 + 2 * tried;
+        let behind = if is_copied { &REPLACED[5..] } else { &[] };
+        equal(&rt, &calls.as_slice()[..3], READ);
+        for pair in calls.as_slice()[3..count].chunks_exact(2) {
+            equal(&rt, pair, &REPLACED[3..5]);
+        }
+        equal(&rt, &calls.as_slice()[count..], behind);
+    }
+}
+
 /// A new file for a public key gets the rights that the umask leaves.
 #[test]
 fn only_a_private_key_has_a_model(rt: HostRuntime) {
@@ -167,13 +199,14 @@ fn only_a_private_key_has_a_model(rt: HostRuntime) {
 #[test]
 fn an_absent_model_allows_the_owner_alone(rt: HostRuntime) -> Result<(), Fail> {
     let (path, model) = (Path::new("no_copy.der"), Path::new("no_model.der"));
-    let Target::Beside(new) = rt.target(rt.alloc(), path, Some(model))? else {
+    let Target::Beside(new) = rt.target(rt.alloc(), path, Some(model), 0)? else {
         holds(&rt, false);
         return Ok(());
     };
     let owner = Rights {
         mode: 0o600,
         are_kept: false,
+        group: None,
     };
     equal(&rt, new.rights, owner);
     Ok(())

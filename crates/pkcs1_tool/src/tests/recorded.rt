@@ -15,6 +15,7 @@ pub enum Call {
     Read,
     Target,
     Create,
+    OpenInPlace,
     CreateNew,
     Write,
     Flush,
@@ -40,8 +41,18 @@ pub struct Recorder<'a> {
     pub input: &'a [u8],
     /// The call on a file that fails.
     pub failing: Option<Call>,
-    /// Whether `out` is no regular file.
-    pub in_place: bool,
+    /// How `out` is written.
+    pub way: Way,
+    /// The one path at which a new file can be created.
+    pub free: &'a str,
+}
+
+/// How a file is written.
+#[derive(Clone, Copy, Debug, PartialEq, Eq)]
+pub enum Way {
+    NotAtAll,
+    InPlace,
+    Beside,
 }
 
 impl<'a> Recorder<'a> {
@@ -52,6 +63,15 @@ impl<'a> Recorder<'a> {
             left: &[],
             failing: self.failing,
             faults: 0,
+        }
+    }
+
+    /// What a call gives that creates or opens `out`.
+    fn created_by(&self, call: Call, path: Path<'_>) -> Result<Recorded<'a>> {
+        if self.called(call, path, "out") {
+            Ok(self.created())
+        } else {
+            Err(Error::new(ErrorKind::File))
         }
     }
 
@@ -85,11 +105,7 @@ impl<'a> FileSystem for Recorder<'a> {
     }
 
     fn create(&self, path: Path<'_>) -> Result<Recorded<'a>> {
-        if self.called(Call::Create, path, "out") {
-            Ok(self.created())
-        } else {
-            Err(Error::new(ErrorKind::File))
-        }
+        self.created_by(Call::Create, path)
     }
 }
 
@@ -97,6 +113,8 @@ impl<'a> ReplaceFiles for Recorder<'a> {
     type New = Recorded<'a>;
 
     ghost aims = { λ _ _. ⊤ };
+
+    ghost opens_in_place = { λ _ _. ⊤ };
 
     ghost creates_new = { λ _ _. ⊤ };
 
@@ -109,30 +127,37 @@ impl<'a> ReplaceFiles for Recorder<'a> {
         alloc: Global,
         path: Path<'_>,
         model: Option<Path<'_>>,
+        number: u32,
     ) -> std::result::Result<Target, AllocError> {
         if !self.called(Call::Target, path, "out") {
             return Err(AllocError);
         }
-        if self.in_place {
-            return Ok(Target::InPlace);
+        let rights = Rights::within(None, model.map(|_| 0o600), None);
+        match self.way {
+            Way::NotAtAll => Ok(Target::Refused),
+            Way::InPlace => Ok(Target::InPlace(rights)),
+            Way::Beside => Ok(Target::Beside(Beside {
+                to: path.to_path_buf(alloc)?,
+                path: Path::new(format!(in alloc; "new.{number}")?.as_str()).to_path_buf(alloc)?,
+                rights,
+            })),
         }
-        Ok(Target::Beside(Beside {
-            to: path.to_path_buf(alloc)?,
-            path: Path::new("new").to_path_buf(alloc)?,
-            rights: Rights::within(None, model.map(|_| 0o600)),
-        }))
     }
 
-    fn create_new(&self, path: Path<'_>, rights: Rights) -> Result<Recorded<'a>> {
-        if self.called(Call::CreateNew, path, "new") && rights.mode == 0o600 {
-            Ok(self.created())
-        } else {
-            Err(Error::new(ErrorKind::File))
+    fn open_in_place(&self, path: Path<'_>, _rights: Rights) -> Result<Recorded<'a>> {
+        self.created_by(Call::OpenInPlace, path)
+    }
+
+    fn create_new(&self, path: Path<'_>, rights: Rights) -> Result<Option<Recorded<'a>>> {
+        let is_free = self.called(Call::CreateNew, path, self.free);
+        if self.failing == Some(Call::CreateNew) || rights.mode != 0o600 {
+            return Err(Error::new(ErrorKind::File));
         }
+        Ok(is_free.then(|| self.created()))
     }
 
     fn rename(&self, from: Path<'_>, to: Path<'_>) -> io::Result<()> {
-        if self.called(Call::Rename, from, "new") && to.as_str() == "out" {
+        if self.called(Call::Rename, from, self.free) && to.as_str() == "out" {
             Ok(())
         } else {
             Err(io::Error::from(io::ErrorKind::Other))
@@ -140,7 +165,7 @@ impl<'a> ReplaceFiles for Recorder<'a> {
     }
 
     fn remove(&self, path: Path<'_>) -> io::Result<()> {
-        if self.called(Call::Remove, path, "new") {
+        if self.called(Call::Remove, path, self.free) {
             Ok(())
         } else {
             Err(io::Error::from(io::ErrorKind::Other))

@@ -30,7 +30,7 @@ pub mod path {
 
         /// The path of the folder, with a slash behind it, or nothing. A slash or `/.` at the end doesn't count, as for
         /// Rust's std. A `..` there counts as a name, at which no file can be.
-        pub(super) fn folder(&self) -> &'p [u8] {
+        fn folder(&self) -> &'p [u8] {
             let mut path = self.0;
             while let [rest @ .., b'/', b'.'] | [rest @ .., b'/'] = path {
                 if rest.is_empty() {
@@ -40,6 +40,11 @@ pub mod path {
             }
             let start = path.iter().rposition(|octet| *octet == b'/').map_or(0, |slash| slash + 1);
             path.split_at(start).0
+        }
+
+        /// The path of the folder. A slash behind it says the same, and none says that it is the current one.
+        pub fn parent(&self) -> Option<Path<'p>> {
+            Some(Path(self.folder()))
         }
 
         /// The path of this name in the same folder.
@@ -65,7 +70,7 @@ pub mod path {
 pub mod rt {
     use super::fs::OpenFile;
     use super::path::{Path, PathBuf};
-    use super::system::{self, File, How, Kind};
+    use super::system::{self, File, How};
     use super::{Global, io};
 
     /// Opens files.
@@ -75,7 +80,7 @@ pub mod rt {
         /// Opens a file. The mode is that of a file that is created.
         fn open_file(&self, how: How, mode: u32, path: Path<'_>) -> io::Result<Self::File>;
 
-        /// The path of a file at which no link stands: the one that is given or, of a link, the real one.
+        /// The path of the file that goes through no link.
         fn canonicalize(&self, alloc: Global, path: &str) -> io::Result<PathBuf>;
     }
 
@@ -87,17 +92,8 @@ pub mod rt {
         }
 
         fn canonicalize(&self, alloc: Global, path: &str) -> io::Result<PathBuf> {
-            let path = Path::new(path);
-            if system::look(path.0, false)?.0 != Kind::Link {
-                return Ok(path.to_path_buf(alloc)?);
-            }
-            let real = system::real_path(path.0)?;
-            let real = Path(real.octets()?);
-            // Something may be mounted over the folder where the file is.
-            if !system::is_same(path.0, real.0)? {
-                return Err(io::ErrorKind::Other.into());
-            }
-            Ok(real.to_path_buf(alloc)?)
+            let real = system::real_path(path.as_bytes())?;
+            Ok(Path(real.octets()?).to_path_buf(alloc)?)
         }
     }
 }
@@ -122,7 +118,7 @@ impl io::Write for system::File {
 pub mod fs {
     use super::path::Path;
     use super::rt::Files;
-    use super::system::{self, How, Kind};
+    use super::system::{self, Found, How, Kind};
     use super::{io, system::File as SystemFile};
 
     /// Opens and creates files by a handle.
@@ -133,40 +129,46 @@ pub mod fs {
             rt.open_file(How::Read, 0, path)
         }
 
-        /// Opens what is written in place, and creates it if nothing is there. Fails where a regular file is.
-        pub fn create<Rt: Files>(rt: &Rt, path: Path<'_>) -> io::Result<Rt::File> {
-            rt.open_file(How::InPlace, 0o666, path)
+        /// Would empty a file, which the tool never does.
+        pub fn create<Rt: Files>(_rt: &Rt, _path: Path<'_>) -> io::Result<Rt::File> {
+            Err(io::ErrorKind::Other.into())
         }
     }
 
     /// How a file is opened.
     pub struct OpenOptions {
-        write: bool,
-        create_new: bool,
+        how: How,
         pub(super) mode: u32,
     }
 
     impl OpenOptions {
         pub fn new() -> OpenOptions {
-            OpenOptions { write: false, create_new: false, mode: 0o666 }
+            OpenOptions { how: How::Read, mode: 0o666 }
+        }
+
+        fn asks(&mut self, how: How, is_asked: bool) -> &mut OpenOptions {
+            if is_asked {
+                self.how = how;
+            }
+            self
         }
 
         pub fn write(&mut self, write: bool) -> &mut OpenOptions {
-            self.write = write;
-            self
+            self.asks(How::Write, write)
         }
 
+        /// Behind `write`.
+        pub fn create(&mut self, create: bool) -> &mut OpenOptions {
+            self.asks(How::Create, create)
+        }
+
+        /// Behind `write`.
         pub fn create_new(&mut self, create_new: bool) -> &mut OpenOptions {
-            self.create_new = create_new;
-            self
+            self.asks(How::CreateNew, create_new)
         }
 
         pub fn open<Rt: Files>(&self, rt: &Rt, path: Path<'_>) -> io::Result<Rt::File> {
-            match (self.write, self.create_new) {
-                (true, true) => rt.open_file(How::CreateNew, self.mode, path),
-                (true, false) => rt.open_file(How::Write, 0, path),
-                (false, _) => Err(io::ErrorKind::Other.into()),
-            }
+            rt.open_file(self.how, self.mode, path)
         }
     }
 
@@ -175,12 +177,18 @@ pub mod fs {
 
     /// What an open file can do beside reading and writing.
     pub trait OpenFile {
+        fn metadata(&self) -> io::Result<Metadata>;
+
         fn sync_all(&self) -> io::Result<()>;
 
         fn set_permissions(&self, permissions: Permissions) -> io::Result<()>;
     }
 
     impl OpenFile for SystemFile {
+        fn metadata(&self) -> io::Result<Metadata> {
+            self.look().map(Metadata)
+        }
+
         fn sync_all(&self) -> io::Result<()> {
             self.sync()
         }
@@ -191,39 +199,34 @@ pub mod fs {
     }
 
     /// What is known of a file.
-    pub struct Metadata {
-        kind: Kind,
-        pub(super) mode: u32,
-    }
+    pub struct Metadata(pub(super) (Kind, Found));
 
     impl Metadata {
         pub fn is_file(&self) -> bool {
-            self.kind == Kind::Regular
+            self.0.0 == Kind::Regular
+        }
+
+        pub fn is_symlink(&self) -> bool {
+            self.0.0 == Kind::Link
+        }
+
+        pub fn len(&self) -> u64 {
+            self.0.1.len
         }
     }
 
     /// Of the file that a link names, if one stands there.
     pub fn metadata<Rt>(_rt: &Rt, path: Path<'_>) -> io::Result<Metadata> {
-        system::look(path.0, true).map(|(kind, mode)| Metadata { kind, mode })
+        system::look(path.0, true).map(Metadata)
     }
 
     /// Of a link itself, if one stands there.
     pub fn symlink_metadata<Rt>(_rt: &Rt, path: Path<'_>) -> io::Result<Metadata> {
-        system::look(path.0, false).map(|(kind, mode)| Metadata { kind, mode })
+        system::look(path.0, false).map(Metadata)
     }
 
-    /// Renames a file, and waits until the disk has its name. Where a folder can't be waited for, the file has its name
-    /// all the same.
     pub fn rename<Rt>(_rt: &Rt, from: Path<'_>, to: Path<'_>) -> io::Result<()> {
-        system::rename(from.0, to.0)?;
-        let folder = match to.folder() {
-            b"" => b".",
-            folder => folder,
-        };
-        if let Ok(folder) = SystemFile::open(folder, How::Read, 0) {
-            let _ = folder.sync();
-        }
-        Ok(())
+        system::rename(from.0, to.0)
     }
 
     pub fn remove_file<Rt>(_rt: &Rt, path: Path<'_>) -> io::Result<()> {
@@ -231,20 +234,38 @@ pub mod fs {
     }
 }
 
-/// The modes of files.
+/// What Unix knows of files.
 pub mod os {
     pub mod unix {
         pub mod fs {
             use super::super::super::fs::{Metadata, OpenOptions, Permissions};
 
-            /// The mode of a file that is there.
+            /// The numbers of a file that is there.
             pub trait MetadataExt {
+                fn dev(&self) -> u64;
+
+                fn ino(&self) -> u64;
+
                 fn mode(&self) -> u32;
+
+                fn gid(&self) -> u32;
             }
 
             impl MetadataExt for Metadata {
+                fn dev(&self) -> u64 {
+                    self.0.1.device
+                }
+
+                fn ino(&self) -> u64 {
+                    self.0.1.number
+                }
+
                 fn mode(&self) -> u32 {
-                    self.mode
+                    self.0.1.mode
+                }
+
+                fn gid(&self) -> u32 {
+                    self.0.1.group
                 }
             }
 

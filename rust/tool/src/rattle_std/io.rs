@@ -9,6 +9,7 @@ pub type Result<T> = core::result::Result<T, Error>;
 #[derive(Clone, Copy, Debug, PartialEq, Eq)]
 pub enum ErrorKind {
     OutOfMemory,
+    AlreadyExists,
     Other,
 }
 

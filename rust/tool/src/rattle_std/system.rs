@@ -13,8 +13,8 @@ unsafe extern "C" {
     safe fn pkcs1_os_sync(file: c_int) -> isize;
     safe fn pkcs1_os_set_mode(file: c_int, mode: c_uint) -> isize;
     safe fn pkcs1_os_close(file: c_int);
-    fn pkcs1_os_look(path: *const c_char, through_link: c_int, mode: *mut c_uint) -> isize;
-    fn pkcs1_os_is_same(one: *const c_char, other: *const c_char) -> isize;
+    fn pkcs1_os_look(path: *const c_char, through_link: c_int, found: *mut Found) -> isize;
+    fn pkcs1_os_look_at(file: c_int, found: *mut Found) -> isize;
     fn pkcs1_os_real_path(path: *const c_char, room: *mut c_char) -> isize;
     fn pkcs1_os_rename(from: *const c_char, to: *const c_char) -> isize;
     fn pkcs1_os_remove(path: *const c_char) -> isize;
@@ -50,14 +50,17 @@ unsafe impl GlobalAlloc for Malloc {
     }
 }
 
-/// What `ffi/lib/os.c` returns where there was no memory. Of another failure it returns -1.
+/// What `ffi/lib/os.c` returns where there was no memory, or where a file is already. Of another failure it returns
+/// -1.
 const NO_MEMORY: isize = -2;
+const EXISTS: isize = -3;
 
 /// What a call returned, if it didn't fail.
 fn count(returned: isize) -> Result<usize> {
     match usize::try_from(returned) {
         Ok(count) => Ok(count),
         Err(_) if returned == NO_MEMORY => Err(ErrorKind::OutOfMemory.into()),
+        Err(_) if returned == EXISTS => Err(ErrorKind::AlreadyExists.into()),
         Err(_) => Err(ErrorKind::Other.into()),
     }
 }
@@ -98,10 +101,10 @@ pub enum How {
     Read = 0,
     /// For writing.
     Write = 1,
+    /// For writing, and creates it if nothing is there.
+    Create = 2,
     /// For writing, if nothing is there.
-    CreateNew = 2,
-    /// For writing, if no regular file is there.
-    InPlace = 3,
+    CreateNew = 3,
 }
 
 /// An open file.
@@ -138,6 +141,14 @@ impl File {
     pub fn set_mode(&self, mode: u32) -> Result<()> {
         done(pkcs1_os_set_mode(self.0, mode))
     }
+
+    /// Its kind, and what is known of it.
+    pub fn look(&self) -> Result<(Kind, Found)> {
+        let mut found = Found::default();
+        // SAFETY: what is found may be written.
+        let kind = count(unsafe { pkcs1_os_look_at(self.0, &mut found) })?;
+        Ok((Kind::of(kind), found))
+    }
 }
 
 /// Reads from the file of this number into the front of the room: how many octets, 0 at the end.
@@ -160,24 +171,33 @@ pub enum Kind {
     Other,
 }
 
-/// The kind of what stands at the path, or of what a link there names, and its mode.
-pub fn look(path: &[u8], through_link: bool) -> Result<(Kind, u32)> {
-    let name = Name::of(path)?;
-    let mut mode = 0;
-    // SAFETY: the name ends with a zero octet, and the mode may be written.
-    let kind = match count(unsafe { pkcs1_os_look(name.as_ptr(), through_link.into(), &mut mode) })? {
-        0 => Kind::Regular,
-        1 => Kind::Link,
-        _ => Kind::Other,
-    };
-    Ok((kind, mode))
+impl Kind {
+    fn of(number: usize) -> Kind {
+        match number {
+            0 => Kind::Regular,
+            1 => Kind::Link,
+            _ => Kind::Other,
+        }
+    }
 }
 
-/// Whether both paths name one file.
-pub fn is_same(one: &[u8], other: &[u8]) -> Result<bool> {
-    let (one, other) = (Name::of(one)?, Name::of(other)?);
-    // SAFETY: both names end with a zero octet.
-    count(unsafe { pkcs1_os_is_same(one.as_ptr(), other.as_ptr()) }).map(|same| same == 1)
+/// What is known of a file. `ffi/c/os.c` has the same struct.
+#[derive(Clone, Copy, Default)]
+#[repr(C)]
+pub struct Found {
+    pub device: u64,
+    pub number: u64,
+    pub len: u64,
+    pub mode: u32,
+    pub group: u32,
+}
+
+/// The kind of what stands at the path, or of what a link there names, and what is known of it.
+pub fn look(path: &[u8], through_link: bool) -> Result<(Kind, Found)> {
+    let (name, mut found) = (Name::of(path)?, Found::default());
+    // SAFETY: the name ends with a zero octet, and what is found may be written.
+    let kind = count(unsafe { pkcs1_os_look(name.as_ptr(), through_link.into(), &mut found) })?;
+    Ok((Kind::of(kind), found))
 }
 
 /// The path of the same file that goes through no link.

@@ -24,6 +24,10 @@ pub mod path {
             Ok(PathBuf(self.0.into()))
         }
 
+        pub fn parent(&self) -> Option<Path<'p>> {
+            self.0.parent().map(Path)
+        }
+
         pub fn with_file_name(&self, _alloc: Global, name: &str) -> Result<PathBuf, AllocError> {
             Ok(PathBuf(self.0.with_file_name(name)))
         }
@@ -52,11 +56,7 @@ pub mod rt {
 
         fn open_file(&self, how: &std::fs::OpenOptions, path: Path<'_>) -> io::Result<Self::File>;
 
-        /// Opens what is written in place, and creates it if nothing is there. A regular file that is there is left as
-        /// it is: a write that fails would lose what it holds.
-        fn open_in_place(&self, path: Path<'_>) -> io::Result<Self::File>;
-
-        /// The path of a file at which no link stands: the one that is given or, of a link, the real one.
+        /// The path of the file that goes through no link.
         fn canonicalize(&self, alloc: Global, path: &str) -> io::Result<PathBuf>;
     }
 
@@ -67,43 +67,9 @@ pub mod rt {
             how.open(path.0)
         }
 
-        fn open_in_place(&self, path: Path<'_>) -> io::Result<std::fs::File> {
-            let mut how = std::fs::OpenOptions::new();
-            let (file, is_new) = match how.write(true).open(path.0) {
-                Err(error) if error.kind() == io::ErrorKind::NotFound => (how.create(true).open(path.0)?, true),
-                opened => (opened?, false),
-            };
-            let found = file.metadata()?;
-            if found.is_file() && !(is_new && found.len() == 0) {
-                return Err(io::ErrorKind::AlreadyExists.into());
-            }
-            Ok(file)
-        }
-
         fn canonicalize(&self, _alloc: Global, path: &str) -> io::Result<PathBuf> {
-            if !std::fs::symlink_metadata(path)?.is_symlink() {
-                return Ok(PathBuf(path.into()));
-            }
-            let real = std::fs::canonicalize(path)?;
-            // Something may be mounted over the folder where the file is.
-            if !is_same(path.as_ref(), &real)? {
-                return Err(io::ErrorKind::NotFound.into());
-            }
-            Ok(PathBuf(real))
+            std::fs::canonicalize(path).map(PathBuf)
         }
-    }
-
-    /// Whether both paths name one file.
-    #[cfg(unix)]
-    fn is_same(one: &std::path::Path, other: &std::path::Path) -> io::Result<bool> {
-        use std::os::unix::fs::MetadataExt;
-        let (one, other) = (std::fs::metadata(one)?, std::fs::metadata(other)?);
-        Ok(one.dev() == other.dev() && one.ino() == other.ino())
-    }
-
-    #[cfg(not(unix))]
-    fn is_same(_one: &std::path::Path, _other: &std::path::Path) -> io::Result<bool> {
-        Ok(true)
     }
 }
 
@@ -122,9 +88,8 @@ pub mod fs {
             rt.open_file(std::fs::OpenOptions::new().read(true), path)
         }
 
-        /// Opens what is written in place, and creates it if nothing is there. Fails where a regular file is.
         pub fn create<Rt: Files>(rt: &Rt, path: Path<'_>) -> io::Result<Rt::File> {
-            rt.open_in_place(path)
+            rt.open_file(std::fs::OpenOptions::new().write(true).create(true).truncate(true), path)
         }
     }
 
@@ -138,6 +103,11 @@ pub mod fs {
 
         pub fn write(&mut self, write: bool) -> &mut OpenOptions {
             self.0.write(write);
+            self
+        }
+
+        pub fn create(&mut self, create: bool) -> &mut OpenOptions {
+            self.0.create(create);
             self
         }
 
@@ -156,12 +126,18 @@ pub mod fs {
 
     /// What an open file can do beside reading and writing.
     pub trait OpenFile {
+        fn metadata(&self) -> io::Result<Metadata>;
+
         fn sync_all(&self) -> io::Result<()>;
 
         fn set_permissions(&self, permissions: Permissions) -> io::Result<()>;
     }
 
     impl OpenFile for std::fs::File {
+        fn metadata(&self) -> io::Result<Metadata> {
+            self.metadata()
+        }
+
         fn sync_all(&self) -> io::Result<()> {
             self.sync_all()
         }
@@ -185,18 +161,8 @@ pub mod fs {
         std::fs::symlink_metadata(path.0)
     }
 
-    /// Renames a file, and waits until the disk has its name. Where a folder can't be waited for, the file has its name
-    /// all the same.
     pub fn rename<Rt>(_rt: &Rt, from: Path<'_>, to: Path<'_>) -> io::Result<()> {
-        std::fs::rename(from.0, to.0)?;
-        let folder = match to.0.parent() {
-            Some(folder) if !folder.as_os_str().is_empty() => folder,
-            _ => std::path::Path::new("."),
-        };
-        if let Ok(folder) = std::fs::File::open(folder) {
-            let _ = folder.sync_all();
-        }
-        Ok(())
+        std::fs::rename(from.0, to.0)
     }
 
     pub fn remove_file<Rt>(_rt: &Rt, path: Path<'_>) -> io::Result<()> {
@@ -204,28 +170,38 @@ pub mod fs {
     }
 }
 
-/// The modes of files. On other systems than Unix a file has one that lets all read and write, and none is set.
+/// What Unix knows of files. On other systems each has a mode that lets all read and write, and none is set, and all have
+/// the same numbers.
 pub mod os {
     pub mod unix {
         pub mod fs {
             use super::super::super::fs::{Metadata, OpenOptions, Permissions};
 
-            /// The mode of a file that is there.
-            pub trait MetadataExt {
-                fn mode(&self) -> u32;
-            }
+            /// The numbers of a file that is there.
+            #[cfg(unix)]
+            pub use std::os::unix::fs::MetadataExt;
 
-            impl MetadataExt for Metadata {
-                #[cfg(unix)]
-                fn mode(&self) -> u32 {
-                    std::os::unix::fs::MetadataExt::mode(self)
+            #[cfg(not(unix))]
+            pub trait MetadataExt {
+                fn dev(&self) -> u64 {
+                    0
                 }
 
-                #[cfg(not(unix))]
+                fn ino(&self) -> u64 {
+                    0
+                }
+
                 fn mode(&self) -> u32 {
                     0o666
                 }
+
+                fn gid(&self) -> u32 {
+                    0
+                }
             }
+
+            #[cfg(not(unix))]
+            impl MetadataExt for Metadata {}
 
             /// Rights of a mode.
             pub trait PermissionsExt {

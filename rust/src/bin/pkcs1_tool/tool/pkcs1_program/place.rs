@@ -3,7 +3,7 @@
 
 use crate::tool::pkcs1_program::copy_error::WriteError;
 use crate::tool::pkcs1_program::filter::finish;
-use crate::tool::pkcs1_program::replace::{Beside, ReplaceFiles, Target};
+use crate::tool::pkcs1_program::replace::{Beside, ReplaceFiles, Rights, Target};
 use crate::proved::der_core::Close;
 use crate::rattle_std::alloc::Global;
 use crate::rattle_std::path::Path;
@@ -25,13 +25,14 @@ fn fill<W: Close>(sink: W, bytes: &[u8]) -> Result<(), WriteError> {
     }
 }
 
-/// Creates the file, or truncates an old one, and writes the bytes.
+/// Opens what is no regular file, and writes the bytes.
 fn write_in_place<F: ReplaceFiles>(
     files: &F,
     path: Path<'_>,
+    rights: Rights,
     bytes: &[u8],
 ) -> Result<(), WriteError> {
-    match files.create(path) {
+    match files.open_in_place(path, rights) {
         Ok(sink) => fill(sink, bytes),
         Err(_) => Err(WriteError::Open),
     }
@@ -45,8 +46,10 @@ fn write_beside<F: ReplaceFiles>(
     bytes: &[u8],
 ) -> Result<(), WriteError> {
     let new = beside.path.as_path();
-    let Ok(sink) = files.create_new(new, beside.rights) else {
-        return Err(WriteError::Create);
+    let sink = match files.create_new(new, beside.rights) {
+        Ok(Some(sink)) => sink,
+        Ok(None) => return Err(WriteError::Taken),
+        Err(_) => return Err(WriteError::Create),
     };
     if let Err(error) = fill(sink, bytes) {
         let _ = files.remove(new);
@@ -58,6 +61,9 @@ fn write_beside<F: ReplaceFiles>(
     }
     Ok(())
 }
+
+/// How many more names are tried for a new file where one is taken.
+const NAMES: u32 = 100;
 
 /// The file at a path. A regular one is replaced when the bytes are written, another one is written in place.
 pub struct FileAt<'a, F: ReplaceFiles> {
@@ -77,14 +83,27 @@ impl<'a, F: ReplaceFiles> FileAt<'a, F> {
             model,
         }
     }
+
+    /// Writes the bytes. The name of a new file has this number.
+    fn write_once(&self, number: u32, bytes: &[u8]) -> Result<(), WriteError> {
+        match self.files.target(self.alloc, self.path, self.model, number) {
+            Ok(Target::Refused) => Err(WriteError::Open),
+            Ok(Target::InPlace(rights)) => write_in_place(self.files, self.path, rights, bytes),
+            Ok(Target::Beside(beside)) => write_beside(self.files, &beside, self.path, bytes),
+            Err(_) => Err(WriteError::Memory),
+        }
+    }
 }
 
 impl<F: ReplaceFiles> Place for FileAt<'_, F> {
     fn write(self, bytes: &[u8]) -> Result<(), WriteError> {
-        match self.files.target(self.alloc, self.path, self.model) {
-            Ok(Target::InPlace) => write_in_place(self.files, self.path, bytes),
-            Ok(Target::Beside(beside)) => write_beside(self.files, &beside, self.path, bytes),
-            Err(_) => Err(WriteError::Memory),
+        let mut written = self.write_once(0, bytes);
+        for number in 1..=NAMES {
+            if written != Err(WriteError::Taken) {
+                break;
+            }
+            written = self.write_once(number, bytes);
         }
+        written
     }
 }

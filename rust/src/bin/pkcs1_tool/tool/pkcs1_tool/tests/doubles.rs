@@ -46,16 +46,17 @@ pub fn giving(left: &[u8], failing: u64) -> Slow<'_> {
     }
 }
 
-/// A source that gives `left` bytes, each of them `byte`.
-pub struct Many {
-    pub byte: u8,
+/// A source that gives `left` bytes, a front of the block per call.
+pub struct Many<'a> {
+    pub block: &'a [u8],
     pub left: u64,
 }
 
-impl Source for Many {
+impl Source for Many<'_> {
     fn read(&mut self, buf: &mut [u8]) -> Result<usize> {
-        let count = self.left.min(buf.len() as u64) as usize;
-        buf[..count].fill(self.byte);
+        let most = self.block.len().min(buf.len());
+        let count = self.left.min(most as u64) as usize;
+        buf[..count].copy_from_slice(&self.block[..count]);
         self.left -= count as u64;
         Ok(count)
     }

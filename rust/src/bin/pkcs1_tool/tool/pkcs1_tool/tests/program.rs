@@ -67,12 +67,12 @@ fn stops_on_a_failed_write() { let rt = HostRuntime;
 
 #[test]
 fn stops_past_the_longest_input() { let rt = HostRuntime;
-    for (byte, left, want, output) in [
-        (b'x', 16777216, Ok(()), b"bad line\n".as_slice()),
-        (b'x', 16777217, Err(Fault::Read), b"".as_slice()),
-        (b'\n', u64::MAX, Err(Fault::Read), b"".as_slice()),
+    for (block, left, want, output) in [
+        (&[b'x'; 65536], 16777216, Ok(()), b"bad line\n".as_slice()),
+        (&[b'x'; 65536], 16777217, Err(Fault::Read), b"".as_slice()),
+        (&[b'\n'; 65536], u64::MAX, Err(Fault::Read), b"".as_slice()),
     ] {
-        let mut source = Many { byte, left };
+        let mut source = Many { block, left };
         let mut sink = ToWrite::new(Vec::new(rt.alloc()));
         let done = run(rt.alloc(), &mut source, &mut sink);
         assert_eq!(rt; done, want, "of {left}");

@@ -1,0 +1,16 @@
+use Rattle.std.proofs.Common.{IfErr, OnOk}
+use Rattle.std.specs.Path.{path_bytes}
+use Rattle.pkcs1_program.specs.Words.{FillsFile, PutsFile, RefusesFile}
+use Rattle.pkcs1_program.proofs.place.FileAtPlace.write.Given as goal
+
+-- the last try put the bytes there, or this is why it didn't
+abbrev pub invariant-loop-number : goal.invariant-loop-number
+invariant-loop-number g l =
+    let old = FillsFile g.F.ReplaceFiles.opens_in_place g.F.Created.Close.is_closed g.F.Created.Sink.contents
+    g.F.Created.Sink.is_flushed g.F.Created.Sink.failures in
+    let new = FillsFile g.F.ReplaceFiles.creates_new g.F.New.Close.is_closed g.F.New.Sink.contents
+    g.F.New.Sink.is_flushed g.F.New.Sink.failures in
+    OnOk l.written
+    (PutsFile g.F.ReplaceFiles.aims old new g.F.ReplaceFiles.renames (path_bytes l.fn.self.path) l.fn.bytes)
+    × IfErr l.written (λ error. RefusesFile g.F.ReplaceFiles.aims old new g.F.ReplaceFiles.renames
+    g.F.ReplaceFiles.removes (path_bytes l.fn.self.path) error l.fn.bytes)
