@@ -20,7 +20,7 @@ fn fill(slice: &mut [u8], end: usize, bytes: &[u8]) -> usize {
 }
 
 impl<'b> BackWriter<'b> {
-    /// A writer over a slice, with nothing filled yet.
+    /// A writer over this slice, with nothing filled yet.
     pub fn new(slice: &'b mut [u8]) -> BackWriter<'b> {
         let free = slice.len();
         BackWriter { slice, free }
@@ -36,13 +36,13 @@ impl<'b> BackWriter<'b> {
         self.slice.len() - self.free
     }
 
-    /// Writes the octets in front of what is filled.
+    /// Writes the octets in front of what is filled. There has to be room for them.
     #[inline(always)]
     pub(crate) fn prepend(&mut self, bytes: &[u8]) {
         self.free = fill(self.slice, self.free, bytes);
     }
 
-    /// Writes a header in front of what is filled.
+    /// Writes a header in front of what is filled. There has to be room for it.
     #[inline(always)]
     pub(crate) fn prepend_header(&mut self, header: Header) {
         let tag = header.tag.octet();

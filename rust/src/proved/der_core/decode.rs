@@ -10,36 +10,40 @@ use crate::proved::der_core::reader::{Octets, Reader, reject_if_failed};
 use crate::proved::der_core::slice_reader::SliceReader;
 use crate::proved::der_core::tag::Tag;
 
-/// A type whose values are read from their contents octets.
+/// A type whose values are read from their contents octets. Of these the type's `read` gives the value, or the kind of
+/// the first fault. Calls return that, or `OutOfMemory` where the type may allocate.
 pub trait DecodeValue<B: Octets, M: Memory>: Contents + Sized {
     /// Reads all that is left as the contents octets of a value. Exactly `header.length` bytes are left.
     fn decode_value<R: Reader<B>>(memory: M, reader: &mut R, header: Header) -> Result<Self>;
 
-    /// The contents octets of the encoding in front, if it has the tag, and what follows it, if that is quickly told.
+    /// The contents octets, at most `Length::MAX`, of the encoding in front, if it has the tag, and what follows it:
+    /// what reading gives of the tag with any contents. `None` says nothing of the bytes.
     #[inline(always)]
     fn quick_split(_bytes: B, _tag: Tag) -> Option<(B, B)> {
         None
     }
 
-    /// The value with these contents octets, if that is quickly told.
+    /// The value that reading gives of contents, which have to be within `Length::MAX`. `None` says nothing of them.
     #[inline(always)]
     fn quick_value(_memory: M, _contents: B) -> Option<Self> {
         None
     }
 }
 
-/// A type whose values are read from their encodings.
+/// A type whose values are read from their encodings. Of the bytes the type's `read_front` gives the value in front,
+/// or the kind of the first fault. Calls return that, or `OutOfMemory` where the type may allocate.
 pub trait Decode<B: Octets, M: Memory>: Encoding + Sized {
-    /// Reads the encoding at the front of what is left.
+    /// Reads the encoding at the front of what is left. Err: the first fault, or `OutOfMemory`.
     fn decode<R: Reader<B>>(memory: M, reader: &mut R) -> Result<Self>;
 
-    /// The value whose encoding is in front, and what follows it, if that is quickly told.
+    /// The value that reading gives at the front, and what follows it. `None` says nothing of the bytes.
     #[inline(always)]
     fn quick(_memory: M, _bytes: B) -> Option<(Self, B)> {
         None
     }
 
-    /// Reads a whole slice: `Overflow` if it is longer than `Length::MAX`, `TrailingData` if bytes follow the encoding.
+    /// Reads a whole slice. Ok only if it encodes a value of the type, and no other: then this value. Err: the first
+    /// fault, `Overflow` if it is longer than `Length::MAX`, `TrailingData` if bytes follow, or `OutOfMemory`.
     fn from_der(memory: M, bytes: B) -> Result<Self>;
 }
 
@@ -86,14 +90,14 @@ fn read_slowly<'a, T: DecodeValue<&'a [u8], M> + FixedTag, M: Memory>(
     Ok(value)
 }
 
-/// Reads a whole slice without memory: the value that it means, or the error of its first fault.
+/// Reads a whole slice without memory. Ok exactly if it encodes a `T`: then this value. Err: the first fault.
 #[inline(always)]
 pub fn read_borrowed<'a, T: Decode<&'a [u8], NoMemory>>(bytes: &'a [u8]) -> Result<T> {
     T::from_der(NoMemory, bytes)
 }
 
-/// Reads a whole slice of a type that may take memory: the value that it means, or the error of its first fault, or
-/// `OutOfMemory`.
+/// Reads a whole slice of a type that may take memory. Ok only if it encodes a value of the type, and no other: then
+/// this value. Err: the first fault, or `OutOfMemory` where the type may allocate.
 #[inline(always)]
 pub fn read_owned<'a, T: Decode<&'a [u8], M>, M: Memory>(memory: M, bytes: &'a [u8]) -> Result<T> {
     T::from_der(memory, bytes)

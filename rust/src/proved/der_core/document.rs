@@ -39,7 +39,7 @@ impl<'a> DecodeValue<&'a [u8], NoMemory> for AnySequence {
     }
 }
 
-/// Writes the encoding of a message over a slice of exactly its length.
+/// Writes the encoding of a message, which has to have one within `Length::MAX`, over a slice of just its length.
 pub fn write_over<T: EncodeValue + FixedTag>(message: &T, out: &mut [u8]) {
     let mut writer = BackWriter::new(out);
     message.prepend(&mut writer);
@@ -55,7 +55,8 @@ pub struct Open;
 /// Marks secret documents: they can't be compared, and their `Debug` shows no byte.
 pub struct Secret;
 
-/// One whole SEQUENCE, of at most `Length::MAX` bytes. `S` says whether it is open or secret.
+/// One whole SEQUENCE, of at most `Length::MAX` bytes, whatever its contents are. `S` says whether it is open or
+/// secret: what is said of a `Document` is said of a `SecretDocument` too.
 #[derive(PartialEq, Eq)]
 pub struct DocumentOf<S> {
     bytes: Vec<u8>,
@@ -70,7 +71,8 @@ pub type Document = DocumentOf<Open>;
 pub type SecretDocument = DocumentOf<Secret>;
 
 impl<S> DocumentOf<S> {
-    /// Copies the bytes, if they are one SEQUENCE. `OutOfMemory` is returned only if they are.
+    /// Copies the bytes. Ok only if they are a document: then it holds these bytes. Err: their first fault, or
+    /// `OutOfMemory`, which is returned only if they are a document.
     pub fn from_der(alloc: Global, bytes: &[u8]) -> Result<DocumentOf<S>> {
         AnySequence::from_der(NoMemory, bytes)?;
         Ok(DocumentOf {
@@ -79,8 +81,9 @@ impl<S> DocumentOf<S> {
         })
     }
 
-    /// Encodes a message: `Value` if it has no encoding, `Overflow` if all its encodings are longer than `Length::MAX`.
-    /// `OutOfMemory` is returned only if one is within that.
+    /// Encodes a message. Ok: the document holds its shortest encoding. `Value` exactly if the message has no
+    /// encoding, with a tag that the type refuses. `Overflow` exactly if it has encodings, but none within
+    /// `Length::MAX`. `OutOfMemory` is returned only if one is within that.
     pub fn encode_msg<'a, T: EncodeValue + Sequence<'a>>(
         alloc: Global,
         message: &T,
@@ -95,7 +98,7 @@ impl<S> DocumentOf<S> {
         })
     }
 
-    /// The whole encoding.
+    /// The whole encoding: the bytes of one SEQUENCE, at most `Length::MAX`.
     pub fn as_bytes(&self) -> &[u8] {
         self.bytes.as_slice()
     }
@@ -105,9 +108,13 @@ impl<S> DocumentOf<S> {
         Length::of(self.bytes.len())
     }
 
-    /// Reads a source to its end. Its bytes must be one SEQUENCE. Stops with `Overflow` as soon as more than
-    /// `Length::MAX` bytes came, so it returns even if the source never ends. `File` is returned only if a read of the
-    /// source failed, `OutOfMemory` only if a byte came. What was read before an error is lost.
+    /// Reads a source to its end. Ok: the document is all that the source gave, and no call of the source failed. Err:
+    /// - `File`: one call of the source failed. After each other error none did.
+    /// - `OutOfMemory`: at least one byte came, and no more than `Length::MAX`.
+    /// - `Overflow`: more bytes came than `Length::MAX`, by at most 65536.
+    /// - Otherwise the first fault of all that the source gave, which may be `Overflow` too.
+    ///
+    /// It returns even if the source never ends. What was read before an error is lost.
     pub fn read_from<R: Source>(alloc: Global, source: &mut R) -> Result<DocumentOf<S>> {
         let bytes = read_all(alloc, source, Length::MAX)?;
         AnySequence::from_der(NoMemory, bytes.as_slice())?;
@@ -117,13 +124,14 @@ impl<S> DocumentOf<S> {
         })
     }
 
-    /// Writes all bytes to the sink, in order, and flushes. The only error is `File`, if a call of the sink failed; the
-    /// sink has then taken a beginning of the bytes. Nothing is allocated.
+    /// Writes all bytes to the sink, in order. Ok: it took them all, is flushed, and no call of it failed. Err: it is
+    /// `File`, one call of the sink failed, and the sink took a beginning of the bytes. Nothing is allocated.
     pub fn write_to<W: Sink>(&self, sink: &mut W) -> Result<()> {
         write_all(self.bytes.as_slice(), sink)
     }
 
-    /// Reads the document in a file, as `read_from` does. `File` also if the file can't be opened.
+    /// Reads the document in a file. Ok: it is all that the file opened at this path gave, from its opening to its
+    /// end. Err: `File` if the file can't be opened, else as of `read_from`. It is never `NoRoom`.
     pub fn read_der_file<F: FileSystem>(
         files: &F,
         alloc: Global,
@@ -133,8 +141,9 @@ impl<S> DocumentOf<S> {
         DocumentOf::read_from(alloc, &mut source)
     }
 
-    /// Creates the file, or truncates an old one, writes as `write_to` does, and closes it. `File` also if it can't be
-    /// created. After an error the file may hold a beginning of the bytes.
+    /// Creates the file, or truncates an old one, writes the document, and closes the file. Ok: the file took exactly
+    /// the document, from its creation until it was closed, and was flushed. Err: it is `File`. Either the file can't
+    /// be created, or one call of it failed, and it was closed when it had taken a beginning of the bytes.
     pub fn write_der_file<F: FileSystem>(&self, files: &F, path: Path<'_>) -> Result<()> {
         let mut sink = files.create(path)?;
         let written = self.write_to(&mut sink);

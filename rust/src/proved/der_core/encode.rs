@@ -10,35 +10,41 @@ use crate::proved::der_core::writer::Writer;
 
 /// A type whose values are written as contents octets.
 pub trait EncodeValue: Contents {
-    /// The length of the contents.
+    /// The length of the contents that are written. `Value` exactly if the value has none, else `Overflow` exactly if
+    /// they are longer than `Length::MAX`.
     fn value_len(&self) -> Result<Length>;
 
-    /// Appends the contents, which have at most `Length::MAX` octets: `NoRoom` after a beginning of them.
+    /// Appends the contents. There have to be some, within `Length::MAX`. The only error is `NoRoom`, exactly if the
+    /// writer has too little room, after a beginning of them.
     fn append_value<W: Writer>(&self, writer: &mut W) -> Result<()>;
 
-    /// Appends the contents: `Value` and `Overflow` before any octet, `NoRoom` after a beginning of them.
+    /// Appends the contents: `Value` and `Overflow`, as of `value_len`, before any octet, `NoRoom` after a beginning.
     fn encode_value<W: Writer>(&self, writer: &mut W) -> Result<()> {
         self.value_len()?;
         self.append_value(writer)
     }
 
-    /// Writes the contents in front of what is filled.
+    /// Writes the contents in front of what is filled. There have to be some, within `Length::MAX`, and room for them.
     fn prepend_value(&self, writer: &mut BackWriter<'_>);
 }
 
-/// A type whose values are written as encodings.
+/// A type whose values are written as encodings. Its calls return these errors exactly in these cases:
+/// - `Value`: the value has no encoding, of any length. The tag is one that `refused` names.
+/// - `Overflow`: it has encodings, but none within `Length::MAX`.
+/// - `NoRoom`: its shortest encoding is longer than the slice, or than the room of the writer.
 pub trait Encode: Encoding {
-    /// The length of the encoding: `Value` if the value has none, `Overflow` if all are longer than `Length::MAX`.
+    /// The length of the shortest encoding; `Value` and `Overflow` exactly if they say so.
     fn encoded_len(&self) -> Result<Length>;
 
-    /// Appends the encoding. `Value` and `Overflow` come before any octet is written, `NoRoom` after a beginning of
-    /// them.
+    /// Appends the shortest encoding. `Value` and `Overflow` come before any octet is written, `NoRoom` after a
+    /// beginning of them. A writer without a limit gives no `NoRoom`.
     fn encode<W: Writer>(&self, writer: &mut W) -> Result<()>;
 
-    /// Writes the encoding in front of what is filled.
+    /// Writes the encoding in front of what is filled. There has to be one within `Length::MAX`, and room for it.
     fn prepend(&self, writer: &mut BackWriter<'_>);
 
-    /// Writes the encoding to the front of a slice and returns its length. On an error the slice is unchanged.
+    /// Writes the shortest encoding of the value to the front of a slice. Ok(n): the first n bytes are the encoding,
+    /// and those behind them are as they were. Err: the slice is as it was, and the error says exactly why.
     fn encode_into(&self, out: &mut [u8]) -> Result<usize>
     where
         Self: Sized,
@@ -53,8 +59,9 @@ pub trait Encode: Encoding {
         Ok(length)
     }
 
-    /// Writes the encoding to the front of a slice and returns that part. The rest of the slice is unchanged, on an
-    /// error all of it. A caller that needs this in a proof calls `encode_into`.
+    /// Writes the shortest encoding of the value to the front of a slice. Ok: that part, which is no longer than the
+    /// slice. The bytes behind it are as they were. Err: all of the slice is as it was, and the error says exactly
+    /// why. A caller that needs in a proof what the slice holds calls `encode_into`.
     fn encode_to_slice<'b>(&self, out: &'b mut [u8]) -> Result<&'b [u8]>
     where
         Self: Sized,

@@ -46,6 +46,7 @@ pub enum ErrorKind {
 }
 
 impl fmt::Display for ErrorKind {
+    /// Prints the text of the kind, exactly as `kind_text` has it.
     fn fmt(&self, f: &mut fmt::Formatter<'_>) -> fmt::Result {
         let encoding = match *self {
             ErrorKind::Length { tag } => {
@@ -108,21 +109,21 @@ impl Error {
 }
 
 impl From<AllocError> for Error {
-    /// `OutOfMemory`.
+    /// `OutOfMemory`, of an error of std's allocators.
     fn from(_error: AllocError) -> Error {
         Error::new(ErrorKind::OutOfMemory)
     }
 }
 
 impl<T> From<AllocFailed<T>> for Error {
-    /// `OutOfMemory`. The value that couldn't be stored is dropped.
+    /// `OutOfMemory`, of an error of std's allocators. The value that couldn't be stored is dropped.
     fn from(_error: AllocFailed<T>) -> Error {
         Error::new(ErrorKind::OutOfMemory)
     }
 }
 
 impl fmt::Display for Error {
-    /// Prints the message of the kind.
+    /// Prints the text of the kind, and nothing else.
     fn fmt(&self, f: &mut fmt::Formatter<'_>) -> fmt::Result {
         write!(f, "{}", self.kind)
     }

@@ -17,10 +17,11 @@ pub trait FileSystem {
     /// A file that was created.
     type Created: Close;
 
-    /// Opens the file at the path.
+    /// Opens the file at the path. Ok: what the path stands for, by `opens`. Err: `File`, and it stands for nothing.
     fn open(&self, path: Path<'_>) -> Result<Self::Opened>;
 
-    /// Creates the file at the path, or truncates an old one.
+    /// Creates the file at the path, or truncates an old one. Ok: what the path stands for, by `creates`. Err: `File`,
+    /// and it stands for nothing.
     fn create(&self, path: Path<'_>) -> Result<Self::Created>;
 }
 

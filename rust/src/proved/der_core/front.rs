@@ -12,10 +12,11 @@ pub trait FrontRow {}
 
 /// A row that is read at the front of what is left.
 pub trait DecodeFront<B: Octets, M: Memory>: FrontRow + Sized {
-    /// Reads the row at the front of what is left.
+    /// Reads the row at the front of what is left. Err: the first fault, or `OutOfMemory` where it may allocate. A
+    /// reader that has failed gives only a row of no part, and stays so.
     fn decode_front<R: Reader<B>>(memory: M, reader: &mut R) -> Result<Self>;
 
-    /// The row in front, and what follows it, if that is quickly told.
+    /// The row that reading gives at the front, and what follows it. `None` says nothing of the bytes.
     #[inline(always)]
     fn quick_front(_memory: M, _bytes: B) -> Option<(Self, B)> {
         None

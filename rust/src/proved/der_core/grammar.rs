@@ -12,7 +12,7 @@ pub trait Contents {}
 
 /// A type whose values have encodings: those that are printed of their spellings.
 pub trait Encoding {
-    /// Whether encodings may begin with the octet of the tag.
+    /// False only if no encoding of the type begins with the octet of the tag.
     fn may_start_with(tag: Tag) -> bool;
 }
 

@@ -40,13 +40,13 @@ fn read_header<'a, R: Reader<&'a [u8]>>(reader: &mut R, likely: Tag) -> Result<H
 }
 
 impl Header {
-    /// Reads a tag octet and a length.
+    /// Reads the tag octet and the length at the front of what is left. Err: the first fault of these.
     #[inline(always)]
     pub(crate) fn decode<'a, R: Reader<&'a [u8]>>(reader: &mut R) -> Result<Header> {
         Header::decode_likely(reader, Tag::NULL)
     }
 
-    /// Reads a tag octet and a length, faster if the tag is the likely one.
+    /// The same, faster if the tag is the likely one.
     #[inline(always)]
     pub fn decode_likely<'a, R: Reader<&'a [u8]>>(reader: &mut R, likely: Tag) -> Result<Header> {
         read_header(reader, likely)

@@ -68,7 +68,7 @@ fn read_length<'a, R: Reader<&'a [u8]>>(reader: &mut R) -> Result<Length> {
 impl TryFrom<usize> for Length {
     type Error = Error;
 
-    /// `Overflow` if the number exceeds `MAX`.
+    /// The length of this number. `Overflow` exactly if it exceeds `MAX`.
     fn try_from(value: usize) -> Result<Length> {
         if value <= Length::MAX.to_usize() {
             Ok(Length {
@@ -90,19 +90,19 @@ impl Length {
     /// The most octets that contents, or an encoding that is read or written whole, may have: 2^32 - 1.
     pub const MAX: Length = Length { value: 4294967295 };
 
-    /// A length of at most `MAX`.
+    /// The length of this number, which has to be at most `MAX`.
     pub(crate) fn of(value: usize) -> Length {
         Length {
             value: value as u32,
         }
     }
 
-    /// The number of octets, as slices count them.
+    /// The number of octets, as slices count them. It is at most `MAX`.
     pub fn to_usize(self) -> usize {
         self.value as usize
     }
 
-    /// The sum, or `Overflow` if it exceeds `MAX`.
+    /// The sum. `Overflow` exactly if it exceeds `MAX`.
     pub fn checked_add(self, other: Length) -> Result<Length> {
         match self.value.checked_add(other.value) {
             Some(value) => Ok(Length { value }),
@@ -110,7 +110,7 @@ impl Length {
         }
     }
 
-    /// The length of an encoding whose contents have this length, or `Overflow` if it exceeds `MAX`.
+    /// The length of an encoding whose contents have this length. `Overflow` exactly if it exceeds `MAX`.
     pub fn for_tlv(self, _tag: Tag) -> Result<Length> {
         self.header_len().checked_add(self)
     }
@@ -131,7 +131,7 @@ impl Length {
         Length { value }
     }
 
-    /// The length octets (X.690 8.1.3), as few as possible.
+    /// The length octets (X.690 8.1.3), as few as possible, at most 5.
     pub(crate) fn to_bytes(self) -> ArrayVec<u8, 5> {
         self.octets()
     }
@@ -164,7 +164,7 @@ impl Length {
         bytes
     }
 
-    /// Reads the length octets.
+    /// Reads the length octets at the front of what is left. Err: the first fault of these.
     #[inline(always)]
     pub(crate) fn decode<'a, R: Reader<&'a [u8]>>(reader: &mut R) -> Result<Length> {
         read_length(reader)

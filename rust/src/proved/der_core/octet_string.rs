@@ -21,7 +21,7 @@ pub struct OctetStringRef<'a> {
 }
 
 impl<'a> OctetStringRef<'a> {
-    /// `Overflow` if there are more than `Length::MAX` octets.
+    /// The string of these octets. `Overflow` exactly if there are more than `Length::MAX`.
     pub fn new(bytes: &'a [u8]) -> Result<OctetStringRef<'a>> {
         if bytes.len() > Length::MAX.to_usize() {
             return Err(Error::new(ErrorKind::Overflow));
@@ -29,7 +29,7 @@ impl<'a> OctetStringRef<'a> {
         Ok(OctetStringRef { bytes })
     }
 
-    /// The octets, borrowed from the input.
+    /// The octets, borrowed from the input. They are at most `Length::MAX`.
     pub fn as_bytes(&self) -> &'a [u8] {
         self.bytes
     }

@@ -75,7 +75,8 @@ where
 /// contract.
 pub fn lemma_one_encoding<T: OneEncoding>() {}
 
-/// Writes a value's only encoding to the front of a slice and returns its length, as `encode_into` does.
+/// Writes a value's only encoding to the front of a slice: no value of the type has two. Ok(n): the first n bytes are
+/// the encoding, and those behind them are as they were. Err: the slice is as it was, and the error says exactly why.
 #[inline(always)]
 pub fn write_only<T: OneEncoding + Encode>(value: &T, out: &mut [u8]) -> Result<usize> {
     value.encode_into(out)

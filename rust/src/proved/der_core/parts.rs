@@ -12,12 +12,13 @@ use crate::proved::der_core::memory::Memory;
 use crate::proved::der_core::reader::{Octets, Reader};
 use crate::proved::der_core::writer::Writer;
 
-/// Contents that are read to the end of what is left.
+/// Contents that are read to the end of what is left. Of these the type's `read` gives the value, or the kind of the
+/// first fault. Calls return that, or `OutOfMemory` where the type may allocate.
 pub trait DecodeParts<B: Octets, M: Memory>: Contents + Sized {
-    /// Reads all that is left as the contents octets of a value.
+    /// Reads all that is left as the contents octets of a value. Err: the first fault, or `OutOfMemory`.
     fn decode_parts<R: Reader<B>>(memory: M, reader: &mut R) -> Result<Self>;
 
-    /// The value with these contents octets, if that is quickly told.
+    /// The value that reading gives of all of these contents octets. `None` says nothing of them.
     #[inline(always)]
     fn quick_parts(_memory: M, _contents: B) -> Option<Self> {
         None

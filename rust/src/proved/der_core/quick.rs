@@ -1,12 +1,13 @@
 // Made of crates/der_core/src/quick.rt by tools/erase/erase.py, and not to be edited.
-//! Quick reading: of what is met most, from slices, without kinds of errors. `None` says nothing of the bytes.
+//! Quick reading, which is tried before a slice is read part by part: of what is met most, without kinds of errors.
+//! `None` says nothing of the bytes.
 
 use crate::proved::der_core::decode::Decode;
 use crate::proved::der_core::memory::Memory;
 use crate::proved::der_core::tag::Tag;
 
-/// The contents octets of the encoding in front, if it has the tag and a length of at most two octets behind the first,
-/// and what follows it.
+/// What reading gives of the tag with any contents, if the length has at most two octets behind the first: the
+/// contents octets, at most `Length::MAX`, and what follows.
 #[inline(always)]
 pub fn quick_contents(bytes: &[u8], tag: Tag) -> Option<(&[u8], &[u8])> {
     match bytes {
@@ -44,7 +45,7 @@ pub fn quick_short(bytes: &[u8], tag: Tag) -> Option<(&[u8], &[u8])> {
     }
 }
 
-/// An encoding of any tag in front, with a length of one octet: its tag, its contents octets, and what follows it.
+/// The same of any tag, for an encoding with a length of one octet: its tag, its contents octets, and what follows it.
 #[inline(always)]
 pub fn quick_any(bytes: &[u8]) -> Option<(Tag, &[u8], &[u8])> {
     let tag = Tag::from_octet(*bytes.first()?).ok()?;
@@ -61,7 +62,7 @@ pub fn begins_with(bytes: &[u8], tag: Tag) -> bool {
     }
 }
 
-/// The value that all of the bytes encode.
+/// The value that reading gives of all of the bytes.
 #[inline(always)]
 pub fn quick_alone<'a, T: Decode<&'a [u8], M>, M: Memory>(memory: M, bytes: &'a [u8]) -> Option<T> {
     match T::quick(memory, bytes) {

@@ -12,8 +12,9 @@ impl<'a> Octets for &'a [u8] {}
 /// The bytes that a reader has left.
 pub trait BytesLeft {}
 
-/// A cursor over bytes. Once a call has returned an error, the reader has failed: it has no bytes left, `peek_octet`
-/// returns `None`, and each later call with a `Result` returns `Failed`.
+/// A cursor over bytes. After Ok, what stands behind what was read is left. Once a call has returned an error, the
+/// reader has failed: it has no bytes left, `peek_octet` returns `None`, and each later call with a `Result` returns
+/// `Failed`. So does each call of another type that reads from it.
 pub trait Reader<B: Octets>: BytesLeft + Sized {
     /// How many bytes are left to read: 0 on a reader that has failed.
     fn remaining_len(&self) -> Length;
@@ -21,16 +22,16 @@ pub trait Reader<B: Octets>: BytesLeft + Sized {
     /// The next byte, without reading it. `None` at the end and on a reader that has failed.
     fn peek_octet(&self) -> Option<u8>;
 
-    /// Reads the next `len` bytes, or returns `Incomplete`.
+    /// Reads the next `len` bytes. `Incomplete` exactly if fewer are left.
     fn read_slice(&mut self, len: Length) -> Result<B>;
 
-    /// Reads the next `len` bytes as a reader of their own, or returns `Incomplete`.
+    /// Reads the next `len` bytes as a reader of their own. `Incomplete` exactly if fewer are left.
     fn nested(&mut self, len: Length) -> Result<Self>;
 
     /// Marks the reader as failed, and returns the error of this kind.
     fn error(&mut self, kind: ErrorKind) -> Error;
 
-    /// Returns `TrailingData` if a byte is left.
+    /// Reads nothing. `TrailingData` exactly if a byte is left.
     fn finish(&mut self) -> Result<()>;
 }
 

@@ -50,13 +50,15 @@ where
 
 /// A type whose contents are written as a row of parts.
 pub trait EncodeInParts: InParts {
-    /// The length of the parts.
+    /// The length of the parts that are written. `Value` exactly if the value has none, else `Overflow` exactly if
+    /// they are longer than `Length::MAX`.
     fn parts_len(&self) -> Result<Length>;
 
-    /// Appends the parts: `NoRoom` after a beginning of them.
+    /// Appends the parts. There have to be some, within `Length::MAX`. The only error is `NoRoom`, exactly if the
+    /// writer has too little room, after a beginning of them.
     fn append_parts<W: Writer>(&self, writer: &mut W) -> Result<()>;
 
-    /// Writes the parts in front of what is filled.
+    /// Writes the parts in front of what is filled. There have to be some, within `Length::MAX`, and room for them.
     fn prepend_parts(&self, writer: &mut BackWriter<'_>);
 }
 

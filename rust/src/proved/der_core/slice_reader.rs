@@ -14,7 +14,7 @@ pub struct SliceReader<'a> {
 impl<'a> BytesLeft for SliceReader<'a> {}
 
 impl<'a> SliceReader<'a> {
-    /// A reader over all of the bytes, or `Overflow` if there are more than `Length::MAX`.
+    /// A reader that has all of the bytes left. `Overflow` exactly if they are more than `Length::MAX`.
     pub fn new(bytes: &'a [u8]) -> Result<SliceReader<'a>> {
         if bytes.len() > Length::MAX.to_usize() {
             return Err(Error::new(ErrorKind::Overflow));

@@ -11,7 +11,7 @@ fn failed(faults: &mut u64) -> Error {
     Error::new(ErrorKind::File)
 }
 
-/// A source over a std reader. Each error of the reader is counted, and returned as `File`.
+/// A source over a std reader. Each error of it is counted, and returned as `File`. Std's files report no bytes.
 #[derive(Debug)]
 pub struct FromRead<R> {
     inner: R,
@@ -19,7 +19,7 @@ pub struct FromRead<R> {
 }
 
 impl<R: Read> FromRead<R> {
-    /// A source that counts no failed call yet.
+    /// A source over this reader, which counts no failed call yet.
     pub fn new(inner: R) -> Self {
         FromRead { inner, faults: 0 }
     }
@@ -40,6 +40,7 @@ impl<R: Read> FromRead<R> {
 }
 
 impl<R: Read> Source for FromRead<R> {
+    /// As of `Source`. The only error is `File`.
     fn read(&mut self, buf: &mut [u8]) -> Result<usize> {
         match self.inner.read(buf) {
             Ok(count) => Ok(count),
@@ -52,8 +53,8 @@ impl<R: Read> Source for FromRead<R> {
     }
 }
 
-/// A sink over a std writer. Each error of the writer is counted, and returned as `File`; so is a write that takes none
-/// of one or more bytes.
+/// A sink over a std writer. Each error of the writer is counted, and returned as `File`; so is a write that takes
+/// none of one or more bytes. Std's files report no bytes. That a writer of std is flushed or closed isn't said.
 #[derive(Debug)]
 pub struct ToWrite<W> {
     inner: W,
@@ -61,7 +62,7 @@ pub struct ToWrite<W> {
 }
 
 impl<W: Write> ToWrite<W> {
-    /// A sink that counts no failed call yet.
+    /// A sink over this writer, which counts no failed call yet.
     pub fn new(inner: W) -> Self {
         ToWrite { inner, faults: 0 }
     }
@@ -82,6 +83,7 @@ impl<W: Write> ToWrite<W> {
 }
 
 impl<W: Write> Sink for ToWrite<W> {
+    /// As of `Sink`. The only error is `File`, also where the writer takes none of one or more bytes.
     fn write(&mut self, bytes: &[u8]) -> Result<usize> {
         match self.inner.write(bytes) {
             Ok(count) if count > 0 || bytes.is_empty() => Ok(count),
@@ -89,6 +91,7 @@ impl<W: Write> Sink for ToWrite<W> {
         }
     }
 
+    /// As of `Sink`. The only error is `File`.
     fn flush(&mut self) -> Result<()> {
         match self.inner.flush() {
             Ok(()) => Ok(()),

@@ -34,7 +34,7 @@ impl Tag {
     /// The tag of SEQUENCE (X.690 8.9) and SEQUENCE OF (8.10): universal, constructed, number 16.
     pub const SEQUENCE: Tag = Tag { octet: 0x30 };
 
-    /// The tag with this octet, or `TagUnknown` if the octet isn't supported.
+    /// The tag with this octet. `TagUnknown` exactly if the octet isn't supported.
     pub fn from_octet(octet: u8) -> Result<Tag> {
         if octet & 0x1f == 0x1f || octet == 0 || octet == 0x20 {
             Err(Error::new(ErrorKind::TagUnknown { octet }))
@@ -64,19 +64,19 @@ pub struct TagNumber {
 }
 
 impl TagNumber {
-    /// The number of the tag `[value]`.
+    /// The number of the tag `[value]`, which has to be at most 30.
     pub(crate) fn new(value: u8) -> TagNumber {
         TagNumber { value }
     }
 
-    /// The number, without the class and the constructed bit.
+    /// The number, without the class and the constructed bit. It is at most 30.
     pub fn value(self) -> u8 {
         self.value
     }
 }
 
 impl fmt::Display for Tag {
-    /// Prints the octet in hexadecimal.
+    /// Prints exactly `0x` and the two hexadecimal digits of the octet, in lower case.
     fn fmt(&self, f: &mut fmt::Formatter<'_>) -> fmt::Result {
         write!(f, "{}", PrintedOctet(self.octet))
     }

@@ -10,9 +10,9 @@ use crate::rattle_std::alloc::Global;
 /// How many bytes are read at once.
 const PIECE: usize = 65536;
 
-/// Reads a source to its end. Stops with `Overflow` as soon as it gave more than `most` bytes, so it returns even if
-/// the source never ends. `File` is returned only if a read of the source failed, `OutOfMemory` only if a byte came.
-/// What was read before an error is lost.
+/// Reads a source to its end. Ok: all that the source gave, at most `most` bytes, and no call of it failed. Err:
+/// `File`, `OutOfMemory` or `Overflow`, as of `Document::read_from`, with `most` for the limit. It returns even if the
+/// source never ends. What was read before an error is lost.
 pub fn read_all<R: Source>(alloc: Global, source: &mut R, most: Length) -> Result<Vec<u8>> {
     let mut bytes = Vec::new(alloc);
     let mut piece = [0u8; PIECE];

@@ -6,9 +6,9 @@ use crate::proved::der_core::error::Result;
 use crate::proved::der_core::grammar::Encoding;
 use crate::rattle_std::alloc::Global;
 
-/// A type whose values are copied into allocated memory.
+/// A type whose values are copied into allocated memory. One with its own `try_clone` needs no import of the trait.
 pub trait TryClone: Encoding + Sized {
-    /// Returns a copy that means the same value, or `OutOfMemory`.
+    /// A copy that means the same value, or `OutOfMemory`, which never comes of what `never_out_of_memory` names.
     fn try_clone(&self, alloc: Global) -> Result<Self>;
 }
 

@@ -5,7 +5,8 @@ use crate::proved::der_core::error::{Error, ErrorKind, Result};
 
 /// Takes octets, one slice after another.
 pub trait Writer {
-    /// Appends all of the octets, or returns `NoRoom` and writes nothing.
+    /// Appends all of the octets, behind whichever were written before, and takes their room. The only error is
+    /// `NoRoom`, exactly if there is a limit and too little room. Then nothing is written, and the room is as it was.
     fn write(&mut self, bytes: &[u8]) -> Result<()>;
 }
 
@@ -16,7 +17,7 @@ pub struct SliceWriter<'b> {
 }
 
 impl<'b> SliceWriter<'b> {
-    /// A writer over a slice. Bytes behind what is written stay as they are.
+    /// A writer over this slice, with nothing written. Bytes behind what is written stay as they are.
     pub fn new(slice: &'b mut [u8]) -> SliceWriter<'b> {
         SliceWriter { slice, len: 0 }
     }

@@ -50,9 +50,9 @@ fn is_rsa_encryption(octets: &[u8]) -> bool {
     }
 }
 
-/// Accepts the algorithm identifier of RSA keys alone, as a reader of PKCS #8 or of SubjectPublicKeyInfo does. It must
-/// be rsaEncryption (else `OidUnknown`) with parameters (else `ParametersMissing`) that are NULL (else `Value` of their
-/// tag).
+/// Accepts the algorithm identifier of RSA keys alone, as a reader of PKCS #8 or of SubjectPublicKeyInfo does. Ok
+/// exactly if it is rsaEncryption with NULL. `OidUnknown` exactly of another identifier, else `ParametersMissing`
+/// exactly if there are no parameters, else `Value` of their tag.
 #[inline(always)]
 pub fn require_rsa_encryption<O: IdentifierValue, P: AnyValue>(
     algorithm: &AlgorithmIdentifierOf<O, P>,

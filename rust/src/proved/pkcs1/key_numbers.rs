@@ -48,7 +48,7 @@ impl<U: TryClone> TryClone for RsaPrivateKey<U> {
 }
 
 impl<U: TryClone> RsaPrivateKey<U> {
-    /// The same key, or `OutOfMemory`.
+    /// The same key, or `OutOfMemory`, which never comes if each number is always copied and there are no other primes.
     pub(crate) fn try_clone(&self, alloc: Global) -> Result<RsaPrivateKey<U>> {
         let key = self;
         let (modulus, public_exponent, private_exponent, prime1) = clone_four(

@@ -12,8 +12,8 @@ use crate::proved::spki_core::{Any, AnyRef};
 /// No encoding is empty or a proper prefix of another one of the same type, and each means one value.
 pub fn lemma_encodings_are_delimited() {}
 
-/// The functions that tell the keys of whole slices give a key exactly of the bytes that encode one, in the words of the
-/// statement. Each of their faults is about the bytes.
+/// The functions that tell the keys of whole slices give a key exactly of the bytes that encode one, in the words of
+/// the statement, and this one. Each of their faults is about the bytes.
 pub fn lemma_keys_decode() {}
 
 /// A key has at most one encoding.
@@ -25,8 +25,8 @@ pub fn lemma_types_exclude_each_other() {}
 /// Two encodings of keys mean the same key exactly if the shortest encodings of what they mean are the same bytes.
 pub fn lemma_same_keys_have_the_same_encoding() {}
 
-/// The borrowed and the owned form of a type have the encodings of the statement: so a clause of `Decode` or `Encode` at
-/// one of these types is about the encodings that the other laws here are about.
+/// The borrowed and the owned form of a type have the encodings of the statement: so a clause of `Decode` or `Encode`
+/// at one of these types is about the encodings that the other laws here are about.
 pub fn lemma_forms_share_the_grammars() {}
 
 /// Errors are equal exactly if they are the same, with the same kind in `Asn1`.

@@ -136,6 +136,7 @@ impl<'a, M: Memory> DecodeValue<&'a [u8], M> for OtherPrimes<'a> {
 impl<'a> Iterator for OtherPrimes<'a> {
     type Item = OtherPrimeInfo<UintRef<'a>>;
 
+    /// The first of the primes that are left, which is left no more. `None` exactly if none is left.
     fn next(&mut self) -> Option<OtherPrimeInfo<UintRef<'a>>> {
         if self.left == 0 {
             return None;

@@ -67,7 +67,7 @@ pub type RsaPrivateKeyRef<'a> = RsaPrivateKey<UintRef<'a>>;
 pub type RsaPrivateKeyOwned = RsaPrivateKey<Uint>;
 
 impl<U, O> PrivateKeyOf<U, O> {
-    /// The version: `Multi` if there are other primes.
+    /// The version: `Multi` exactly if there is a list of other primes.
     pub fn version(&self) -> Version {
         if self.other_prime_infos.is_some() {
             Version::Multi
@@ -78,7 +78,7 @@ impl<U, O> PrivateKeyOf<U, O> {
 }
 
 impl<U: UintEncoding> RsaPrivateKey<U> {
-    /// The public key.
+    /// The public key: the modulus and the public exponent.
     pub fn public_key(&self) -> RsaPublicKeyRef<'_> {
         RsaPublicKey {
             modulus: self.modulus.as_uint_ref(),
@@ -128,6 +128,8 @@ impl<'a, U: Decode<&'a [u8], Global>> DecodeValue<&'a [u8], Global> for RsaPriva
 }
 
 impl<U: Encode> EncodeValue for RsaPrivateKey<U> {
+    /// As of `EncodeValue`. An empty list of other primes is `Value` of SEQUENCE. Any other tag of `Value` is one that
+    /// the type of the numbers names; `UintRef` and `Uint` name none.
     fn value_len(&self) -> Result<Length> {
         if lists_none(&self.other_prime_infos) {
             return Err(crate::proved::der_core::Error::new(ErrorKind::Value { tag: Tag::SEQUENCE }));
@@ -139,6 +141,7 @@ impl<U: Encode> EncodeValue for RsaPrivateKey<U> {
         self.append_row(writer)
     }
 
+    /// As of `EncodeValue`. `Value` is as of `value_len`.
     fn encode_value<W: Writer>(&self, writer: &mut W) -> Result<()> {
         self.value_len()?;
         self.append_value(writer)

@@ -1,6 +1,6 @@
 // Made of crates/pkcs1/src/public_key.rt by tools/erase/erase.py, and not to be edited.
-//! RSA public keys. `try_from` reads one. It calls `from_der` of `der_core/src/decode.rt`. `record.rt` and `parts.rt` there
-//! read the row of parts that `Record` names. `traits.rt` has the calls for owned keys.
+//! RSA public keys. `try_from` reads one. It calls `from_der` of `der_core/src/decode.rt`. `record.rt` and `parts.rt`
+//! there read the row of parts that `Record` names. `traits.rt` has the calls for owned keys.
 
 use crate::proved::der_core::{
     AsUintRef, BackWriter, Borrowed, Decode, Encode, EncodeInParts, EncodeValue, Encoding,
@@ -83,7 +83,7 @@ impl<U: TryClone> TryClone for RsaPublicKey<U> {
 }
 
 impl<U: TryClone> RsaPublicKey<U> {
-    /// The same key, or `OutOfMemory`.
+    /// The same key, or `OutOfMemory`, which never comes if both numbers are always copied.
     pub(crate) fn try_clone(&self, alloc: Global) -> crate::proved::der_core::Result<RsaPublicKey<U>> {
         Ok(RsaPublicKey {
             modulus: self.modulus.try_clone(alloc)?,
@@ -95,14 +95,15 @@ impl<U: TryClone> RsaPublicKey<U> {
 impl<'a> TryFrom<&'a [u8]> for RsaPublicKey<UintRef<'a>> {
     type Error = Error;
 
-    /// Decodes a whole slice, and allocates nothing.
+    /// Reads a public key, and allocates nothing. Ok exactly if the whole slice encodes one: then that key. Err: the
+    /// first fault of a public key.
     fn try_from(bytes: &'a [u8]) -> Result<RsaPublicKey<UintRef<'a>>> {
         Ok(RsaPublicKey::from_der(NoMemory, bytes)?)
     }
 }
 
 impl<U: AsUintRef> RsaPublicKey<U> {
-    /// The same key, borrowed, whatever the type of its numbers.
+    /// The same key over numbers that it borrows, whatever the type of its numbers.
     pub fn as_key_ref(&self) -> RsaPublicKeyRef<'_> {
         RsaPublicKey {
             modulus: self.modulus.as_uint_ref(),
@@ -112,8 +113,9 @@ impl<U: AsUintRef> RsaPublicKey<U> {
 }
 
 impl<U: UintEncoding> RsaPublicKey<U> {
-    /// Writes the key's only encoding to the front of a slice and returns its length, as `encode_into` does. Returns
-    /// `Overflow` if the encoding is longer than `Length::MAX`, `NoRoom` if it is longer than the slice.
+    /// Writes the key's only encoding, which is that of no other key, to the front of a slice, and returns its length.
+    /// The bytes behind it stay as they were. After an error all of the slice does. It is `Overflow` exactly if the
+    /// encoding is longer than `Length::MAX`, else `NoRoom` exactly if it is longer than the slice.
     pub fn encode_key(&self, out: &mut [u8]) -> Result<usize> {
         Ok(self.as_key_ref().encode_into(out)?)
     }

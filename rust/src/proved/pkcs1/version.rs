@@ -22,7 +22,7 @@ pub enum Version {
 }
 
 impl Version {
-    /// Whether there are more than two primes.
+    /// Whether it is `Multi`: there are more than two primes.
     pub fn is_multi(self) -> bool {
         matches!(self, Version::Multi)
     }
@@ -50,6 +50,7 @@ impl Ord for Version {
 }
 
 impl From<Version> for u8 {
+    /// The number of a version: 0 of `TwoPrime`, 1 of `Multi`.
     fn from(version: Version) -> u8 {
         version as u8
     }
@@ -58,6 +59,7 @@ impl From<Version> for u8 {
 impl TryFrom<u8> for Version {
     type Error = Error;
 
+    /// The version of this number. `Error::Version` exactly if the number is above 1.
     fn try_from(number: u8) -> crate::rattle_std::result::Result<Version, Error> {
         match number {
             0 => Ok(Version::TwoPrime),

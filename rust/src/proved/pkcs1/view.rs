@@ -18,7 +18,7 @@ pub struct RsaPrivateKeyView<'a> {
 }
 
 impl<'a> RsaPrivateKeyView<'a> {
-    /// The version: `Multi` if there are other primes.
+    /// The version: `Multi` exactly if there are other primes.
     pub fn version(&self) -> Version {
         self.key.version()
     }
@@ -63,7 +63,7 @@ impl<'a> RsaPrivateKeyView<'a> {
         self.key.coefficient
     }
 
-    /// The public key.
+    /// The public key: the modulus and the public exponent.
     pub fn public_key(&self) -> RsaPublicKeyRef<'a> {
         RsaPublicKey {
             modulus: self.modulus(),
@@ -88,8 +88,8 @@ impl<'a> RsaPrivateKeyView<'a> {
 impl<'a> TryFrom<&'a [u8]> for RsaPrivateKeyView<'a> {
     type Error = Error;
 
-    /// Decodes a whole slice, and allocates nothing, however many primes there are. The errors are those of
-    /// `RsaPrivateKeyRef::from_der`, except `OutOfMemory`, in `Error::Asn1`.
+    /// Reads a private key, and allocates nothing, however many primes there are. Ok exactly if the whole slice encodes
+    /// one: then a view of that key, which keeps the slice. Err: the first fault of a private key.
     #[inline(always)]
     fn try_from(bytes: &'a [u8]) -> crate::proved::pkcs1::Result<RsaPrivateKeyView<'a>> {
         let key = ViewedKey::from_der(NoMemory, bytes)?;

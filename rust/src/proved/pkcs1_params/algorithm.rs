@@ -1,6 +1,6 @@
 // Made of crates/pkcs1_params/src/algorithm.rt by tools/erase/erase.py, and not to be edited.
-//! Parameters in their algorithm identifier (RFC 8017 A.2.3, A.2.1; RFC 5280 4.1.1.2). `AlgorithmView::from_der` reads one, and
-//! `reading.rt` the parameters in it.
+//! Parameters in their algorithm identifier (RFC 8017 A.2.3, A.2.1; RFC 5280 4.1.1.2). `AlgorithmView::from_der` reads
+//! one, and `reading.rt` the parameters in it.
 
 use crate::proved::pkcs1_params::error::{Error, Result};
 use crate::proved::pkcs1_params::reading::{AlgorithmParams, quick_parameters};
@@ -15,16 +15,20 @@ use crate::proved::spki_core::{
 /// Borrowed parameters that are read from the algorithm identifier that they stand in: `RsaPssParamsRef`,
 /// `RsaPssParamsView`, `RsaOaepParamsRef`, `RsaOaepParamsView`. Nothing is allocated.
 pub trait FromAlgorithm<'a>: AlgorithmParams<'a> {
-    /// The parameters in an algorithm identifier: `OidUnknown` if it is another algorithm's, `ParametersMissing` if it
-    /// has none, as RFC 4055 forbids with a signature and an encrypted value (3.1, 4.1).
+    /// The parameters in an algorithm identifier. Ok exactly if it is this algorithm, and its parameters are the
+    /// SEQUENCE of the fields of such parameters: then the only value that has them. `OidUnknown` if it is another
+    /// algorithm's, then `ParametersMissing` if it has none, as RFC 4055 forbids with a signature and an encrypted
+    /// value (3.1, 4.1). Else `TagUnexpected` if they are no SEQUENCE, or the first fault of the fields.
     fn from_algorithm(algorithm: &AlgorithmIdentifierRef<'a>) -> Result<Self>;
 
-    /// The parameters in a whole slice that is an algorithm identifier, as in a certificate's signatureAlgorithm. Once
-    /// the slice is an algorithm identifier, errors are as of `from_algorithm`.
+    /// Reads an algorithm identifier with such parameters, as in a certificate's signatureAlgorithm. Ok exactly if the
+    /// whole slice encodes one: then its parameters. Err: the first fault. Once the slice is an algorithm identifier
+    /// with parameters of any type, it is that of `from_algorithm`.
     fn from_algorithm_der(bytes: &'a [u8]) -> Result<Self>;
 
-    /// Like `from_algorithm_der`, but rejects parameters in which a default is written: `Noncanonical` with the tag of
-    /// the first such field. So what is read is the shortest encoding of the identifier.
+    /// Reads it as `from_algorithm_der` does, but only from its shortest encoding. Of an encoding in which a default is
+    /// written the error is `Noncanonical` with the tag of the first such field. Else it is that of
+    /// `from_algorithm_der`.
     fn from_algorithm_der_strict(bytes: &'a [u8]) -> Result<Self>;
 }
 

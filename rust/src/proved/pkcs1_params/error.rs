@@ -29,6 +29,7 @@ pub(crate) fn fault_of<T>(returned: Result<T>) -> Option<ErrorKind> {
 }
 
 impl From<crate::proved::der_core::Error> for Error {
+    /// `Error::Asn1` of this error.
     fn from(error: crate::proved::der_core::Error) -> Error {
         Error::Asn1(error)
     }

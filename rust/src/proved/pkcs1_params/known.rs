@@ -175,8 +175,11 @@ fn label_front(count: u8) -> [u8; 17] {
     ]
 }
 
-/// Writes the shortest encoding of RSASSA-PSS parameters to the front of a slice, if it is known and there is room, and
-/// says how long it is. `None` if it isn't known. The hash functions have NULL.
+/// Writes the shortest encoding of RSASSA-PSS parameters with these identifiers and this salt length to the front of a
+/// slice, alone or in their algorithm identifier, if it is known and there is room. Both hash functions have NULL.
+/// Some(Ok(n)): it is the first n octets. Some(Err(n)): it has n octets, the slice is shorter, and is as it was. None:
+/// the slice is as it was. Some exactly if the mask generation function is MGF1, and both hash functions are SHA-1 or
+/// in NIST's arc of hash functions, with a number below 128.
 #[inline(always)]
 pub fn encode_known_pss(
     hash: &[u8],
@@ -204,8 +207,8 @@ fn known_label(place: Place) -> usize {
     if place.is_some() { 51 } else { 64 }
 }
 
-/// The same of RSAES-OAEP parameters, whose source has an OCTET STRING of fewer than 64 octets, in an algorithm
-/// identifier of fewer than 51.
+/// The same of RSAES-OAEP parameters with these identifiers and this label. Some exactly if, too, the source is
+/// pSpecified, and the label has fewer than 64 octets, in an algorithm identifier fewer than 51.
 #[inline(always)]
 pub fn encode_known_oaep(
     hash: &[u8],

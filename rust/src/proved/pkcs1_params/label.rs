@@ -68,8 +68,9 @@ pub(crate) fn source_of<'a>(label: &'a [u8]) -> AlgorithmIdentifierRef<'a> {
 }
 
 impl<'a> RsaOaepParams<AnyRef<'a>> {
-    /// The hash function D with NULL, MGF1 with the same hash function, and this label. `label_fits` says whether a
-    /// label is short enough. With an empty label the result is that of `new`.
+    /// The hash function D with NULL, MGF1 with the same hash function, and this label. Requires that parameters with
+    /// each label of this length have an encoding of at most `Length::MAX` octets, as `label_fits` says. With an empty
+    /// label the result is that of `new`.
     pub(crate) fn new_with_label<D: AssociatedOid>(label: &'a [u8]) -> RsaOaepParams<AnyRef<'a>> {
         RsaOaepParams {
             p_source: source_of(label),
@@ -77,7 +78,8 @@ impl<'a> RsaOaepParams<AnyRef<'a>> {
         }
     }
 
-    /// Whether parameters with a label of this many bytes have an encoding of at most `Length::MAX` octets.
+    /// Whether parameters with each label of this many bytes have an encoding of at most `Length::MAX` octets. If not,
+    /// they have none with any such label.
     pub fn label_fits<D: AssociatedOid>(len: usize) -> bool {
         labelled_len::<D>(len).is_ok()
     }

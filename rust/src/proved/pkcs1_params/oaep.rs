@@ -1,5 +1,6 @@
 // Made of crates/pkcs1_params/src/oaep.rt by tools/erase/erase.py, and not to be edited.
-//! Parameters of RSAES-OAEP (RFC 8017 A.2.1). `try_from` and `from_der_strict` read them by the functions of `reading.rt`.
+//! Parameters of RSAES-OAEP (RFC 8017 A.2.1). `try_from` and `from_der_strict` read them by the functions of
+//! `reading.rt`.
 
 use crate::proved::pkcs1_params::contents::{append_contents, contents_len, prepend_contents};
 use crate::proved::pkcs1_params::error::{Error, Result, fault_of};
@@ -47,7 +48,8 @@ pub type RsaOaepParams<P> = OaepParamsOf<ObjectIdentifier, P>;
 /// RSAES-OAEP parameters whose algorithms have borrowed parameters.
 pub type RsaOaepParamsRef<'a> = RsaOaepParams<AnyRef<'a>>;
 
-/// RSAES-OAEP parameters whose algorithms have owned parameters.
+/// RSAES-OAEP parameters whose algorithms have owned parameters. `Decode::from_der` reads them. Memory runs out there
+/// only if the slice begins with a SEQUENCE of parameters, and an algorithm in them has parameters with octets to copy.
 pub type RsaOaepParamsOwned = RsaOaepParams<Any>;
 
 /// RSAES-OAEP parameters over their encoding, whose octets are their identifiers. Only `to_params` copies them.
@@ -56,7 +58,8 @@ pub type RsaOaepParamsView<'a> = OaepParamsOf<IdentifierView<'a>, AnyRef<'a>>;
 impl<'a, O: ReadParams<'a>> TryFrom<&'a [u8]> for OaepParamsOf<O, AnyRef<'a>> {
     type Error = Error;
 
-    /// Reads a whole slice. Nothing is allocated.
+    /// Reads parameters, and allocates nothing. Ok exactly if the whole slice encodes some: then these. A field that is
+    /// left out has its default, and a default that is written out is accepted. Err: the first fault of parameters.
     fn try_from(bytes: &'a [u8]) -> Result<OaepParamsOf<O, AnyRef<'a>>> {
         let view = read_params::<RsaOaepParamsView<'a>>(bytes)?;
         Ok(O::oaep_from_view(view))
@@ -64,8 +67,8 @@ impl<'a, O: ReadParams<'a>> TryFrom<&'a [u8]> for OaepParamsOf<O, AnyRef<'a>> {
 }
 
 impl<'a, O: ReadParams<'a>> OaepParamsOf<O, AnyRef<'a>> {
-    /// Like `try_from`, but rejects an encoding in which a default is written: `Noncanonical` with the tag of the first
-    /// such field. So what is read is the shortest encoding of its value.
+    /// Reads parameters as `try_from` does, but only from their shortest encoding. Of an encoding in which a default is
+    /// written the error is `Noncanonical` with the tag of the first such field. Else it is that of `try_from`.
     pub fn from_der_strict(bytes: &'a [u8]) -> Result<OaepParamsOf<O, AnyRef<'a>>> {
         let view = read_params_strict::<RsaOaepParamsView<'a>>(bytes)?;
         Ok(O::oaep_from_view(view))
@@ -129,7 +132,7 @@ impl<P: AnyValue + TryClone> TryClone for RsaOaepParams<P> {
 }
 
 impl<P: AnyValue + TryClone> RsaOaepParams<P> {
-    /// The same parameters, or `OutOfMemory`.
+    /// The same parameters, or `OutOfMemory`, which never comes if the parameters of each algorithm are always copied.
     pub(crate) fn try_clone(&self, alloc: Global) -> crate::proved::der_core::Result<RsaOaepParams<P>> {
         Ok(RsaOaepParams {
             hash: self.hash.try_clone(alloc)?,
@@ -148,7 +151,7 @@ impl<'a, O: IdentifierValue> Default for OaepParamsOf<O, AnyRef<'a>> {
 }
 
 impl RsaOaepParams<Any> {
-    /// Every field at its default. Nothing is allocated.
+    /// Every field at its default, owned. Nothing is allocated.
     pub fn default_in(alloc: Global) -> RsaOaepParams<Any> {
         RsaOaepParams::of_hash::<Sha1, Global>(alloc)
     }

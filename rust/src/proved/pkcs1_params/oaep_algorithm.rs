@@ -28,6 +28,7 @@ pub fn rsaes_oaep_oid() -> ObjectIdentifier {
 
 impl<O: IdentifierValue, P: AnyValue> OaepParamsOf<O, P> {
     /// The algorithm identifier id-RSAES-OAEP with these parameters, borrowed: to be written inside something larger.
+    /// Such parameters may always be encoded.
     pub fn to_algorithm(&self) -> AlgorithmView<'_, Borrowed<'_, OaepParamsOf<O, P>>> {
         self.lemma_is_valid();
         AlgorithmView {
@@ -37,8 +38,9 @@ impl<O: IdentifierValue, P: AnyValue> OaepParamsOf<O, P> {
     }
 
     /// Writes the shortest encoding of the algorithm identifier id-RSAES-OAEP with these parameters to the front of a
-    /// slice and returns its length. `Overflow` if the encoding is longer than `Length::MAX`, `NoRoom` if the slice is
-    /// shorter than it.
+    /// slice, and returns its length. The bytes behind it stay as they were. After an error all of the slice does. It
+    /// is `Overflow` exactly if the encoding is longer than `Length::MAX`, else `NoRoom` exactly if it is longer than
+    /// the slice, and never `Value`.
     pub fn encode_algorithm(&self, out: &mut [u8]) -> Result<usize> {
         encode_identifier::<RsaesOaep, _>(self, out)
     }

@@ -1,6 +1,6 @@
 // Made of crates/pkcs1_params/src/oaep_reading.rt by tools/erase/erase.py, and not to be edited.
-//! What `reading.rt` calls of RSAES-OAEP parameters: octets that are known, in `usual.rt`; fields that are read quickly, in
-//! `quick.rt`; each field by `read_field` of `spki_core`; and defaults that are written, in `strict.rt`.
+//! What `reading.rt` calls of RSAES-OAEP parameters: octets that are known, in `usual.rt`; fields that are read
+//! quickly, in `quick.rt`; each field by `read_field` of `spki_core`; and defaults that are written, in `strict.rt`.
 
 use crate::proved::pkcs1_params::error::Result;
 use crate::proved::pkcs1_params::from_view::{ReadParams, decode_borrowed};

@@ -1,5 +1,6 @@
 // Made of crates/pkcs1_params/src/pss.rt by tools/erase/erase.py, and not to be edited.
-//! Parameters of RSASSA-PSS (RFC 8017 A.2.3). `try_from` and `from_der_strict` read them by the functions of `reading.rt`.
+//! Parameters of RSASSA-PSS (RFC 8017 A.2.3). `try_from` and `from_der_strict` read them by the functions of
+//! `reading.rt`.
 
 use crate::proved::pkcs1_params::contents::{append_contents, contents_len, prepend_contents};
 use crate::proved::pkcs1_params::error::{Error, Result, fault_of};
@@ -50,7 +51,8 @@ pub type RsaPssParams<P> = PssParamsOf<ObjectIdentifier, P>;
 /// RSASSA-PSS parameters whose algorithms have borrowed parameters.
 pub type RsaPssParamsRef<'a> = RsaPssParams<AnyRef<'a>>;
 
-/// RSASSA-PSS parameters whose algorithms have owned parameters.
+/// RSASSA-PSS parameters whose algorithms have owned parameters. `Decode::from_der` reads them. Memory runs out there
+/// only if the slice begins with a SEQUENCE of parameters, and an algorithm in them has parameters with octets to copy.
 pub type RsaPssParamsOwned = RsaPssParams<Any>;
 
 /// RSASSA-PSS parameters over their encoding, whose octets are their identifiers. Only `to_params` copies them.
@@ -59,7 +61,8 @@ pub type RsaPssParamsView<'a> = PssParamsOf<IdentifierView<'a>, AnyRef<'a>>;
 impl<'a, O: ReadParams<'a>> TryFrom<&'a [u8]> for PssParamsOf<O, AnyRef<'a>> {
     type Error = Error;
 
-    /// Reads a whole slice. Nothing is allocated.
+    /// Reads parameters, and allocates nothing. Ok exactly if the whole slice encodes some: then these. A field that is
+    /// left out has its default, and a default that is written out is accepted. Err: the first fault of parameters.
     fn try_from(bytes: &'a [u8]) -> Result<PssParamsOf<O, AnyRef<'a>>> {
         let view = read_params::<RsaPssParamsView<'a>>(bytes)?;
         Ok(O::pss_from_view(view))
@@ -67,8 +70,8 @@ impl<'a, O: ReadParams<'a>> TryFrom<&'a [u8]> for PssParamsOf<O, AnyRef<'a>> {
 }
 
 impl<'a, O: ReadParams<'a>> PssParamsOf<O, AnyRef<'a>> {
-    /// Like `try_from`, but rejects an encoding in which a default is written: `Noncanonical` with the tag of the first
-    /// such field. So what is read is the shortest encoding of its value.
+    /// Reads parameters as `try_from` does, but only from their shortest encoding. Of an encoding in which a default is
+    /// written the error is `Noncanonical` with the tag of the first such field. Else it is that of `try_from`.
     pub fn from_der_strict(bytes: &'a [u8]) -> Result<PssParamsOf<O, AnyRef<'a>>> {
         let view = read_params_strict::<RsaPssParamsView<'a>>(bytes)?;
         Ok(O::pss_from_view(view))
@@ -138,7 +141,7 @@ impl<P: AnyValue + TryClone> TryClone for RsaPssParams<P> {
 }
 
 impl<P: AnyValue + TryClone> RsaPssParams<P> {
-    /// The same parameters, or `OutOfMemory`.
+    /// The same parameters, or `OutOfMemory`, which never comes if the parameters of each algorithm are always copied.
     pub(crate) fn try_clone(&self, alloc: Global) -> crate::proved::der_core::Result<RsaPssParams<P>> {
         Ok(RsaPssParams {
             hash: self.hash.try_clone(alloc)?,
@@ -158,7 +161,7 @@ impl<'a, O: IdentifierValue> Default for PssParamsOf<O, AnyRef<'a>> {
 }
 
 impl RsaPssParams<Any> {
-    /// Every field at its default. Nothing is allocated.
+    /// Every field at its default, owned. Nothing is allocated.
     pub fn default_in(alloc: Global) -> RsaPssParams<Any> {
         RsaPssParams::of_hash::<Sha1, Global>(alloc, RsaPssParamsRef::SALT_LEN_DEFAULT)
     }

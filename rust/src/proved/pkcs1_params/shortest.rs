@@ -15,7 +15,7 @@ pub struct Shortest<T: EncodeParams> {
 }
 
 impl<T: EncodeParams> Shortest<T> {
-    /// Of these parameters.
+    /// The wrapper of these parameters.
     #[inline(always)]
     pub fn of(params: T) -> Shortest<T> {
         Shortest {
@@ -24,7 +24,7 @@ impl<T: EncodeParams> Shortest<T> {
         }
     }
 
-    /// The algorithm identifier of D with these parameters.
+    /// The algorithm identifier of D with these parameters, which may always be encoded.
     #[inline(always)]
     pub fn identified<D: AssociatedOid>(params: T) -> AlgorithmView<'static, Shortest<T>> {
         params.lemma_is_valid();

@@ -16,7 +16,7 @@ pub trait EncodeParams: Copy {
     /// The fields, borrowed.
     type Fields: Fields;
 
-    /// The fields, in order.
+    /// The fields, in order, of which there are at most 7.
     fn fields(self) -> Self::Fields;
 
     /// The first field in an encoding that is written though it equals its default. The result is meaningful only if
@@ -26,17 +26,20 @@ pub trait EncodeParams: Copy {
     /// Does nothing: its contract says that the parameters may be encoded.
     fn lemma_is_valid(self);
 
-    /// Writes the shortest encoding, in which no default is written, to the front of a slice and returns its length:
-    /// `encode_into` with a stronger contract. `Overflow` if the encoding is longer than `Length::MAX`, `NoRoom` if the
-    /// slice is shorter than it.
+    /// Writes the shortest encoding, in which no default is written, to the front of a slice, and returns its length.
+    /// The bytes behind it stay as they were. After an error all of the slice does. It is `Overflow` exactly if the
+    /// encoding is longer than `Length::MAX`, else `NoRoom` exactly if it is longer than the slice, and never `Value`.
     #[inline(always)]
     fn encode_params(self, out: &mut [u8]) -> Result<usize> {
         self.encode_spelling_into(0, out)
     }
 
-    /// Writes one spelling to the front of a slice and returns its length. Bit j of the mask (bit 0 is the lowest) says
-    /// whether the j-th of the fields that equal their defaults, in their order, is written. Mask 0 gives the shortest.
-    /// `Overflow` if the encoding is longer than `Length::MAX`, `NoRoom` if the slice is shorter than it.
+    /// Writes the only encoding under this mask to the front of a slice, and returns its length. The bytes behind it
+    /// stay as they were. After an error all of the slice does.
+    /// Bit j of the mask (bit 0 is the lowest) says whether the j-th of the fields that equal their defaults, in their
+    /// order, is written. Mask 0 gives the shortest. Requires that it is below 2^k, of k such fields. The error is
+    /// `Overflow` exactly if the encoding is longer than `Length::MAX`, else `NoRoom` exactly if it is longer than the
+    /// slice.
     fn encode_spelling_into(self, mask: u8, out: &mut [u8]) -> Result<usize> {
         self.lemma_is_valid();
         let spelling = Spelling {
@@ -47,7 +50,9 @@ pub trait EncodeParams: Copy {
         Ok(spelling.encode_into(out)?)
     }
 
-    /// Like `encode_spelling_into`, but returns the part of the slice that was written, as `encode_to_slice` does.
+    /// Like `encode_spelling_into`, but returns the part of the slice that was written, as `encode_to_slice` does. It
+    /// is no longer than the slice. That it is the front of it, and that after an error all of the slice is as it was,
+    /// is only tested.
     fn encode_spelling_to_slice<'b>(self, mask: u8, out: &'b mut [u8]) -> Result<&'b [u8]> {
         self.lemma_is_valid();
         let spelling = Spelling {

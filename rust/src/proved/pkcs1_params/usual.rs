@@ -1,6 +1,6 @@
 // Made of crates/pkcs1_params/src/usual.rt by tools/erase/erase.py, and not to be edited.
-//! Parameters that begin with a SHA-2 or SHA-3 hash function with NULL, and MGF1 with the same hash function, or have a salt length
-//! alone. Most are such, so their octets are compared before they are read field by field.
+//! Parameters that begin with a SHA-2 or SHA-3 hash function with NULL, and MGF1 with the same hash function, or have a
+//! salt length alone. Most are such, so their octets are compared before they are read field by field.
 
 use crate::proved::pkcs1_params::oaep::RsaOaepParamsView;
 use crate::proved::pkcs1_params::pss::{RsaPssParamsRef, RsaPssParamsView};

@@ -103,7 +103,7 @@ impl<'a, O: ReadIdentifier<'a>> EncodeInParts for PrivateKeyInfoOf<'a, O> {
 }
 
 impl<'a, O: ReadIdentifier<'a>> PrivateKeyInfoOf<'a, O> {
-    /// The contents octets of the attributes, if there are any.
+    /// The contents octets of the attributes. `None` exactly if there are none.
     pub fn attributes(&self) -> Option<&'a [u8]> {
         self.attributes
     }
@@ -122,8 +122,10 @@ impl<'a, O: ReadIdentifier<'a>> PrivateKeyInfoOf<'a, O> {
         let _attributes = self.attributes_encoding();
     }
 
-    /// Writes the container's only encoding to the front of a slice and returns its length, as `encode_into` does.
-    /// Returns `Overflow` if the encoding is longer than `Length::MAX`, `NoRoom` if it is longer than the slice.
+    /// Writes the container's only encoding, which is that of no other container, to the front of a slice, and returns
+    /// its length. The bytes behind it stay as they were. After an error all of the slice does. It is `Overflow`
+    /// exactly if the encoding is longer than `Length::MAX`, else `NoRoom` exactly if it is longer than the slice, and
+    /// never `Value`.
     pub fn encode_info(&self, out: &mut [u8]) -> Result<usize> {
         self.lemma_has_encoding();
         self.encode_into(out)
@@ -133,7 +135,8 @@ impl<'a, O: ReadIdentifier<'a>> PrivateKeyInfoOf<'a, O> {
 impl<'a, O: ReadIdentifier<'a>> TryFrom<&'a [u8]> for PrivateKeyInfoOf<'a, O> {
     type Error = Error;
 
-    /// Decodes a whole slice, and allocates nothing. Returns `Value` of INTEGER for a version other than 0.
+    /// Reads a container, and allocates nothing. Ok exactly if the whole slice encodes one: then that container. Err:
+    /// the first fault of a container, which of a version other than 0 is `Value` of INTEGER.
     #[inline(always)]
     fn try_from(bytes: &'a [u8]) -> Result<PrivateKeyInfoOf<'a, O>> {
         let view: PrivateKeyInfoView<'a> = read_borrowed(bytes)?;
@@ -149,10 +152,11 @@ impl<'a, O: ReadIdentifier<'a>> TryFrom<&'a [u8]> for PrivateKeyInfoOf<'a, O> {
 pub fn lemma_containers_take_no_memory<M: Memory>() {}
 
 /// The functions that tell the containers of whole slices, and the RSA keys in them, give one exactly of the bytes that
-/// encode it.
+/// encode it, and this one.
 pub fn lemma_containers_decode() {}
 
-/// A container has at most one encoding, so two encodings mean the same container exactly if they are the same bytes.
+/// A container has at most one encoding. Two encodings mean the same container exactly if the shortest encodings of
+/// what they mean are equal: they are the same bytes.
 pub fn lemma_containers_have_one_encoding() {}
 
 /// No bytes encode both a container and a key, or both a container and parameters: so a loader may try one after the

@@ -113,7 +113,7 @@ impl<P: TryClone> TryClone for AlgorithmIdentifier<P> {
 }
 
 impl<P: TryClone> AlgorithmIdentifier<P> {
-    /// The same identifier with a copy of the parameters, or `OutOfMemory`.
+    /// The same identifier with a copy of the parameters, or `OutOfMemory` where copying these may return it.
     pub(crate) fn try_clone(&self, alloc: Global) -> Result<AlgorithmIdentifier<P>> {
         let parameters = match &self.parameters {
             Some(parameters) => Some(parameters.try_clone(alloc)?),
@@ -127,7 +127,7 @@ impl<P: TryClone> AlgorithmIdentifier<P> {
 }
 
 impl<P> AlgorithmIdentifier<P> {
-    /// Returns the identifier if it is the expected one, else `OidUnknown`.
+    /// Returns the identifier. `OidUnknown` exactly if it isn't the expected one.
     pub fn assert_algorithm_oid(&self, expected: ObjectIdentifier) -> Result<ObjectIdentifier> {
         if self.oid == expected {
             Ok(self.oid)
@@ -138,7 +138,7 @@ impl<P> AlgorithmIdentifier<P> {
 }
 
 impl<'a, P> AlgorithmView<'a, P> {
-    /// Copies the octets of the identifier.
+    /// The same identifier, as a copy of its octets, and the same parameters.
     #[inline(always)]
     pub fn to_algorithm_identifier(self) -> AlgorithmIdentifier<P> {
         ObjectIdentifier::algorithm_from_view(self)
@@ -147,7 +147,7 @@ impl<'a, P> AlgorithmView<'a, P> {
 
 /// What holds the object identifiers of algorithms that are read: `IdentifierView`, or `ObjectIdentifier` as a copy.
 pub trait ReadIdentifier<'a>: IdentifierValue {
-    /// The algorithm of a view.
+    /// The algorithm of a view: the same identifier, kept, and the same parameters.
     fn algorithm_from_view<P>(algorithm: AlgorithmView<'a, P>) -> AlgorithmIdentifierOf<Self, P>;
 }
 
@@ -207,7 +207,7 @@ impl<O: IdentifierValue, P: AnyValue> AlgorithmIdentifierOf<O, P> {
         }
     }
 
-    /// The parameters, borrowed, or `ParametersMissing` if there are none.
+    /// The parameters, borrowed. `ParametersMissing` exactly if there are none.
     pub fn parameters_any(&self) -> Result<AnyRef<'_>> {
         match &self.parameters {
             Some(parameters) => Ok(parameters.as_any_ref()),

@@ -17,7 +17,7 @@ pub struct AnyRef<'a> {
 }
 
 impl<'a> AnyRef<'a> {
-    /// `Overflow` if the contents are longer than `Length::MAX`.
+    /// This tag with these contents. `Overflow` exactly if they are longer than `Length::MAX`.
     pub fn new(tag: Tag, contents: &'a [u8]) -> Result<AnyRef<'a>> {
         if contents.len() > Length::MAX.to_usize() {
             return Err(Error::new(ErrorKind::Overflow));
@@ -41,12 +41,14 @@ impl<'a> AnyRef<'a> {
         self.tag.tag()
     }
 
-    /// The contents octets.
+    /// The contents octets. They are at most `Length::MAX`.
     pub fn value(&self) -> &'a [u8] {
         self.contents
     }
 
-    /// Decodes the contents octets, all of them, as those of a `T`. `TagUnexpected` if the tag isn't the type's.
+    /// Decodes all of the contents octets as those of a `T`. Ok only if the tag is the type's and they are those of a
+    /// value: then this value. Err: `TagUnexpected` of another tag, else the first fault of the contents, or
+    /// `OutOfMemory` where the type may allocate. Any other kind than `OutOfMemory` means that there is no value.
     pub fn decode_as<T: DecodeValue<&'a [u8], M> + FixedTag, M: Memory>(
         self,
         memory: M,
@@ -79,6 +81,7 @@ impl<'a> AnyRef<'a> {
 }
 
 impl Encoding for AnyRef<'_> {
+    /// True, as any tag may stand in front.
     fn may_start_with(_tag: Tag) -> bool {
         true
     }

@@ -22,6 +22,7 @@ impl<'b, T> ContextSpecificRef<'b, T> {
 }
 
 impl<'b, T: Encoding> Encoding for ContextSpecificRef<'b, T> {
+    /// True, as fields of any number may be meant.
     fn may_start_with(_tag: Tag) -> bool {
         true
     }

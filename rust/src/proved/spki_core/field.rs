@@ -23,7 +23,7 @@ pub fn read_field<'a, T: Decode<&'a [u8], M>, M: Memory, R: Reader<&'a [u8]>>(
     }
 }
 
-/// What `read_field` reads of a slice, with what follows it, if that is quickly told.
+/// What `read_field` gives of a slice, with what follows it. `None` says nothing of the slice.
 #[inline(always)]
 pub fn quick_field<'a, T: Decode<&'a [u8], M>, M: Memory>(
     memory: M,
@@ -40,12 +40,13 @@ pub fn quick_field<'a, T: Decode<&'a [u8], M>, M: Memory>(
     Some((value, rest))
 }
 
-/// The length of a field that is written.
+/// The length of a field as it is written. `Value` exactly if the value has no encoding, else `Overflow` exactly if
+/// the field is longer than `Length::MAX`.
 pub fn field_len<T: Encode>(tag_number: TagNumber, value: &T) -> Result<Length> {
     ContextSpecificRef { tag_number, value }.encoded_len()
 }
 
-/// Appends a field.
+/// Appends a field: `Value` and `Overflow`, as of `field_len`, before any octet, `NoRoom` after a beginning.
 pub fn encode_field<T: Encode, W: Writer>(
     tag_number: TagNumber,
     value: &T,
@@ -54,7 +55,7 @@ pub fn encode_field<T: Encode, W: Writer>(
     ContextSpecificRef { tag_number, value }.encode(writer)
 }
 
-/// Writes a field in front of what is filled.
+/// Writes a field in front of what is filled. It has to have an encoding within `Length::MAX`, and room for that.
 pub fn prepend_field<T: Encode>(tag_number: TagNumber, value: &T, writer: &mut BackWriter<'_>) {
     ContextSpecificRef { tag_number, value }.prepend(writer);
 }

@@ -22,7 +22,7 @@ impl<'a> IdentifierView<'a> {
         IdentifierView { octets }
     }
 
-    /// The identifier with these contents octets, or `OidMalformed`.
+    /// The identifier with these contents octets. `OidMalformed` exactly if they are those of none.
     #[inline(always)]
     pub fn from_bytes(bytes: &'a [u8]) -> Result<IdentifierView<'a>> {
         if !is_identifier(bytes) {
@@ -31,7 +31,7 @@ impl<'a> IdentifierView<'a> {
         Ok(IdentifierView::over(bytes))
     }
 
-    /// The contents octets, at least one.
+    /// The contents octets, which are valid: at least one, at most 39.
     #[inline(always)]
     pub fn as_bytes(&self) -> &'a [u8] {
         self.octets

@@ -74,11 +74,11 @@ pub trait AssociatedOid {
     /// proof compares them.
     const OID: &'static [u8];
 
-    /// `OID`, for contracts.
+    /// `OID`, the contents octets of the identifier, for contracts.
     fn octets() -> &'static [u8];
 
-    /// `OID` with zeros behind it. A constant in its place saves copying a number of octets that is known only at run
-    /// time.
+    /// `OID` with zeros behind it, up to 39 octets. A constant in its place saves copying a number of octets that is
+    /// known only at run time.
     fn padded() -> [u8; 39] {
         with_zeros(Self::octets())
     }
@@ -100,12 +100,12 @@ impl ObjectIdentifier {
         }
     }
 
-    /// The identifier with these contents octets, or `OidMalformed`.
+    /// The identifier with these contents octets. `OidMalformed` exactly if they are those of none.
     pub fn from_bytes(bytes: &[u8]) -> Result<ObjectIdentifier> {
         Ok(IdentifierView::from_bytes(bytes)?.to_object_identifier())
     }
 
-    /// The contents octets, at least one.
+    /// The contents octets, which are valid: at least one, at most 39.
     pub fn as_bytes(&self) -> &[u8] {
         &self.octets[..self.length as usize]
     }
@@ -121,6 +121,7 @@ impl ObjectIdentifier {
 }
 
 impl PartialEq for ObjectIdentifier {
+    /// True exactly if the octets are equal.
     fn eq(&self, other: &ObjectIdentifier) -> bool {
         self.as_bytes() == other.as_bytes()
     }
@@ -129,6 +130,7 @@ impl PartialEq for ObjectIdentifier {
 impl Eq for ObjectIdentifier {}
 
 impl Hash for ObjectIdentifier {
+    /// Hashes the octets, as those of a slice are hashed.
     fn hash<H: Hasher>(&self, state: &mut H) {
         self.as_bytes().hash(state);
     }

@@ -17,8 +17,8 @@ pub struct Any {
 }
 
 impl Any {
-    /// Copies the contents. `Overflow` if they are longer than `Length::MAX`, else `OutOfMemory` if there is no memory
-    /// for them.
+    /// A copy of these contents, with this tag. `Overflow` exactly if they are longer than `Length::MAX`, else
+    /// `OutOfMemory` if there is no memory for them.
     pub fn new(alloc: Global, tag: Tag, contents: &[u8]) -> Result<Any> {
         if contents.len() > Length::MAX.to_usize() {
             return Err(Error::new(ErrorKind::Overflow));
@@ -26,7 +26,7 @@ impl Any {
         Any::copy_of(alloc, tag, contents)
     }
 
-    /// The same encoding, or `OutOfMemory`.
+    /// A copy of the tag and contents. The only error is `OutOfMemory`.
     pub(crate) fn try_clone(&self, alloc: Global) -> Result<Any> {
         Any::copy_of(alloc, self.tag, self.contents.as_slice())
     }
@@ -41,6 +41,7 @@ impl Any {
 }
 
 impl Encoding for Any {
+    /// True, as any tag may stand in front.
     fn may_start_with(_tag: Tag) -> bool {
         true
     }

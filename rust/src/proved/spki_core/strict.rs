@@ -36,9 +36,9 @@ fn first_written(contents: &[u8], number: u8, defaults: &[bool]) -> Option<TagNu
     }
 }
 
-/// The first field in an encoding that is written though it equals its default. `defaults` says for each field,
-/// numbered from 0, whether it equals its default. The result is meaningful only if the encoding is known to be a
-/// SEQUENCE of such fields.
+/// The number of the first field in an encoding that is written though it equals its default. `defaults` says for each
+/// field, numbered from 0, at most 31 in all, whether it equals its default. The result is meaningful only if the
+/// encoding is known to be a SEQUENCE of such fields.
 pub fn written_default(bytes: &[u8], defaults: &[bool]) -> Option<TagNumber> {
     match AnyRef::from_der(NoMemory, bytes) {
         Ok(any) => first_written(any.value(), 0, defaults),

@@ -47,9 +47,10 @@ fn to_c_info<'a>(info: &PrivateKeyInfoView<'a>) -> PrivateKeyInfo<'a> {
     }
 }
 
-/// Decodes a container whose algorithm is rsaEncryption with NULL, and the private key in it; allocates nothing.
-/// Returns 0, fills `info` with parts of `encoding`, and `key` and `listed` as `pkcs1_c_private_key_decode` does; or
-/// returns the status of the first fault.
+/// Decodes a container whose algorithm is rsaEncryption with NULL, and the private key in it; allocates nothing. `OK`
+/// exactly if the octets encode such a container: then `info` holds it, in parts of `encoding`, and attributes that are
+/// absent are empty. `key` and `listed` hold the only key in it, as of `pkcs1_c_private_key_decode`. Else the status of
+/// the first fault of a container, then of the RSA key in it, and all three are as they were.
 #[unsafe(no_mangle)]
 pub extern "C" fn pkcs1_c_private_key_info_decode<'a>(
     encoding: *const u8, encoding_len: usize,
@@ -87,8 +88,10 @@ fn from_c_info<'a>(info: &PrivateKeyInfo<'a>) -> crate::proved::pkcs1::Result<Pr
     Ok(made)
 }
 
-/// Writes the encoding of a container, whose `private_key` must be the encoding of a private key, to the front of
-/// `out`. Returns 0, with its length in `len`, or `NO_ROOM`, with the needed length in `len`, or another status.
+/// Puts the only encoding of a container to the front of `out`. `len` and the rest of `out` are as of
+/// `pkcs1_c_public_key_encode`. If `private_key` encodes a private key: `NO_ROOM` exactly if there is an encoding, and
+/// `out` is shorter; `OVERFLOW` exactly if none is within the limit. Else the status of the first fault of
+/// `private_key` as a private key.
 #[unsafe(no_mangle)]
 pub extern "C" fn pkcs1_c_private_key_info_encode(
     info: &PrivateKeyInfo<'_>,

@@ -73,8 +73,8 @@ fn is_surely_within(info: &OtherPrimeInfo<Number<'_>>, left: usize) -> bool {
     numbers + 6 <= left
 }
 
-/// Writes a prime in front of what is filled, and leaves `least` octets free. It is false only if another thread changed
-/// the octets.
+/// Writes a prime in front of what is filled, and leaves `least` octets free. It is false only if another thread
+/// changed the octets.
 fn prepend_given(other: &OtherPrime<'_>, least: usize, writer: &mut BackWriter<'_>) -> bool {
     let Ok(info) = from_c_other_prime(other) else {
         return false;

@@ -49,7 +49,7 @@ pub extern "C" fn pkcs1_c_algorithm_is_same_hash(
 }
 
 /// Whether both mean the same: all fields are equal, where a hash function with NULL and one without parameters are
-/// alike, in the mask generation function too.
+/// alike, in the mask generation function too. Structs that can't be encoded are compared too.
 #[unsafe(no_mangle)]
 pub extern "C" fn pkcs1_c_pss_means_same(left: &PssParams<'_>, right: &PssParams<'_>) -> bool {
     is_same_hash(&left.hash, &right.hash)

@@ -1,6 +1,6 @@
 // Made of crates/pkcs1_c/src/lib.rt by tools/erase/erase.py, and not to be edited.
-//! Keys and parameters of PKCS #1 for C: the calls that `ffi/include/pkcs1_c.h` declares, with the structs and statuses
-//! of `ffi/include/pkcs1.h`.
+//! Keys and parameters of PKCS #1 for C: the calls that `ffi/lib/include/pkcs1_c.h` declares, with the structs and
+//! statuses of `ffi/lib/include/pkcs1.h`.
 
 mod algorithm;
 mod bytes;

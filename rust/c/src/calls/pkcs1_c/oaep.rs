@@ -43,8 +43,9 @@ pub(crate) fn from_c_oaep<'a>(params: &OaepParams<'a>) -> crate::proved::pkcs1::
     })
 }
 
-/// Decodes parameters of RSAES-OAEP. Returns 0 and fills `params` with parts of `encoding` and of static defaults, or
-/// returns the status of the first fault.
+/// Decodes parameters of RSAES-OAEP. `OK` exactly if the octets encode some: then `params` holds them, in parts of
+/// `encoding` and of static defaults, and the fields behind a `has_..` that is false are empty. Else the status of the
+/// first fault, and `params` is as it was.
 #[unsafe(no_mangle)]
 pub extern "C" fn pkcs1_c_oaep_params_decode<'a>(
     encoding: *const u8, encoding_len: usize,
@@ -98,8 +99,8 @@ fn write_fields(params: &OaepParams<'_>, out: &mut [u8], len: &mut usize) -> u32
     }
 }
 
-/// Writes the shortest encoding of parameters of RSAES-OAEP to the front of `out`. Returns 0, with its length in `len`,
-/// or `NO_ROOM`, with the needed length in `len`, or another status.
+/// Puts the shortest encoding of parameters of RSAES-OAEP to the front of `out`. What it returns and leaves is as of
+/// `pkcs1_c_pss_params_encode`, but there is no trailer field.
 #[unsafe(no_mangle)]
 pub extern "C" fn pkcs1_c_oaep_params_encode(
     params: &OaepParams<'_>,
@@ -113,7 +114,8 @@ pub extern "C" fn pkcs1_c_oaep_params_encode(
     }
 }
 
-/// Whether the source of a label is pSpecified with an OCTET STRING. Then `label` is the slice of its octets.
+/// Whether the source of a label is pSpecified with an OCTET STRING. Then `label` is the slice of its parameters, at
+/// the same address. Else `label` is as it was.
 #[unsafe(no_mangle)]
 pub extern "C" fn pkcs1_c_oaep_label<'a>(source: &Algorithm<'a>, label: &mut Bytes<'a>) -> bool {
     let is_octets = source.has_parameters && source.tag == Tag::OCTET_STRING.octet();

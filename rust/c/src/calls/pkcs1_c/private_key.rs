@@ -77,8 +77,9 @@ pub(crate) fn to_c_list<'a>(view: &RsaPrivateKeyView<'a>) -> Bytes<'a> {
     }
 }
 
-/// Decodes a private key, and allocates nothing. Returns 0, fills `key` with parts of `encoding`, and sets `listed` to
-/// the encodings of its other primes, one behind the other; or returns the status of the first fault.
+/// Decodes a private key, and allocates nothing. `OK` exactly if the octets encode one: then `key` holds it, in parts
+/// of `encoding`, with the number of its other primes, and `listed` their encodings, one behind the other. Else the
+/// status of the first fault of a private key, and both are as they were.
 #[unsafe(no_mangle)]
 pub extern "C" fn pkcs1_c_private_key_decode<'a>(
     encoding: *const u8, encoding_len: usize,
@@ -103,8 +104,8 @@ fn read_prime<'a>(reader: &mut SliceReader<'a>) -> Result<OtherPrimeInfo<UintRef
     Ok(prime)
 }
 
-/// Puts the primes whose encodings are `listed`, one behind the other, into `others`, as many as fit. It stops at octets
-/// that are no such encoding.
+/// Puts the primes whose encodings are `listed`, one behind the other, into `others`, as many as fit. The rest of it is
+/// as it was. Nothing is promised of other octets, at which it stops, or of more octets than the limit.
 #[unsafe(no_mangle)]
 pub extern "C" fn pkcs1_c_other_primes<'a>(listed: *const u8, listed_len: usize, others: *mut OtherPrime<'a>, others_len: usize) {
     let listed = unsafe { core::slice::from_raw_parts(listed, listed_len) };
@@ -120,9 +121,10 @@ pub extern "C" fn pkcs1_c_other_primes<'a>(listed: *const u8, listed_len: usize,
     }
 }
 
-/// Writes the encoding of a private key to the front of `out`, and allocates nothing. Returns 0, with its length in
-/// `len`, or `NO_ROOM`, with the needed length in `len`. Any other status: the other primes aren't as many as the struct
-/// says, a number has no byte, or it or the encoding passes the limit.
+/// Puts the only encoding of a private key to the front of `out`, and allocates nothing. `len` and the rest of `out`
+/// are as of `pkcs1_c_public_key_encode`. `NO_ROOM` exactly if the key has an encoding, and `out` is shorter.
+/// `OTHER_PRIMES`: there are more or fewer other primes than `key` says. Else the status of the first number that can't
+/// be held, as there; the eight come before other primes. Else `OVERFLOW`: the key has no encoding within the limit.
 #[unsafe(no_mangle)]
 pub extern "C" fn pkcs1_c_private_key_encode(
     key: &PrivateKey<'_>,

@@ -51,8 +51,9 @@ pub(crate) fn from_c_pss<'a>(params: &PssParams<'a>) -> crate::proved::pkcs1::Re
     })
 }
 
-/// Decodes parameters of RSASSA-PSS. Returns 0 and fills `params` with parts of `encoding` and of static defaults, or
-/// returns the status of the first fault.
+/// Decodes parameters of RSASSA-PSS. `OK` exactly if the octets encode some: then `params` holds them, in parts of
+/// `encoding` and of static defaults, and the fields behind a `has_..` that is false are empty. Else the status of the
+/// first fault, and `params` is as it was.
 #[unsafe(no_mangle)]
 pub extern "C" fn pkcs1_c_pss_params_decode<'a>(
     encoding: *const u8, encoding_len: usize,
@@ -98,8 +99,11 @@ fn write_fields(params: &PssParams<'_>, out: &mut [u8], len: &mut usize) -> u32 
     }
 }
 
-/// Writes the shortest encoding of parameters of RSASSA-PSS to the front of `out`. Returns 0, with its length in `len`,
-/// or `NO_ROOM`, with the needed length in `len`, or another status.
+/// Puts the shortest encoding of parameters of RSASSA-PSS to the front of `out`. `len` and the rest of `out` are as of
+/// `pkcs1_c_public_key_encode`. `NO_ROOM`: all parts of `params` can be held, and `out` is shorter than the encoding.
+/// `OVERFLOW`: all can be, and no encoding is within the limit. Else the status of the first part that can't be held:
+/// `OID_MALFORMED` of octets that are no object identifier, `TAG_UNKNOWN` of a tag octet that isn't supported,
+/// `OVERFLOW` of contents longer than the limit, `VALUE` of a trailer field other than 1.
 #[unsafe(no_mangle)]
 pub extern "C" fn pkcs1_c_pss_params_encode(
     params: &PssParams<'_>,

@@ -47,8 +47,8 @@ fn write_fields(params: &PssParams<'_>, out: &mut [u8], len: &mut usize) -> u32 
     }
 }
 
-/// Writes the shortest encoding of the algorithm identifier of RSASSA-PSS with these parameters to the front of `out`.
-/// Returns 0, with its length in `len`, or `NO_ROOM`, with the needed length in `len`, or another status.
+/// Puts the shortest encoding of the algorithm identifier of RSASSA-PSS with these parameters to the front of `out`.
+/// What it returns and leaves is as of `pkcs1_c_pss_params_encode`.
 #[unsafe(no_mangle)]
 pub extern "C" fn pkcs1_c_pss_algorithm_encode(
     params: &PssParams<'_>,

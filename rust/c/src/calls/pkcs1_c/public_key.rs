@@ -17,7 +17,8 @@ pub struct PublicKey<'a> {
     pub public_exponent: &'a [u8],
 }
 
-/// Decodes a public key. Returns 0 and fills `key` with parts of `encoding`, or returns the status of the first fault.
+/// Decodes a public key. `OK`, which is 0, exactly if the octets encode one: then `key` holds it, in parts of
+/// `encoding`. Else the status of the first fault of a public key, and `key` is as it was.
 #[unsafe(no_mangle)]
 pub extern "C" fn pkcs1_c_public_key_decode<'a>(encoding: *const u8, encoding_len: usize, key: &mut PublicKey<'a>) -> u32 {
     let encoding = unsafe { core::slice::from_raw_parts(encoding, encoding_len) };
@@ -39,8 +40,11 @@ fn from_c_key<'a>(key: &PublicKey<'a>) -> crate::proved::pkcs1::Result<RsaPublic
     })
 }
 
-/// Writes the encoding of a public key to the front of `out`. Returns 0, with its length in `len`, or `NO_ROOM`, with
-/// the needed length in `len`. Any other status: a number has no byte, or it or the encoding passes the limit.
+/// Puts the only encoding of a public key to the front of `out`. Its numbers may have zeros in front. `OK`: `len` is
+/// the length of the encoding, and the rest of `out` is as it was. Else `out` is as it was, and so is `len`, but of
+/// `NO_ROOM` it is the length that is needed. `NO_ROOM` exactly if the key has an encoding, and `out` is shorter. Else
+/// the status of the first number that can't be held: `LENGTH` if it has no octets, `OVERFLOW` if it is longer than the
+/// limit. Else `OVERFLOW`: the encoding is.
 #[unsafe(no_mangle)]
 pub extern "C" fn pkcs1_c_public_key_encode(
     key: &PublicKey<'_>,

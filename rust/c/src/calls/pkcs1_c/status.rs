@@ -111,13 +111,13 @@ fn status_octets(status: u32) -> &'static [u8] {
     }
 }
 
-/// The C string that describes a status.
+/// The C string that describes this status, which may be any number. Its octets end with a zero.
 #[unsafe(no_mangle)]
 pub extern "C" fn pkcs1_c_status_text(status: u32, text: &mut Bytes<'static>) {
     text.octets = status_octets(status);
 }
 
-/// The version of the library, as a C string.
+/// The version of the library, as a C string. Its octets end with a zero.
 #[unsafe(no_mangle)]
 pub extern "C" fn pkcs1_c_version(text: &mut Bytes<'static>) {
     text.octets = b"0.8.1\0";

@@ -23,14 +23,14 @@ pub struct Uint {
 }
 
 impl Uint {
-    /// The number with these big-endian bytes, which may have leading zeros. `Length` of INTEGER if there is no byte,
-    /// `Overflow` if more than `Length::MAX` bytes remain without leading zeros. `OutOfMemory` is returned only for
-    /// bytes that are a number.
+    /// The number with these big-endian bytes, which may have leading zeros. `Length` of INTEGER exactly if there is
+    /// no byte, `Overflow` exactly if more than `Length::MAX` bytes remain without leading zeros. `OutOfMemory` is
+    /// returned only for bytes that are a number.
     pub fn new(alloc: Global, bytes: &[u8]) -> Result<Uint> {
         Uint::copy(alloc, UintRef::new(bytes)?)
     }
 
-    /// The bytes, most significant first, at least one.
+    /// The bytes, most significant first: at least one, at most `Length::MAX`, and no needless zero in front.
     pub fn as_bytes(&self) -> &[u8] {
         self.bytes.as_slice()
     }

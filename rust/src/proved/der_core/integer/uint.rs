@@ -49,8 +49,8 @@ fn strip(bytes: &[u8]) -> &[u8] {
 }
 
 impl<'a> UintRef<'a> {
-    /// The number with these big-endian bytes, which may have leading zeros. `Length` of INTEGER if there is no byte,
-    /// `Overflow` if more than `Length::MAX` bytes remain without leading zeros.
+    /// The number with these big-endian bytes, which may have leading zeros. `Length` of INTEGER exactly if there is
+    /// no byte, `Overflow` exactly if more than `Length::MAX` bytes remain without leading zeros.
     pub fn new(bytes: &'a [u8]) -> Result<UintRef<'a>> {
         let bytes = strip(bytes);
         if bytes.is_empty() {
@@ -62,8 +62,8 @@ impl<'a> UintRef<'a> {
         Ok(UintRef { bytes })
     }
 
-    /// The number with these big-endian bytes, if there is one and none is a needless zero in front. `None` too if they
-    /// are more than `Length::MAX`.
+    /// The number with these big-endian bytes. `None` exactly if there is no byte, if a needless zero stands in front,
+    /// or if they are more than `Length::MAX`.
     pub fn from_canonical(bytes: &'a [u8]) -> Option<UintRef<'a>> {
         match bytes {
             [] | [0, _, ..] => None,
@@ -77,12 +77,12 @@ impl<'a> UintRef<'a> {
         UintRef { bytes }
     }
 
-    /// The bytes, most significant first, at least one.
+    /// The bytes, most significant first: at least one, at most `Length::MAX`, and no needless zero in front.
     pub fn as_bytes(&self) -> &'a [u8] {
         self.bytes
     }
 
-    /// The bit length of the number, as 2048 of the modulus of an RSA-2048 key. It is 0 of 0.
+    /// The bit length of the number, as 2048 of the modulus of an RSA-2048 key: the least n with it below 2^n, 0 of 0.
     pub fn bit_len(&self) -> u64 {
         8 * self.bytes.len() as u64 - self.bytes[0].leading_zeros() as u64
     }

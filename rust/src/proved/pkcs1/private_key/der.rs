@@ -8,8 +8,9 @@ use crate::proved::pkcs1_params::Error;
 use crate::rattle_std::alloc::Global;
 
 impl<U> RsaPrivateKey<U> {
-    /// Decodes the contents of an OCTET STRING, as `from_der` does. If the numbers need no memory, a key of two primes
-    /// is always read.
+    /// Reads a private key from the octets of an OCTET STRING. Ok only if all of them encode one: then that key. Err:
+    /// the first fault of a private key, or `OutOfMemory`, which comes where it may for `decode_key`, or where the
+    /// numbers may ask for memory. A key of two primes is always read, if the numbers never ask for it.
     pub fn from_octet_string<'a>(
         alloc: Global,
         octets: OctetStringRef<'a>,
@@ -22,26 +23,28 @@ impl<U> RsaPrivateKey<U> {
 }
 
 impl<'a> RsaPrivateKey<UintRef<'a>> {
-    /// Decodes a whole slice, as `from_der` does. Returns `OutOfMemory` only if a SEQUENCE that begins with an
-    /// OtherPrimeInfo follows the eighth number.
+    /// Reads a private key. Ok only if the whole slice encodes one: then that key. Err: the first fault of a private
+    /// key, or `OutOfMemory`, which comes only if a SEQUENCE that begins with another prime follows the eight numbers.
+    /// So a key of two primes is always read.
     pub fn decode_key(alloc: Global, bytes: &'a [u8]) -> crate::proved::pkcs1::Result<RsaPrivateKey<UintRef<'a>>> {
         Ok(RsaPrivateKey::from_der(alloc, bytes)?) // its numbers are parts of the bytes
     }
 }
 
 impl RsaPrivateKey<Uint> {
-    /// Decodes a whole slice, as `decode_key` of `RsaPrivateKeyRef` does. Returns `OutOfMemory` only if the SEQUENCE
-    /// begins with a version and a number.
+    /// Reads a private key, whose numbers it copies. Ok only if the whole slice encodes one: then that key. Err: the
+    /// first fault of a private key, or `OutOfMemory`, which comes only if the slice begins with a SEQUENCE that begins
+    /// with a version and a number.
     pub fn decode_owned_key(alloc: Global, bytes: &[u8]) -> crate::proved::pkcs1::Result<RsaPrivateKey<Uint>> {
         Ok(RsaPrivateKey::from_der(alloc, bytes)?) // its numbers are copies
     }
 }
 
 impl<U: Encode + UintEncoding> RsaPrivateKey<U> {
-    /// Writes the key's only encoding to the front of a slice and returns its length, as `encode_into` does. Returns
-    /// `Value` of SEQUENCE if the list of other primes is there but empty, `Overflow` if the encoding is longer than
-    /// `Length::MAX`, `NoRoom` if it is longer than the slice. It looks for an empty list first, so its contract says the
-    /// tag of `Value`.
+    /// Writes the key's only encoding, which is that of no other key, to the front of a slice, and returns its length.
+    /// The bytes behind it stay as they were. After an error all of the slice does. It is `Value` of SEQUENCE exactly
+    /// if the list of other primes is there but empty, which is looked at first, `Overflow` exactly if the encoding is
+    /// longer than `Length::MAX`, else `NoRoom` exactly if it is longer than the slice.
     pub fn encode_key(&self, out: &mut [u8]) -> crate::proved::pkcs1::Result<usize> {
         if lists_none(&self.other_prime_infos) {
             let kind = ErrorKind::Value { tag: Tag::SEQUENCE };

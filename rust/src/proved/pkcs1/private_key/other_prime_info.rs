@@ -56,7 +56,7 @@ impl<U: TryClone> TryClone for OtherPrimeInfo<U> {
 }
 
 impl<U: TryClone> OtherPrimeInfo<U> {
-    /// The same numbers, or `OutOfMemory`.
+    /// The same numbers, or `OutOfMemory`, which never comes if each is always copied.
     pub(crate) fn try_clone(&self, alloc: Global) -> Result<OtherPrimeInfo<U>> {
         Ok(OtherPrimeInfo {
             prime: self.prime.try_clone(alloc)?,

@@ -1,6 +1,6 @@
 // Made of crates/pkcs1/src/private_key/written.rt by tools/erase/erase.py, and not to be edited.
-//! A private key as it is written: a row of its parts. The compiler takes rows of seven parts at most, so the end of the
-//! row is a type of its own.
+//! A private key as it is written: a row of its parts. The compiler takes rows of seven parts at most, so the end of
+//! the row is a type of its own.
 
 use super::PrivateKeyOf;
 use crate::proved::der_core::{
@@ -81,19 +81,22 @@ impl<U: Encoding, O: Encoding> PrivateKeyOf<U, O> {
 /// For types of other primes of one's own: a key is written as its row, whatever holds them. An empty list of them is
 /// written as one.
 impl<U: Encode, O: Encode> PrivateKeyOf<U, O> {
-    /// The length of the contents.
+    /// The length of the contents octets, or why there are none. The tag of `Value` is one that the type of the numbers
+    /// or that of the other primes names.
     #[inline(always)]
     pub fn row_len(&self) -> Result<Length> {
         self.row().value_len()
     }
 
-    /// Appends the contents, which have at most `Length::MAX` octets: `NoRoom` after a beginning of them.
+    /// Appends the contents. Requires that there are some, of at most `Length::MAX` octets. `NoRoom` after a beginning
+    /// of them. The writer keeps what writing never changes.
     #[inline(always)]
     pub(crate) fn append_row<W: Writer>(&self, writer: &mut W) -> Result<()> {
         self.row().append_value(writer)
     }
 
-    /// Writes the contents in front of what is filled.
+    /// Writes the contents in front of what is filled, as `prepend_value` does. Requires that there are some, of at
+    /// most `Length::MAX` octets, and room for them.
     #[inline(always)]
     pub(crate) fn prepend_row(&self, writer: &mut BackWriter<'_>) {
         self.row().prepend_value(writer);

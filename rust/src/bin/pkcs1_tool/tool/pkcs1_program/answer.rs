@@ -51,7 +51,8 @@ fn answer_pair(
     }
 }
 
-/// Appends the output for a line, without a line feed, to `out`. `encodings` may hold anything; it is only a buffer.
+/// Appends the output for a line, without a line feed, to `out`. The only error is out of memory. `encodings` may hold
+/// anything; it is only a buffer.
 pub fn answer_line(
     alloc: Global,
     line: &[u8],

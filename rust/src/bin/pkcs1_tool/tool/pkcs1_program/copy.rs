@@ -57,8 +57,10 @@ fn copy_key<K: Copied, R: Source, P: Place>(
     }
 }
 
-/// Copies a public key, whose encoding must be all that the source gives until its end, to the place. The place is used
-/// only after the key was read: after an error of reading it is unchanged. The encoding is held once.
+/// Copies a public key, whose encoding must be all that the source gives until its end, to the place. Ok: it is, the
+/// place took exactly it, and no call of the source failed. `Read`: no key was read, for a reason of `read_sequence`,
+/// or with the first fault of all as a key, and the place is unused. `Write`: a key was read, and the place was used up
+/// before, or refused it. The encoding is held once.
 pub fn copy_public_key<R: Source, P: Place>(
     alloc: Global,
     source: &mut R,
@@ -90,6 +92,10 @@ fn copy_file<'a, K: Copied, F: ReplaceFiles>(
 }
 
 /// Copies a public key from file to file. The other file is replaced, created or written only after the key was read.
+/// Ok: all that the file opened at the first path gave is the encoding of a key, and what is at the second path took
+/// exactly it, as of `FileAt::write`. `Read`, with the first path: that file can't be opened, or no key was read, as of
+/// `copy_public_key`. That nothing is created then is only tested. `Write`, with the second path: a key was read, and
+/// that file refused it, as of `FileAt::write`.
 pub fn copy_pub<'a, F: ReplaceFiles>(
     files: &'a F,
     alloc: Global,
@@ -100,8 +106,8 @@ pub fn copy_pub<'a, F: ReplaceFiles>(
     with_path(copied, input, output)
 }
 
-/// Copies a private key from file to file. The other file is replaced, created or written only after the key was read.
-/// A new file gets no more rights than the file that was read has.
+/// Copies a private key from file to file, as `copy_pub` does a public one. A new file gets no more rights than the
+/// file that was read has.
 pub fn copy_priv<'a, F: ReplaceFiles>(
     files: &'a F,
     alloc: Global,

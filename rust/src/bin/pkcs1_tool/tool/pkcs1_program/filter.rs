@@ -88,7 +88,15 @@ fn answer_input<W: Sink>(alloc: Global, input: &[u8], sink: &mut W) -> Result<()
     }
 }
 
-/// Reads the whole input, then writes the output for each line, many lines at once.
+/// Reads the whole input, then writes the output for each line, many lines at once. What follows is said of the bytes
+/// that source and sink report.
+///
+/// Ok: the source gave all until its end, at most `LIMIT` bytes, the output for each line was written, in order, the
+/// sink is flushed, and no call failed. Of any source there are some bytes, at most `LIMIT`, whose output was written.
+/// `Read`: one call of the source failed, or it gave more than `LIMIT`; nothing was written, and no call of the sink
+/// failed. `Write`: one call of the sink failed, and a beginning of the output was written. `Memory`: the output for
+/// some first lines was written, at least one byte came, and no call failed. A line has at most one output, and so has
+/// an input.
 pub fn run<R: Source, W: Sink>(alloc: Global, source: &mut R, sink: &mut W) -> Result<(), Fault> {
     lemma_answers_are_one();
     let input = read_input(alloc, source)?;

@@ -6,7 +6,8 @@ fn place_of(byte: u8, bytes: &[u8]) -> Option<usize> {
     bytes.iter().position(|other| *other == byte)
 }
 
-/// Returns the first line, without its line feed, and what follows the line feed.
+/// Returns the first line, without its line feed, and what follows the line feed, which is shorter than the bytes.
+/// Requires that there is a byte.
 pub fn split_line(bytes: &[u8]) -> (&[u8], &[u8]) {
     match place_of(b'\n', bytes) {
         Some(end) => (&bytes[..end], &bytes[end + 1..]),

@@ -37,9 +37,10 @@ fn fault_of(alloc: Global, bytes: &[u8]) -> Option<Error> {
     }
 }
 
-/// Reads a source to its end. Stops as soon as what came is no beginning of a SEQUENCE, and with `Overflow` as soon as
-/// it is more than `Length::MAX` bytes, so it returns even if the source never ends. `File` is returned only if a read
-/// of the source failed. What was read before an error is lost.
+/// Reads a source to its end. Ok: this is all that it gave, and no call of it failed. It stops as soon as what came is
+/// no beginning of a SEQUENCE, and with `Overflow` as soon as it is more than `Length::MAX` bytes, so it returns even
+/// if the source never ends. Err: `File` if a call failed, `OutOfMemory` or `Overflow`, as of `Document::read_from`; or
+/// what came has this fault as a document, which isn't that it is too short. What was read before an error is lost.
 pub fn read_sequence<R: Source>(alloc: Global, source: &mut R) -> Result<Vec<u8>> {
     let mut bytes = Vec::new(alloc);
     let mut piece = [0u8; PIECE];

@@ -39,7 +39,8 @@ fn reported<T, E: Display>(rt: &impl Eprint, outcome: Result<T, E>) -> bool {
     }
 }
 
-/// Carries out the plan, and returns the exit status. Lines are read from the source and answered to the sink.
+/// Carries out the plan. Lines are read from the source and answered to the sink. Returns the exit status, which is
+/// that of the plan, after success or not. It is 0 only if the lines were answered, or the key was copied.
 fn carry_out<P: Eprint, F: ReplaceFiles, R: Source, W: Sink>(
     rt: &P,
     alloc: Global,

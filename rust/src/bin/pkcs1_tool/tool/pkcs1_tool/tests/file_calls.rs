@@ -1,6 +1,6 @@
 // Made of crates/pkcs1_tool/src/tests/file_calls.rt by tools/erase/erase.py, and not to be edited.
-//! Which calls on files are made, in order: no file is created before what goes into it is there, none is renamed before it
-//! is whole, and no other file is touched.
+//! Which calls on files are made, in order: no file is created before what goes into it is there, none is renamed
+//! before it is whole, and no other file is touched.
 use crate::rattle_std::prelude::{HostRuntime, Vec};
 use crate::tool::pkcs1_tool::tests::checks::{equal, holds};
 use crate::tool::pkcs1_tool::tests::key_files::{PRIVATE, PUBLIC};
