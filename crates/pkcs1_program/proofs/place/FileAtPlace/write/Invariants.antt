@@ -1,9 +1,9 @@
+-- In the loop of `write`, the last try put the bytes there, or `written` says why it didn't.
 use Rattle.std.proofs.Common.{IfErr, OnOk}
 use Rattle.std.specs.Path.{path_bytes}
 use Rattle.pkcs1_program.specs.Words.{FillsFile, PutsFile, RefusesFile}
 use Rattle.pkcs1_program.proofs.place.FileAtPlace.write.Given as goal
 
--- the last try put the bytes there, or this is why it didn't
 abbrev pub invariant-loop-number : goal.invariant-loop-number
 invariant-loop-number g l =
     let old = FillsFile g.F.ReplaceFiles.opens_in_place g.F.Created.Close.is_closed g.F.Created.Sink.contents
