@@ -66,7 +66,7 @@ class Tree:
 
 def check_names(tree):
     """Names in documents are there: files, words of code, places to link to. The map has each part."""
-    documents = tree.like(r"(README|CONTRIBUTING|SECURITY)\.md|(docs|crates/\w+|rust|tools/\w+)/(?!CHANGELOG)\w+\.md")
+    documents = tree.like(r"(README|CONTRIBUTING|SECURITY)\.md|(docs|crates/\w+|rust|tools/\w+)/\w+\.md")
     return f"the names in {len(documents)} documents are there", names.wrong_in(tree, documents)
 
 
