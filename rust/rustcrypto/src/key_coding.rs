@@ -19,7 +19,7 @@ fn listed<T>(mut items: impl Iterator<Item = Option<T>>) -> Option<[T; 0]> {
 /// The primes for a proved function. Without the feature `alloc` there is none, and an empty list isn't written.
 #[cfg(feature = "alloc")]
 fn lent_list<U: Number>(primes: &[OtherPrimeInfo<U>]) -> Option<proved::OtherPrimeInfos<proved::UintRef<'_>>> {
-    primes.iter().map(OtherPrimeInfo::lent).collect()
+    listed(primes.iter().map(OtherPrimeInfo::lent)).map(proved::OtherPrimeInfos::from)
 }
 #[cfg(not(feature = "alloc"))]
 fn lent_list<U: Number>(_primes: &[OtherPrimeInfo<U>]) -> Option<proved::OtherPrimeInfos<proved::UintRef<'_>>> {
