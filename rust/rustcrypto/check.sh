@@ -66,7 +66,7 @@ of_debian() {
     cp -r "$here/check" "$room"
     sed -i "s|REGISTRY|$registry|; s|HERE|$here|" "$room"/*.rs "$room"/*/Cargo.toml
     # Tests of RustCrypto's pkcs1 read files of this folder.
-    cp -r "$registry/pkcs1-0.7.5/tests" "$room/$1/tests"
+    [ ! -d "$registry/pkcs1-0.7.5" ] || cp -r "$registry/pkcs1-0.7.5/tests" "$room/$1/tests"
     quietly "cargo test of $1" cargo test --manifest-path "$room/$1/Cargo.toml" --tests
     awk -v of="$1" '/^test result: ok/ { all += $4 } END { print "rustcrypto: " of ": " all " tests passed"; exit !all }' \
         "$OUT/log" || stop "$1 has no test"
