@@ -66,15 +66,6 @@ impl<'a> Recorder<'a> {
         }
     }
 
-    /// What a call gives that creates or opens `out`.
-    fn created_by(&self, call: Call, path: Path<'_>) -> Result<Recorded<'a>> {
-        if self.called(call, path, "out") {
-            Ok(self.created())
-        } else {
-            Err(Error::new(ErrorKind::File))
-        }
-    }
-
     /// Keeps a call that is to be made with this path, and whether it succeeds.
     fn called(&self, call: Call, path: Path<'_>, wanted: &str) -> bool {
         keep(self.calls, call);
@@ -105,7 +96,11 @@ impl<'a> FileSystem for Recorder<'a> {
     }
 
     fn create(&self, path: Path<'_>) -> Result<Recorded<'a>> {
-        self.created_by(Call::Create, path)
+        if self.called(Call::Create, path, "out") {
+            Ok(self.created())
+        } else {
+            Err(Error::new(ErrorKind::File))
+        }
     }
 }
 
@@ -145,7 +140,11 @@ impl<'a> ReplaceFiles for Recorder<'a> {
     }
 
     fn open_in_place(&self, path: Path<'_>, _rights: Rights) -> Result<Recorded<'a>> {
-        self.created_by(Call::OpenInPlace, path)
+        if self.called(Call::OpenInPlace, path, "out") {
+            Ok(self.created())
+        } else {
+            Err(Error::new(ErrorKind::File))
+        }
     }
 
     fn create_new(&self, path: Path<'_>, rights: Rights) -> Result<Option<Recorded<'a>>> {
