@@ -159,9 +159,9 @@ fn a_new_file_is_removed(rt: HostRuntime) {
 fn the_next_name_is_tried(rt: HostRuntime) {
     let alloc = rt.alloc();
     for (free, tried, is_copied) in [
-        ("new.1", 2, true),
-        ("new.100", 101, true),
-        ("new.101", 101, false),
+        ("new.1", 2 * 2, true),
+        ("new.100", 2 * 101, true),
+        ("new.101", 2 * 101, false),
     ] {
         let calls = RefCell::new(Vec::new(alloc));
         let recorder = Recorder {
@@ -173,14 +173,16 @@ fn the_next_name_is_tried(rt: HostRuntime) {
         if let Err(told) = done {
             equal(&rt, told.error, CopyError::Write(WriteError::Taken));
         }
-        let calls = calls.into_inner();
-        let count = 3 + 2 * tried;
         let behind = if is_copied { &REPLACED[5..] } else { &[] };
-        equal(&rt, &calls.as_slice()[..3], READ);
-        for pair in calls.as_slice()[3..count].chunks_exact(2) {
+        let calls = calls.into_inner();
+        let (read, others) = calls.as_slice().split_at(calls.len().min(3));
+        let (pairs, last) = others.split_at(others.len().min(tried));
+        equal(&rt, read, READ);
+        equal(&rt, pairs.len(), tried);
+        for pair in pairs.chunks_exact(2) {
             equal(&rt, pair, &REPLACED[3..5]);
         }
-        equal(&rt, &calls.as_slice()[count..], behind);
+        equal(&rt, last, behind);
     }
 }
 
