@@ -2,9 +2,10 @@
 """Plants each mistake of the file `mistakes` in a copy of ffi/lib/pkcs1.c, and lets ffi/proof/prove.sh look at the
 function that it is in. Plants each of `weaker` in a copy of ffi/proof/pkcs1.acsl.h, and lets it look at what
 promises.c says of that call. Each must be refused: a goal isn't proved that is proved without it, in as many steps.
-Prints these goals, or that it passed. The status is 1 if one passed.
+Prints these goals, or that it passed. The status is 1 if one passed. Run by hand: it takes half an hour and more.
 
-    mistakes.py [STEPS]    how many steps the prover may take for a goal: 100000, if it isn't said
+    mistakes.py [STEPS]    how many steps the prover may take for a goal: 400000, if it isn't said. With fewer, goals of
+                           copy_pss and the like aren't proved without a mistake either
 
 Functions of pkcs1.c are proved one by one, so one mistake of each is looked at in the same run. A contract counts for
 several calls, so each of `weaker` has a run of its own. AT_ONCE: how many runs go at a time. Where the variable SAMPLE
@@ -19,7 +20,7 @@ from concurrent.futures import ThreadPoolExecutor
 
 HERE = os.path.dirname(os.path.abspath(__file__))
 TOP = os.path.normpath(f"{HERE}/../..")
-STEPS = sys.argv[1] if len(sys.argv) > 1 else "100000"
+STEPS = sys.argv[1] if len(sys.argv) > 1 else "400000"
 AT_ONCE = os.environ.get("AT_ONCE") or str(os.cpu_count())
 CODE, CONTRACTS, PROVED = (f"ffi/{it}" for it in ("lib/pkcs1.c", "proof/pkcs1.acsl.h", "proof/proof.c"))
 
