@@ -139,7 +139,7 @@ rows() {
     count=$(crates/pkcs1_tool/all_rows.sh | wc -l)
     PROGRAMS=$CARGO_TARGET_DIR/release/pkcs1_tool crates/pkcs1_tool/run_built.sh > "$OUT/log" || true
     grep -vE "$closed|isn't tried: no other user" "$OUT/log" > "$OUT/left"
-    { tail -n 1 "$OUT/left" | grep -qxE "($((count + 71))|$((count + 73))) passed, 2 failed" &&
+    { tail -n 1 "$OUT/left" | grep -qxE "($((count + 74))|$((count + 76))) passed, 2 failed" &&
         [ "$(wc -l < "$OUT/left")" = 2 ]; } || { cat "$OUT/log" >&2 && stop "the tool fails"; }
     echo "rows: $(cat crates/pkcs1_vectors/stdout), and the tool does all but for closed streams"
 }
