@@ -25,9 +25,11 @@ exports() {
 # shellcheck disable=SC2086 # words
 elf() {
     $CC ${CFLAGS-} -fno-lto -fno-sanitize=all -r -nostdlib -o "$out/pkcs1.o" "$out/proved.o" "$out/calls.o"
-    # On i386 each object has the same functions that tell where it is, of which a program keeps one.
-    ${OBJCOPY:-objcopy} -w --keep-global-symbols="$out/declared" --keep-global-symbol='__x86.get_pc_thunk.*' \
-        "$out/pkcs1.o"
+    # On i386 each object has the same functions that tell where it is, of which a program keeps one. On MIPS a name that
+    # is called by a table can't be local.
+    others='__x86.get_pc_thunk.'
+    case $($CC ${CFLAGS-} -dumpmachine) in mips*) others=pkcs1_c_ ;; esac
+    ${OBJCOPY:-objcopy} -w --keep-global-symbols="$out/declared" --keep-global-symbol="$others*" "$out/pkcs1.o"
     # Else a C library's own start files, as those of musl, may add names.
     printf 'PKCS1_%s { global: %s local: *; };\n' "$abi" "$(sed 's/$/;/' "$out/declared")" > "$out/exports.map"
     # A sanitizer's calls are in the program that is linked with it.
@@ -38,7 +40,7 @@ elf() {
     # A copy, since rt ci takes no tree with links.
     cp "$out/$soname" "$out/libpkcs1.so"
     ${AR:-ar} rcs "$out/libpkcs1.a" "$out/pkcs1.o"
-    exports '__x86\.get_pc_thunk\.'
+    exports "$others"
 }
 # Each object of C has no other global names than those of the headers.
 archive() {
