@@ -209,7 +209,22 @@ static void longest_numbers(void) {
     CHECK(pkcs1_public_key_encode(&wide, NULL, 0, &len) == PKCS1_NO_ROOM && len == most);
 }
 
+#ifdef WATCHED
+#include "pkcs1_c.h"
+/* pkcs1.c never gives the proved call more room than there are primes. */
+static void more_room_than_primes(void) {
+    static const uint8_t listed[] = {0x30, 9, 2, 1, 1, 2, 1, 1, 2, 1, 1};
+    const struct pkcs1_other_prime as_before = {{listed, 1}, {listed, 2}, {listed, 3}};
+    struct pkcs1_other_prime others[] = {as_before, as_before};
+    pkcs1_c_other_primes(listed, sizeof listed, others, 2);
+    CHECK(others[0].prime.data == listed + 4 && others[1].coefficient.len == 3);
+}
+#endif
+
 void try_large(void) {
+#ifdef WATCHED
+    more_room_than_primes();
+#endif
     memset(ones, 1, sizeof ones);
     for (size_t i = 0; i < KINDS; i++) {
         written_and_read(kinds[i], 1);
