@@ -16,15 +16,15 @@ from prover import below
 DEMO = "tools/wrong_bodies/demo"
 # The files of this program on which a verdict stands.
 PROGRAM = ("credit", "earlier", "edits", "functions", "holes", "prover", "rounds")
-# A line that is a comment, of either language.
-COMMENT = re.compile(r"^\s*(//|--).*\n", re.M)
+# A line that is a comment, of either language, or blank.
+SAYS_NOTHING = re.compile(r"^[^\S\n]*((//|--).*)?\n", re.M)
 
 
 class Verdicts:
     """Which edits of a crate were refused before. On this machine, each under all that the prover then read: the
     toolchain, this program, the crate and its line in crates.txt, the libraries below it as they were built, and the
     edit. Only that an edit was refused is kept. By the line of the repository, all edits of the crate, under the same
-    without comments. There the toolchain is named by its logic, and libraries are their sources."""
+    without comments and blank lines. There the toolchain is named by its logic, and libraries are their sources."""
 
     def __init__(self, name, crates, edits, anew):
         self.store = kept.Store("wrong_bodies", anew or kept.ANEW)
@@ -84,9 +84,9 @@ def contents_below(path):
 
 @functools.lru_cache(maxsize=None)
 def text_below(path):
-    """The text of each file in a folder, or of a file, without comments."""
+    """The text of each file in a folder, or of a file, without comments and blank lines."""
     files = [pathlib.Path(it) for it in kept.files_below(path)] if os.path.exists(path) else []
-    texts = [COMMENT.sub("", it.read_text(encoding="utf-8")) for it in files]
+    texts = [SAYS_NOTHING.sub("", it.read_text(encoding="utf-8")) for it in files]
     return kept.hash_of([(str(it).removeprefix(path), text) for it, text in zip(files, texts)])
 
 
