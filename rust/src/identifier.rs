@@ -70,24 +70,25 @@ impl ObjectIdentifier {
         if first > 2 || (first < 2 && second >= 40) {
             return None;
         }
-        let Some(both) = second.checked_add(40 * first) else { return None };
-        let mut made = empty.with_number(both);
+        let mut made = empty.with_sum(second, 40 * first);
         while end < text.len() {
             let (Some((number, behind)), Some(oid)) = (number_at(text, end + 1), made) else { return None };
-            (made, end) = (oid.with_number(number), behind);
+            (made, end) = (oid.with_sum(number, 0), behind);
         }
         made
     }
 
-    /// The identifier with one more number behind, seven bits in each octet.
-    const fn with_number(mut self, number: u128) -> Option<ObjectIdentifier> {
-        let mut shift = (u128::BITS - (number | 1).leading_zeros() - 1) / 7 * 7;
+    /// The identifier with the sum of two numbers behind, seven bits in each octet. The second number is at most 80.
+    const fn with_sum(mut self, number: u128, added: u128) -> Option<ObjectIdentifier> {
+        let last = (number & 0x7f) + added;
+        let front = (number >> 7) + (last >> 7); // the sum itself may have 129 bits
+        let mut shift = (u128::BITS - front.leading_zeros()).div_ceil(7) * 7;
         loop {
             if self.length as usize == ObjectIdentifier::MAX_SIZE {
                 return None;
             }
-            let continued = if shift > 0 { 0x80 } else { 0 };
-            self.octets[self.length as usize] = (number >> shift) as u8 & 0x7f | continued;
+            let octet = if shift > 0 { (front >> (shift - 7)) as u8 | 0x80 } else { last as u8 & 0x7f };
+            self.octets[self.length as usize] = octet;
             self.length += 1;
             if shift == 0 {
                 return Some(self);
