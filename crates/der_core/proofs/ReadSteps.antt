@@ -1,6 +1,6 @@
 -- Reading with `?`: each step of the code is one lemma. For readers of this crate, and of those above.
 use Rattle.std.proofs.Common.{ℕ, Bool, true, false, List, [], ◌∷◌, ◌++◌, ◌≡◌, ◌≢◌, ◌≤◌, ◌==◌, length, take, drop, refl, sym, ap, ◌∙◌, arith, inl, inr, ⊎_elim, append_assoc, length-take, append-nil, take_all, Result, Ok, Err, Some, None, take-append-drop, nat_lt, not, eqb, if◌then◌else◌, IfOk, IfErr}
-use Rattle.der_core.specs.Words.{nat_tests, Error, ErrorKind, Tag, WithinLimit, AreBytes, Input, left_in, read_from, header_at, inner_of, end_of, front_of, small_of, header_at-sound, ok_pair, cond_cases, limit, AllocatesInParts, ReadsPrinted, AllocatesAtFront, InputAllocates, FaultOrMemory, Returns, ReadsAll, Reading, FrontReading, ◌>>=◌, chain, ended, expected, front_parts, parts, such, alone, tagged, contents_behind, inside, whole, ReadsContents, ReadsFronts, integer_tag, Tlv}
+use Rattle.der_core.specs.Words.{nat_tests, Error, ErrorKind, Tag, WithinLimit, AreBytes, Input, left_in, read_from, header_at, inner_of, end_of, front_of, small_of, header_at-sound, ok_pair, cond_cases, limit, AllocatesInParts, ReadsPrinted, AllocatesAtFront, DecodesOrMemory, InputAllocates, FaultOrMemory, Returns, ReadsAll, Reading, FrontReading, ◌>>=◌, chain, ended, expected, front_parts, parts, such, alone, tagged, contents_behind, inside, whole, ReadsContents, ReadsFronts, integer_tag, Tlv}
 use Rattle.der_core.specs.declared.error.ErrorKind.TheVariants.{OutOfMemory, TagUnexpected, Value}
 use Rattle.der_core.proofs.Readings.{contents_behind_other_tag}
 
@@ -237,16 +237,22 @@ whole_trailing at before mid b e v is within (rest, p, left) ends =
     rw no (ap (λ r. r >>= λ p. ended p.0 p.1) (rw is at p) ∙ ended_fails v rest (rw left at ends))
 
 -- The grammar of what was returned.
-module _ {X V : Type 0} (value : X → V) {encoding : V → List ℕ → Type 0} (at : FrontReading V) (b : List ℕ)
-    (law : ReadsContents (WithinLimit encoding) (whole at)) where
+module _ {X V : Type 0} (value : X → V) {encoding : V → List ℕ → Type 0} {read : Reading V} (b : List ℕ)
+    (law : ReadsContents (WithinLimit encoding) read) where
   -- A fault: the bytes encode no value.
-  whole_fault_encodes_none : {e : ErrorKind} → whole at b ≡ Err e → (v : V) → WithinLimit encoding v b → ⊥
-  whole_fault_encodes_none e v m = let no = sym e ∙ law.takes b v m.0 m in cc
+  fault_encodes_none : {e : ErrorKind} → read b ≡ Err e → (v : V) → WithinLimit encoding v b → ⊥
+  fault_encodes_none e v m = let no = sym e ∙ law.takes b v m.0 m in cc
 
   -- What a call returned.
-  pub whole_returned_reads_all : (may : List ℕ → Type 0) (r : Result X Error) → AreBytes b
-      → Returns value (whole at b) (AllocatesAtFront may b) r → ReadsAll value encoding may r b
-  whole_returned_reads_all may (Ok x) bytes p =
+  pub returned_decodes : (asked : Type 0) (r : Result X Error) → AreBytes b → Returns value (read b) asked r
+      → DecodesOrMemory value (WithinLimit encoding) asked b r
+  returned_decodes asked (Ok x) bytes p =
       (law.gives b (value x) bytes p, λ w m. let same : Ok w ≡ Ok (value x) = sym (law.takes b w m.0 m) ∙ p in cc)
-  whole_returned_reads_all may (Err e) bytes (inl w) = inl w
-  whole_returned_reads_all may (Err e) bytes (inr p) = inr (law.tells b e.kind p, whole_fault_encodes_none p)
+  returned_decodes asked (Err e) bytes (inl w) = inl w
+  returned_decodes asked (Err e) bytes (inr p) = inr (fault_encodes_none p)
+
+  pub returned_reads_all : (may : List ℕ → Type 0) (r : Result X Error) → AreBytes b
+      → Returns value (read b) (AllocatesAtFront may b) r → ReadsAll value encoding may r b
+  returned_reads_all may (Ok x) bytes p = returned_decodes (AllocatesAtFront may b) (Ok x) bytes p
+  returned_reads_all may (Err e) bytes (inl w) = inl w
+  returned_reads_all may (Err e) bytes (inr p) = inr (law.tells b e.kind p, fault_encodes_none p)

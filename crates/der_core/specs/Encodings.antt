@@ -15,6 +15,10 @@ abbrev pub SplitsInto : (List ℕ → Type 0) → (List ℕ → Type 0) → List
 SplitsInto Front Rest encoding = (front : List ℕ) × (rest : List ℕ) × Front front × Rest rest
     × (encoding ≡ front ++ rest)
 
+-- The bytes are an encoding of the value and then the rest.
+abbrev pub InFront : {V : Type 0} → (V → List ℕ → Type 0) → V × List ℕ → List ℕ → Type 0
+InFront Grammar split bytes = (encoding : List ℕ) × (bytes ≡ encoding ++ split.1) × Grammar split.0 encoding
+
 -- The bytes join one encoding of each part, in order.
 abbrev pub JoinsParts : List (List ℕ → Type 0) → List ℕ → Type 0
 JoinsParts [] encoding = encoding ≡ []

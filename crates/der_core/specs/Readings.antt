@@ -112,9 +112,12 @@ is_next octet (x ∷ xs) = x == octet
 abbrev pub optional_front : {V : Type 0} → ℕ → FrontReading V → FrontReading (Option V)
 optional_front octet at bytes = if is_next octet bytes then (at bytes >>= λ p. Ok (Some p.0, p.1)) else Ok (None, bytes)
 
--- A whole slice.
+-- A slice that isn't longer than the limit, and a whole one.
+abbrev pub limited : {V : Type 0} → Reading V → Reading V
+limited read bytes = if nat_lt limit (length bytes) then Err Overflow else read bytes
+
 abbrev pub whole : {V : Type 0} → FrontReading V → Reading V
-whole at bytes = if nat_lt limit (length bytes) then Err Overflow else alone at bytes
+whole at = limited (alone at)
 
 -- One number from 0 to 255.
 abbrev pub expected : ℕ → Reading (Unit {0})

@@ -5,7 +5,7 @@ pub use Rattle.der_core.specs.Boolean.{boolean_contents, boolean_of}
 pub use Rattle.der_core.specs.Document.{EncodeError, Excludes, IsDocument, WhyNotCounted, WhyNotWritten, WithinLimit, another, no_encoding, no_room, too_long}
 pub use Rattle.der_core.specs.DocumentValue.{encoding_of}
 pub use Rattle.der_core.specs.EncodeToSlice.{IsFront, LeavesRest, SliceRests}
-pub use Rattle.der_core.specs.Encodings.{AreBytes, HasAtMostOne, IsExactly, JoinsParts, SplitsInto}
+pub use Rattle.der_core.specs.Encodings.{AreBytes, HasAtMostOne, InFront, IsExactly, JoinsParts, SplitsInto}
 pub use Rattle.der_core.specs.Errors.{IsFile, kind_text}
 pub use Rattle.der_core.specs.Files.{FileFault, FileGives, FileRefuses, FileTakes, Obtains}
 pub use Rattle.der_core.specs.Tlv.{HeaderEncoding, LengthEncoding, Tlv, tlv}
@@ -18,7 +18,7 @@ pub use Rattle.der_core.specs.OctetStringRefValue.{octets_of}
 pub use Rattle.der_core.specs.Parts.{AllHave, AllocatesInParts, AllocatesInRow, IsNext, ItemsContents, Optional, OptionalRead, all_encodings}
 pub use Rattle.der_core.specs.Printed.{AreSpelledOnce, Prints, PrintsOne, ReadsAlike, ReadsFrontAlike, ReadsFrontPrinted, ReadsPrinted, Spells, Starts, WritesShortest, number_contents, number_of, ok_of, row, starts_with_any, value_in}
 pub use Rattle.der_core.specs.Reading.{AllocatesAtFront, AllocatesBehind, AllocatesForItems, AllocatesLast, BeginsWithEncoding, DecodesOrMemory, FaultOrMemory, HoldsBytes, InputAllocates, NoValueOrMemory, ReadsAll, ReadsEncoding, ReadsFront, ReadsRow, ReadsWhole, Returns, TellsNext, TellsOfBytes}
-pub use Rattle.der_core.specs.Readings.{◌>>=◌, FrontReading, Reading, ReadsBy, ReadsContents, ReadsFronts, alone, by_tag, chain, checked, contents_behind, ended, expected, front_done, front_parts, in_range, inside, is_next, items, items_within, last, made, no_parts, octets_of_all, optional_front, parts, ranged, read_document, such, tagged, unexpected, unless, whole}
+pub use Rattle.der_core.specs.Readings.{◌>>=◌, FrontReading, Reading, ReadsBy, ReadsContents, ReadsFronts, alone, by_tag, chain, checked, contents_behind, ended, expected, front_done, front_parts, in_range, inside, is_next, items, items_within, last, limited, made, no_parts, octets_of_all, optional_front, parts, ranged, read_document, such, tagged, unexpected, unless, whole}
 pub use Rattle.der_core.specs.SourcesSinks.{AppendsFront, CountsFailure, GivesAll, GivesMore, GivesSome, OneFailed}
 pub use Rattle.der_core.specs.StdIo.{IsCreated, IsOpened, read_faults, reader_of, write_faults, writer_of}
 pub use Rattle.der_core.specs.Tag.{context_octet, integer_octet, is_allowed, object_identifier_octet, sequence_octet}

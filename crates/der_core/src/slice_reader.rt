@@ -28,6 +28,7 @@ impl<'a> BytesLeft for SliceReader<'a> {
 
 impl<'a> SliceReader<'a> {
     ghost use Rattle.std.specs.Prelude.{◌≡◌, Some, IfOk, IfErr};
+    ghost use Rattle.der_core.specs.Input.{left_in};
     ghost use Rattle.der_core.specs.Slices.{left_of};
 
     /// A reader that has all of the bytes left. `Overflow` exactly if they are more than `Length::MAX`.
@@ -42,6 +43,13 @@ impl<'a> SliceReader<'a> {
             bytes,
             failed: false,
         })
+    }
+
+    /// The bytes that are left, or none if the reader has failed.
+    pub fn rest(&self) -> &'a [u8]
+        ensures { result.now ≡ left_in (left_of self.now) }
+    {
+        if self.failed { &[] } else { self.bytes }
     }
 }
 

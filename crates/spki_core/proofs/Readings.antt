@@ -1,8 +1,9 @@
 -- What the functions that read give: records by their fields, encodings of any tag, fields. Identifiers that are
 -- mapped. For quick reading and copies of parameters, `decode_as` and `read_explicit`.
-use Rattle.std.proofs.Common.{◌≡◌, ◌∙◌, ◌&&◌, ℕ, Bool, List, [], ◌∷◌, Option, Some, None, Ok, true, false, ap, refl, sym, ◌+◌, Result, if◌then◌else◌, option_map, subst, Err, IfOk, inl, inr}
+use Rattle.std.proofs.Common.{◌≡◌, ◌≤◌, ◌∙◌, ◌&&◌, length, ℕ, Bool, List, [], ◌∷◌, Option, Some, None, Ok, true, false, ap, refl, sym, ◌+◌, Result, if◌then◌else◌, option_map, subst, Err, IfOk, inl, inr}
 use Rattle.std.proofs.lemmas.Bool.{cases_Bool}
-use Rattle.der_core.specs.Words.{ok_pair, alone, is_next, tagged, ◌>>=◌, AreBytes, Input, ReadsFront, ReadsWhole, FrontReading, Reading, ReadsContents, context_octet, Tlv}
+use Rattle.der_core.specs.Words.{ok_pair, alone, is_next, tagged, ◌>>=◌, AreBytes, Input, ReadsFront, Returns, limit, limited, FrontReading, Reading, ReadsContents, context_octet, Tlv}
+use Rattle.der_core.proofs.Readings.{limited_is}
 use Rattle.spki_core.specs.Words.{FieldRecord, Kind, Spelling, first_written, or_default, record_means, record_read, record_strictly, spelling_read, strict_value, tag_of, record_alike, explicit_is, defaulted, explicit, unless_found, algorithm_map, algorithm_with, IsMapped, TagAndContents}
 use Rattle.standard.specs.Statement.{Field}
 use Rattle.der_core.specs.declared.tag.Tag.{Tag}
@@ -90,12 +91,12 @@ algorithm_mapped {X} {V} {W} {value} {other} k = record {
 
 -- What a call gives that reads the contents of an encoding of any tag, which is that of the type.
 pub read_as_any : {X V : Type 0} {contents : V → List ℕ → Type 0} {read : Reading V} (value : X → V) (tag : Tag)
-    → ReadsContents contents read → (v : TagAndContents) (may : List ℕ → Type 0) → AreBytes v.contents
-    → v.tag ≡ tag.octet → (before after : Input) → before ≡ Some v.contents → (r : Result X Error)
-    → ReadsWhole value read may r before after → IfOk r (λ x. (v.tag ≡ tag.octet) × contents (value x) v.contents)
-read_as_any value tag law v may bytes same before after is (Ok x) p =
-    (same, law.gives v.contents (value x) bytes (rw is at p.0))
-read_as_any value tag law v may bytes same before after is (Err e) p = tt
+    → ReadsContents contents read → (v : TagAndContents) (asked : Type 0) → AreBytes v.contents
+    → length v.contents ≤ limit → v.tag ≡ tag.octet → (r : Result X Error)
+    → Returns value (limited read v.contents) asked r → IfOk r (λ x. (v.tag ≡ tag.octet) × contents (value x) v.contents)
+read_as_any {read = read} value tag law v asked bytes few same (Ok x) p =
+    (same, law.gives v.contents (value x) bytes (sym (limited_is read v.contents few) ∙ p))
+read_as_any value tag law v asked bytes few same (Err e) p = tt
 
 -- Where the tag of a number was read.
 pub reads_at_tag : {X V : Type 0} (value : X → V) (at : FrontReading V) (may : List ℕ → Type 0) (n : ℕ) (tag : Tag)

@@ -3,7 +3,7 @@
 use Rattle.std.proofs.Common.{arith, rules, ℕ, List, Ok, Result}
 use Rattle.der_core.specs.Words.{Error, Tag, AreBytes, are_bytes, tagged_alike, tagged_law, front_reading_reads, Prints, ReadsAlike, ReadsPrinted, AllocatesAtFront, ReadsAll, Returns, Reading, tagged, whole, tlv}
 use Rattle.der_core.proofs.Readings.{whole_reads}
-use Rattle.der_core.proofs.ReadSteps.{whole_returned_reads_all}
+use Rattle.der_core.proofs.ReadSteps.{returned_reads_all}
 use Rattle.der_core.proofs.decode.AnyDecodeRefSliceU8.from_der.Goals as goal
 
 -- The values of what the function gives.
@@ -14,7 +14,7 @@ whole_tagged_meant : {X S V : Type 0} (value : X → V) (tag : Tag) {valid : S �
     → Returns value (whole (tagged tag read) b) (AllocatesAtFront may b) r
     → ReadsAll value (Prints valid (λ s. tlv tag.octet (printed s)) means) may r b
 whole_tagged_meant value tag {read = read} law alike may b bytes r exact =
-    whole_returned_reads_all value (tagged tag read) b
+    returned_reads_all value b
     (whole_reads (front_reading_reads (tagged_law law tag) (tagged_alike alike tag))) may r
     bytes exact
 

@@ -1,5 +1,5 @@
 -- `decode_as` gives the value whose contents and tag are held, and `TagUnexpected` of another tag.
-use Rattle.std.proofs.Common.{Err, arith, rules, ap, false, inr, sym, ◌==◌, ◌≡◌, ◌∙◌}
+use Rattle.std.proofs.Common.{Err, arith, ap, false, inr, sym, ◌==◌, ◌≡◌, ◌∙◌}
 use Rattle.der_core.proofs.Readings.{unexpected_tag_read}
 use Rattle.der_core.specs.declared.error.ErrorKind.TheVariants.{TagUnexpected}
 use Rattle.der_core.specs.Words.{are_bytes, nat_tests, reading_reads, unexpected}
@@ -19,18 +19,11 @@ returns-then-ne-clause-exact g c =
     ∙ unexpected_tag_read _ c.tag-then-ne.result
     ∙ ap (λ k. Err k) (sym kind)))
 
--- At the end, the tag is that of `T`, and `decode_value` reads all contents. If it returns `Ok`, they are the contents
+-- At the end, the tag is that of `T`, and `read_contents` reads all contents. If it returns `Ok`, they are the contents
 -- of that value.
 pub returns-clause-ok : goal.returns-clause-ok
 returns-clause-ok g c =
     let same = unequal_test_false _ _ _ _ c.if-ne.false c.ne.ensures (ap (λ t. t.octet) c.TAG.ensures) in
     read_as_any g.T.Contents.value g.T.FixedTag.TAG (reading_reads g.T.Contents.law g.T.Contents.reads_alike) (any_of c.args.self) _
-    (are_bytes _ c.args.self.octets) (sym c.tag.ensures ∙ same) _ _ c.in_ok-reader.ensures.ok c.decode_value.result
-    c.decode_value.ensures
-
--- Where `quick_value` returns a value, it is what the contents are read as, so they are the contents of that value.
-pub returns-in-Some-clause-ok : goal.returns-in-Some-clause-ok
-returns-in-Some-clause-ok g c =
-    let same = unequal_test_false _ _ _ _ c.if-ne.false c.ne.ensures (ap (λ t. t.octet) c.TAG.ensures) in
-    let law = reading_reads g.T.Contents.law g.T.Contents.reads_alike in
-    (sym c.tag.ensures ∙ same, law.gives _ _ (are_bytes _ c.args.self.octets) (search rules))
+    (are_bytes _ c.args.self.octets) c.args.self.bounded (sym c.tag.ensures ∙ same) c.read_contents.result
+    c.read_contents.ensures.exact

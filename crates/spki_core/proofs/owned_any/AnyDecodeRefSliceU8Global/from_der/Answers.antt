@@ -2,8 +2,8 @@
 use Rattle.std.proofs.Common.{arith}
 use Rattle.der_core.specs.Words.{are_bytes, Prints}
 use Rattle.der_core.proofs.Readings.{whole_reads}
-use Rattle.der_core.proofs.ReadSteps.{copy_returns, whole_returned_reads_all}
-use Rattle.spki_core.specs.Words.{IsAny, written_any, any_of, any_values, own_any_of, any_front}
+use Rattle.der_core.proofs.ReadSteps.{copy_returns, returned_reads_all}
+use Rattle.spki_core.specs.Words.{IsAny, written_any, any_of, any_values, own_any_of}
 use Rattle.spki_core.proofs.owned_any.AnyDecodeRefSliceU8Global.from_der.Goals as goal
 
 -- `copy_of` returns the same tag and contents, or there was no memory for them, which such an encoding may ask for.
@@ -16,6 +16,6 @@ returns-clause-exact c =
 -- So the slice encodes what is returned and nothing else. `c.type_inv` has that a slice holds octets.
 pub returns-clause-encoding : goal.returns-clause-encoding
 returns-clause-encoding c =
-    whole_returned_reads_all own_any_of any_front _ (whole_reads any_values) _ _
+    returned_reads_all own_any_of _ (whole_reads any_values) _ _
     (are_bytes _ (λ i. omega (arith, c.type_inv.bytes i)))
     (returns-clause-exact c)
