@@ -17,6 +17,7 @@ use crate::tag::Tag;
 use crate::writer::Writer;
 
 /// The tag of BIT STRING.
+#[derive(Drop)]
 pub struct BitStringTag;
 
 impl TagMarker for BitStringTag {

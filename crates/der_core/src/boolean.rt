@@ -16,6 +16,7 @@ use crate::tag::Tag;
 use crate::writer::Writer;
 
 /// The tag of BOOLEAN.
+#[derive(Drop)]
 pub struct BooleanTag;
 
 impl TagMarker for BooleanTag {

@@ -143,6 +143,7 @@ impl<T: TaggedBy> FixedTag for T {
 }
 
 /// The marker of INTEGER.
+#[derive(Drop)]
 pub struct IntegerTag;
 
 impl TagMarker for IntegerTag {
@@ -152,6 +153,7 @@ impl TagMarker for IntegerTag {
 }
 
 /// The marker of SEQUENCE and SEQUENCE OF.
+#[derive(Drop)]
 pub struct SequenceTag;
 
 impl TagMarker for SequenceTag {

@@ -11,6 +11,7 @@ use crate::tag::Tag;
 use crate::writer::Writer;
 
 /// The tag of NULL.
+#[derive(Drop)]
 pub struct NullTag;
 
 impl TagMarker for NullTag {

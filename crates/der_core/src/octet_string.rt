@@ -68,6 +68,7 @@ impl<'a> OctetStringRef<'a> {
 }
 
 /// The tag of OCTET STRING.
+#[derive(Drop)]
 pub struct OctetStringTag;
 
 impl TagMarker for OctetStringTag {

@@ -1,6 +1,8 @@
 //! Values as rows show them: numbers and contents in hexadecimal digits, `-` if absent.
 use crate::told::Told;
-use der_core::{AsUintRef, Borrowed, OctetStringRef, Uint, UintEncoding, UintRef};
+use der_core::{
+    AsUintRef, Borrowed, Containing, OctetStringRef, Tagged, Uint, UintEncoding, UintRef,
+};
 use pkcs1::{
     OaepParamsOf, OtherPrimeInfo, OtherPrimes, PssParamsOf, RsaPrivateKey, RsaPrivateKeyView,
     RsaPublicKey, TrailerField, Version,
@@ -35,6 +37,12 @@ impl Shown for Uint {
 impl Shown for OctetStringRef<'_> {
     fn shown(&self, to: &mut Told) {
         to.digits(self.as_bytes());
+    }
+}
+
+impl<M, T: Shown> Shown for Tagged<M, Containing<T>> {
+    fn shown(&self, to: &mut Told) {
+        self.contents.0.shown(to);
     }
 }
 

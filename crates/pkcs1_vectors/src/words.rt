@@ -9,7 +9,7 @@ use crate::written::written;
 use crate::{
     algorithms, asked, containers, errors, identifiers, keys, lengths, parameters, records, values,
 };
-use der_core::{OctetStringRef, Uint, UintRef};
+use der_core::{Containing, OctetStringRef, OctetStringTag, Tagged, Uint, UintRef};
 use examples::is_accepted;
 use pkcs1::{
     OtherPrimeInfo, RsaOaepParamsOwned, RsaOaepParamsRef, RsaOaepParamsView, RsaPrivateKeyOwned,
@@ -89,6 +89,7 @@ fn of_kernel_text(to: &mut Told, word: &str, bytes: &[u8]) -> bool {
         "small" => borrowed::<u8>(to, bytes),
         "octets" => borrowed::<OctetStringRef>(to, bytes),
         "octets-new" => values::octets_new(to, bytes),
+        "octets-holding" => borrowed::<Tagged<OctetStringTag, Containing<UintRef>>>(to, bytes),
         "document" => values::document(to, bytes),
         "optional" => fields::read_part(to, bytes, Part::Optional),
         "whole" => fields::read_part(to, bytes, Part::Whole),

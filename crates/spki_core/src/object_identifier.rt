@@ -205,6 +205,7 @@ impl Hash for ObjectIdentifier {
 }
 
 /// The tag of OBJECT IDENTIFIER.
+#[derive(Drop)]
 pub struct ObjectIdentifierTag;
 
 impl TagMarker for ObjectIdentifierTag {
