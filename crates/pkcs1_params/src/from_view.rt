@@ -1,5 +1,5 @@
 //! Parameters are read as views. Then they are kept or copied, by what is to hold their identifiers.
-ghost use Rattle.std.specs.Prelude.{◌≡◌, ℕ, List};
+ghost use Rattle.std.specs.Prelude.{◌≡◌};
 ghost use Rattle.der_core.specs.Words.{Answers};
 ghost use Rattle.spki_core.specs.Words.{any_as, any_of, mask_gen_of, viewed_with};
 ghost use Rattle.pkcs1_params.specs.Words.{oaep_in, oaep_of, oaep_viewed, pss_in, pss_of, pss_viewed};
@@ -14,7 +14,6 @@ use spki_core::{AlgorithmIdentifier, AnyRef, IdentifierView, ObjectIdentifier, R
 pub(crate) fn decode_borrowed<'a, T: DecodeValue<&'a [u8], NoMemory> + FixedTag>(
     any: AnyRef<'a>,
 ) -> der_core::Result<T>
-    requires { (contents : List ℕ) → T.may_allocate contents → ⊥ }
     ensures { Answers T.value result (any_as T.TAG T.read (any_of any.entry)) }
 {
     any.decode_as(NoMemory)
