@@ -1,6 +1,6 @@
 -- INTEGER: faults of its contents, worked examples, its length, bit lengths, numbers above 255. For `src/integer`.
 use Rattle.std.proofs.Common.{take_all, ℕ, suc, List, [], ◌∷◌, ◌≡◌, ◌<◌, ◌≤◌, ◌-◌, length, get_or, take, drop, arith, sym, ap, ◌∙◌, Err, true, false, nat_lt, ◌==◌, map, refl, Ok, ◌+◌, Result, IfOk, IfErr, slice_index, zero, ◌*◌, ◌^◌, inl, inr, lit<, mul-le-mul_right, zero-le, pow-add}
-use Rattle.der_core.specs.Words.{HoldsNumber, nat_tests, Tag, ErrorKind, integer_of, integer_tag, same_tag, limit, number_from_digits, integer_contents, number_contents_as, number_contents, holds_canonical, Counts, Error, IsBitLength, are_bytes, after_ge, base256_ge, small_of}
+use Rattle.der_core.specs.Words.{HoldsNumber, nat_tests, Tag, ErrorKind, integer_of, integer_tag, same_tag, limit, number_from_digits, integer_contents, Counts, Error, IsBitLength, are_bytes, after_ge, base256_ge, small_of}
 use Rattle.der_core.specs.declared.error.ErrorKind.TheVariants as kind
 use Rattle.der_core.specs.declared.error.ErrorKind.TheVariants.{Length, Noncanonical, Value, Overflow}
 use Rattle.std.proofs.Math.Nat.{pow-suc, pow-le-pow_right}
@@ -86,16 +86,12 @@ pub contents_length_large : (bytes : List ℕ) → 128 ≤ slice_index bytes 0
 contents_length_large bytes h =
     let e : nat_lt (slice_index bytes 0) 128 ≡ false = grind (arith, nat_tests) in rw e (omega arith)
 
--- A call that returns this length, or `Overflow` where it passes the limit, counts what is printed of the number.
-pub counts_integer : (bytes : List ℕ) (r : Result ℕ Error) (n : ℕ) → HoldsNumber bytes
-    → n ≡ length (integer_contents bytes)
+-- A call that returns a length, or `Overflow` where it passes the limit, counts the octets of this length.
+pub counts_length : (octets : List ℕ) (r : Result ℕ Error) (n : ℕ) → n ≡ length octets
     → IfOk r (λ m. (m ≡ n) × (n ≤ limit)) → IfErr r (λ e. (e.kind ≡ Overflow) × (limit < n))
-    → Counts (Unit {0}) (number_contents (number_from_digits 256 bytes)) r
-counts_integer bytes (Ok m) n h e ok err =
-    let is = ap length (number_contents_as bytes (holds_canonical bytes h)) in (tt, omega (arith, ok, e, is), omega (arith, ok))
-counts_integer bytes (Err f) n h e ok err =
-    let is = ap length (number_contents_as bytes (holds_canonical bytes h)) in rw err.0
-    (tt, omega (arith, err.1, e, is))
+    → Counts (Unit {0}) octets r
+counts_length octets (Ok m) n e ok err = (tt, omega (arith, ok, e), omega (arith, ok))
+counts_length octets (Err f) n e ok err = rw err.0 (tt, omega (arith, err.1, e))
 
 -- The bit length of a number is that of its first byte, and eight bits for each other one.
 power_of_256_in_bits : (k : ℕ) → 256 ^ k ≡ 2 ^ (8 * k)

@@ -1,7 +1,7 @@
 -- Why values aren't written, what writing one part after another leaves, and lengths. For each call that writes or
 -- counts, also of the crates above.
 use Rattle.std.proofs.Common.{ℕ, Bool, List, ◌<◌, ◌≤◌, length, subst, ap, ◌∙◌, arith, inl, inr, Result, Ok, Err, IfErr, ◌≡◌, ◌++◌, drop, refl, IfOk, OnErr, OnOk, ◌+◌, length-append, [], Option, Some, None, sym, append_assoc, append-nil, true, false, if◌then◌else◌, nat_le}
-use Rattle.der_core.specs.Words.{limit, WhyNotCounted, WhyNotWritten, EncodeError, no_encoding, too_long, no_room, another, written_is_shortest, Prints, WritesShortest, WhyOctetsNotCounted, Counts, WhyOctetsNotWritten, encode_error, Error, ErrorKind, RefusedAs, Receives, ReceivesNothing, TakesRoom, LacksRoom, WhyNotAppended, Tag, written_encodes, Spells, ok_of, Unwritten, IsLength, length_octets, IsExactly, Tlv, length_octets-only, Appends, tlv, sum_of_lengths, is_no_encoding}
+use Rattle.der_core.specs.Words.{limit, WhyNotCounted, WhyNotWritten, EncodeError, no_encoding, too_long, no_room, another, written_is_shortest, Prints, WritesShortest, WhyOctetsNotCounted, Counts, WhyOctetsNotWritten, encode_error, Error, ErrorKind, RefusedAs, Tells, Receives, ReceivesNothing, TakesRoom, LacksRoom, WhyNotAppended, Tag, written_encodes, Spells, ok_of, Unwritten, IsLength, length_octets, IsExactly, Tlv, length_octets-only, Appends, tlv, sum_of_lengths, is_no_encoding}
 use Rattle.standard.specs.Statement.{Encodes, IsShortest}
 use Rattle.der_core.specs.declared.error.ErrorKind.TheVariants.{NoRoom, Overflow}
 use Rattle.der_core.specs.declared.error.ErrorKind.TheVariants as kind
@@ -95,6 +95,15 @@ module _ {S V : Type 0} {valid : S → Type 0} {printed : S → List ℕ} {means
       → IfErr r (λ e. Unwritten (λ u. valid (written u)) (Spells valid printed means) v room (encode_error e.kind))
   encode_into_unwritten room (Ok x) h = tt
   encode_into_unwritten room (Err e) h = encode_into_unwritten_by room (encode_error e.kind) h
+
+-- The sum of two lengths that were told quickly.
+pub tells_joined : {A B : Type 0} (x y : List ℕ) (m n total : ℕ) → Tells A x m → Tells B y n
+    → (total ≤ limit → total ≡ m + n) → Tells (A × B) (x ++ y) total
+tells_joined x y m n total p q sum few =
+    let is = sum few in
+    let first = p (omega (arith, is, few)) in
+    let second = q (omega (arith, is, few)) in
+    ((first.0, second.0), omega (arith, is, first.1, second.1, length-append x y), few)
 
 -- The length of an encoding, by that of its contents.
 pub tlv_length : (n t : ℕ) (c encoding : List ℕ) → length c ≡ n → Tlv t (IsExactly c) encoding

@@ -27,7 +27,7 @@ pub use Rattle.der_core.specs.Transfer.{GivesNone, WhyDocumentNotRead, WhyReadin
 pub use Rattle.der_core.specs.UintRefValue.{bytes_of}
 pub use Rattle.der_core.specs.UintValue.{own_bytes_of}
 pub use Rattle.der_core.specs.Writers.{LacksRoom, Receives, ReceivesNothing, TakesRoom}
-pub use Rattle.der_core.specs.Writing.{Appends, Counts, IsOutOfMemory, RefusedAs, Unwritten, WhyNotAppended, WhyOctetsNotCounted, WhyOctetsNotWritten, encode_error, is_no_encoding, sum_of_lengths}
+pub use Rattle.der_core.specs.Writing.{Appends, Counts, IsOutOfMemory, RefusedAs, Tells, Unwritten, WhyNotAppended, WhyOctetsNotCounted, WhyOctetsNotWritten, encode_error, is_no_encoding, sum_of_lengths}
 pub use Rattle.der_core.specs.declared.error.Error.{Error}
 pub use Rattle.der_core.specs.declared.error.ErrorKind.{ErrorKind}
 pub use Rattle.der_core.specs.declared.tag.Tag.{Tag}

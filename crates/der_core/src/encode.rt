@@ -1,6 +1,6 @@
 //! Writing of values.
 ghost use Rattle.std.specs.Prelude.{◌≡◌, ◌≤◌, ◌++◌, length, drop, OnOk, OnErr, IfOk, IfErr};
-ghost use Rattle.der_core.specs.Words.{limit, length_octets, tlv, RefusedAs, WhyNotAppended, WhyNotCounted, WhyNotWritten, free_of, Prepends, Prints, Spells, IsFront, LeavesRest, Counts, Appends, encode_error, sum_of_lengths};
+ghost use Rattle.der_core.specs.Words.{limit, length_octets, tlv, RefusedAs, Tells, WhyNotAppended, WhyNotCounted, WhyNotWritten, free_of, Prepends, Prints, Spells, IsFront, LeavesRest, Counts, Appends, encode_error, sum_of_lengths};
 ghost use Rattle.standard.specs.Statement.{IsShortest};
 ghost use Rattle.std.specs.Borrow.{sem};
 ghost use Rattle.der_core.specs.declared.tag.Tag.{Tag as TheTag};
@@ -9,7 +9,7 @@ use crate::back_writer::BackWriter;
 use crate::error::{Error, ErrorKind, Result};
 use crate::grammar::{Contents, Encoding, FixedTag};
 use crate::header::Header;
-use crate::length::Length;
+use crate::length::{Length, UNTOLD, with_header};
 use crate::writer::Writer;
 
 /// A type whose values are written as contents octets.
@@ -22,6 +22,14 @@ pub trait EncodeValue: Contents {
     fn value_len(&self) -> Result<Length>
         ensures counts { let s = Self.written (Self.value self.now) in Counts (Self.valid s) (Self.printed s) result }
         ensures tag { RefusedAs refused result };
+
+    /// The length of the contents that are written, told quickly. More than `Length::MAX` says nothing of them.
+    #[inline(always)]
+    fn quick_value_len(&self) -> u64
+        ensures { let s = Self.written (Self.value self.now) in Tells (Self.valid s) (Self.printed s) result }
+    {
+        UNTOLD
+    }
 
     /// Appends the contents. There have to be some, within `Length::MAX`. The only error is `NoRoom`, exactly if the
     /// writer has too little room, after a beginning of them.
@@ -65,6 +73,14 @@ pub trait Encode: Encoding {
         ensures err { let v = Self.value self.now in let encodings = Prints Self.valid Self.printed Self.means in
             IfErr result (λ e. WhyNotCounted (Self.valid (Self.written v)) encodings v (encode_error e.kind)) }
         ensures tag { RefusedAs refused result };
+
+    /// The length of the shortest encoding, told quickly. More than `Length::MAX` says nothing of it.
+    #[inline(always)]
+    fn quick_len(&self) -> u64
+        ensures { let s = Self.written (Self.value self.now) in Tells (Self.valid s) (Self.printed s) result }
+    {
+        UNTOLD
+    }
 
     /// Appends the shortest encoding. `Value` and `Overflow` come before any octet is written, `NoRoom` after a
     /// beginning of them. A writer without a limit gives no `NoRoom`.
@@ -171,8 +187,17 @@ fn encode_tlv<T: EncodeValue + FixedTag, W: Writer>(value: &T, writer: &mut W) -
 impl<T: EncodeValue + FixedTag> Encode for T {
     ghost refused = { T.EncodeValue.refused };
 
+    #[inline(always)]
     fn encoded_len(&self) -> Result<Length> {
-        encoding_len(self)
+        match Length::told(self.quick_len()) {
+            Some(length) => Ok(length),
+            None => encoding_len(self),
+        }
+    }
+
+    #[inline(always)]
+    fn quick_len(&self) -> u64 {
+        with_header(self.quick_value_len())
     }
 
     fn encode<W: Writer>(&self, writer: &mut W) -> Result<()> {

@@ -1,5 +1,5 @@
 //! Lengths.
-ghost use Rattle.std.specs.Prelude.{◌≡◌, ℕ, List, ◌+◌, ◌≤◌, ◌<◌, length, IfOk, IfErr, MatchResult};
+ghost use Rattle.std.specs.Prelude.{◌≡◌, ℕ, List, ◌+◌, ◌≤◌, ◌<◌, length, IfOk, IfErr, IfSome, MatchResult, None};
 ghost use Rattle.der_core.specs.declared.error.ErrorKind.TheVariants.{Overflow};
 ghost use Rattle.std.specs.Int.Digits.{number_from_digits};
 ghost use Rattle.der_core.specs.Words.{limit, IsLength, length_octets, tlv_len, ReadsOrFails, length_at, ReadsEncoding, LengthEncoding, IsExactly, Tlv};
@@ -28,6 +28,31 @@ impl Model for Length {
     ghost invariant = { λ l. l.value ≤ limit };
 
     ghost inverse = { λ n. record { value = n } };
+}
+
+/// What a call returns that tells no length: more than `Length::MAX`.
+pub const UNTOLD: u64 = 4294967296;
+
+/// How many octets a tag, a length and contents of so many octets are. More than `Length::MAX` if the contents are.
+#[inline(always)]
+#[tactic(auto, using(crate::proofs::Lengths::known_lengths))]
+pub(crate) fn with_header(contents: u64) -> u64
+    ensures within { contents ≤ limit → result ≡ tlv_len contents }
+    ensures least { contents ≤ result }
+{
+    if contents < 0x80 {
+        return contents + 2;
+    }
+    if contents < 0x100 {
+        return contents + 3;
+    }
+    if contents < 0x1_0000 {
+        return contents + 4;
+    }
+    if contents < 0x100_0000 {
+        return contents + 5;
+    }
+    contents.saturating_add(6)
 }
 
 /// The big-endian number in at most four octets.
@@ -129,6 +154,21 @@ impl Length {
         }
     }
 
+    /// The length that was told quickly, or `None`.
+    #[inline(always)]
+    pub(crate) fn told(number: u64) -> Option<Length>
+        ensures some { IfSome result (λ length. (length ≡ number) × (number ≤ limit)) }
+        ensures none { result ≡ None → limit < number }
+    {
+        if number < UNTOLD {
+            Some(Length {
+                value: number as u32,
+            })
+        } else {
+            None
+        }
+    }
+
     /// The number of octets, as slices count them. It is at most `MAX`.
     pub fn to_usize(self) -> usize
         ensures value { result ≡ self }
@@ -155,26 +195,10 @@ impl Length {
         ensures encoding { (octet : ℕ) (contents encoding : List ℕ)
             → length contents ≡ self → Tlv octet (IsExactly contents) encoding → length encoding ≡ tlv_len self }
     {
-        self.header_len().checked_add(self)
-    }
-
-    /// How many octets the tag and the length take.
-    #[tactic(auto, using(crate::proofs::Lengths::known_lengths))]
-    fn header_len(self) -> Length
-        ensures { result ≡ 1 + length (length_octets self) }
-    {
-        let value = if self.value < 0x80 {
-            2
-        } else if self.value < 0x100 {
-            3
-        } else if self.value < 0x1_0000 {
-            4
-        } else if self.value < 0x100_0000 {
-            5
-        } else {
-            6
-        };
-        Length { value }
+        match Length::told(with_header(self.value as u64)) {
+            Some(total) => Ok(total),
+            None => Err(Error::new(ErrorKind::Overflow)),
+        }
     }
 
     /// The length octets (X.690 8.1.3), as few as possible, at most 5.

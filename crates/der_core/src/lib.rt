@@ -74,7 +74,7 @@ pub use laws::{
     lemma_lengths_compare_by_number, lemma_optional_parts_are_read,
     lemma_tag_numbers_compare_by_number,
 };
-pub use length::Length;
+pub use length::{Length, UNTOLD};
 pub use memory::{Memory, NoMemory};
 pub use null::{Null, NullTag};
 pub use octet_string::{OctetStringRef, OctetStringTag};

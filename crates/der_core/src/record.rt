@@ -2,7 +2,7 @@
 ghost use Rattle.std.specs.Prelude.{◌≡◌, ◌≤◌, Err, List, Ok, ℕ, length, refl};
 ghost use Rattle.der_core.specs.declared.error.ErrorKind.{ErrorKind};
 ghost use Rattle.der_core.specs.declared.tag.Tag.{Tag as TheTag};
-ghost use Rattle.der_core.specs.Words.{Appends, AreSpelledOnce, Counts, Prepends, RefusedAs, free_of, limit};
+ghost use Rattle.der_core.specs.Words.{Appends, AreSpelledOnce, Counts, Prepends, RefusedAs, Tells, free_of, limit};
 
 use crate::back_writer::BackWriter;
 use crate::decode::DecodeValue;
@@ -10,7 +10,7 @@ use crate::encode::EncodeValue;
 use crate::error::Result;
 use crate::grammar::Contents;
 use crate::header::Header;
-use crate::length::Length;
+use crate::length::{Length, UNTOLD};
 use crate::memory::Memory;
 use crate::parts::DecodeParts;
 use crate::quick::quick_contents;
@@ -74,6 +74,14 @@ pub trait EncodeInParts: InParts {
         ensures counts { let s = Self.written (Self.value self.now) in Counts (Self.valid s) (Self.printed s) result }
         ensures tag { RefusedAs refused result };
 
+    /// The length of the parts that are written, told quickly. More than `Length::MAX` says nothing of them.
+    #[inline(always)]
+    fn quick_parts_len(&self) -> u64
+        ensures { let s = Self.written (Self.value self.now) in Tells (Self.valid s) (Self.printed s) result }
+    {
+        UNTOLD
+    }
+
     /// Appends the parts. There have to be some, within `Length::MAX`. The only error is `NoRoom`, exactly if the
     /// writer has too little room, after a beginning of them.
     fn append_parts<W: Writer>(&self, writer: &mut W) -> Result<()>
@@ -97,6 +105,11 @@ impl<T: EncodeInParts> EncodeValue for T {
     #[inline(always)]
     fn value_len(&self) -> Result<Length> {
         self.parts_len()
+    }
+
+    #[inline(always)]
+    fn quick_value_len(&self) -> u64 {
+        self.quick_parts_len()
     }
 
     #[inline(always)]

@@ -1,7 +1,7 @@
 //! SEQUENCE OF (X.690 8.10), as a `Vec` of its items.
 ghost use Rattle.std.specs.Prelude.{◌≤◌, List, length, map};
 ghost use Rattle.std.specs.List.{AllByRecursion, concat};
-ghost use Rattle.der_core.specs.Words.{limit, free_of, Prepends, RefusedAs, AllocatesForItems, AllHave, all_encodings, items, Counts, Appends, Prints, items_alike, items_law, list_shortest};
+ghost use Rattle.der_core.specs.Words.{limit, free_of, Prepends, RefusedAs, Tells, AllocatesForItems, AllHave, all_encodings, items, Counts, Appends, Prints, items_alike, items_law, list_shortest};
 
 use crate::back_writer::BackWriter;
 use crate::decode::{Decode, DecodeValue};
@@ -9,7 +9,7 @@ use crate::encode::{Encode, EncodeValue, joined_len};
 use crate::error::{ErrorKind, Result};
 use crate::grammar::{Contents, Encoding, SequenceTag, TaggedBy};
 use crate::header::Header;
-use crate::length::Length;
+use crate::length::{Length, UNTOLD};
 use crate::quick::quick_contents;
 use crate::reader::Reader;
 use crate::tag::Tag;
@@ -96,6 +96,18 @@ pub(crate) fn items_len<T: Encode>(items: &[T]) -> Result<Length>
     total
 }
 
+/// The total length of the encodings of the items, told quickly. More than `Length::MAX` says nothing of them.
+pub(crate) fn quick_items_len<T: Encode>(items: &[T]) -> u64
+    ensures { let have = AllHave (λ x. T.valid (T.written (T.value x))) items.now in
+        Tells have (all_encodings (λ x. T.printed (T.written (T.value x))) items.now) result }
+{
+    let mut total: u64 = 0;
+    for item in items {
+        total = total.saturating_add(item.quick_len());
+    }
+    total.min(UNTOLD)
+}
+
 /// Appends the encodings of the items.
 pub(crate) fn encode_items<T: Encode, W: Writer>(items: &[T], writer: &mut W) -> Result<()>
     requires has { AllHave (λ x. T.valid (T.written (T.value x))) items.now }
@@ -130,6 +142,10 @@ impl<T: Encode> EncodeValue for Vec<T> {
 
     fn value_len(&self) -> Result<Length> {
         items_len(self.as_slice())
+    }
+
+    fn quick_value_len(&self) -> u64 {
+        quick_items_len(self.as_slice())
     }
 
     fn append_value<W: Writer>(&self, writer: &mut W) -> Result<()> {

@@ -1,5 +1,5 @@
 //! Unsigned numbers that borrow their bytes.
-ghost use Rattle.std.specs.Prelude.{◌≡◌, ◌≤◌, ◌<◌, ℕ, List, length, slice_index, OnOk, IfOk, IfErr, IfSome, IsOk, None, ⊤};
+ghost use Rattle.std.specs.Prelude.{◌≡◌, ◌≤◌, ◌<◌, ◌+◌, ℕ, List, length, slice_index, OnOk, IfOk, IfErr, IfSome, IsOk, None, ⊤};
 ghost use Rattle.std.specs.Int.Digits.{number_from_digits};
 ghost use Rattle.der_core.specs.Length.{limit};
 ghost use Rattle.der_core.specs.Integer.{HoldsNumber, IsCanonical, AreCanonicalOf, IsBitLength, EncodesNumbers};
@@ -103,6 +103,7 @@ impl<'a> UintRef<'a> {
 
     /// The number with these big-endian bytes. `None` exactly if there is no byte, if a needless zero stands in front,
     /// or if they are more than `Length::MAX`.
+    #[inline(always)]
     pub fn from_canonical(bytes: &'a [u8]) -> Option<UintRef<'a>>
         ensures some { IfSome result (λ number. bytes_of number ≡ bytes.now) }
         ensures none { result ≡ None → IsCanonical bytes.now → limit < length bytes.now }
@@ -131,6 +132,16 @@ impl<'a> UintRef<'a> {
         ensures bound { length result.now ≤ limit }
     {
         self.bytes
+    }
+
+    /// How many octets the contents are: the bytes, behind a zero if the first is 128 or more.
+    #[inline(always)]
+    fn size(&self) -> usize
+        ensures is { result ≡ length (number_contents (number_from_digits 256 (bytes_of self.now))) }
+        ensures bound { result ≤ limit + 1 }
+    {
+        let zeros = if self.bytes[0] < 0x80 { 0 } else { 1 };
+        self.bytes.len() as u32 as usize + zeros
     }
 
     /// The bit length of the number, as 2048 of the modulus of an RSA-2048 key: the least n with it below 2^n, 0 of 0.
@@ -252,8 +263,12 @@ impl EncodeValue for UintRef<'_> {
 
     #[inline(always)]
     fn value_len(&self) -> Result<Length> {
-        let zeros = if self.bytes[0] < 0x80 { 0 } else { 1 };
-        Length::try_from(self.bytes.len() + zeros)
+        Length::try_from(self.size())
+    }
+
+    #[inline(always)]
+    fn quick_value_len(&self) -> u64 {
+        self.size() as u64
     }
 
     fn append_value<W: Writer>(&self, writer: &mut W) -> Result<()> {
