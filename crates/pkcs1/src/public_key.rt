@@ -61,6 +61,15 @@ impl<U: Encode> EncodeInParts for RsaPublicKey<U> {
             .value_len()
     }
 
+    #[inline(always)]
+    fn quick_parts_len(&self) -> u64 {
+        (
+            Borrowed(&self.modulus),
+            (Borrowed(&self.public_exponent), ()),
+        )
+            .quick_value_len()
+    }
+
     fn append_parts<W: Writer>(&self, writer: &mut W) -> der_core::Result<()> {
         (
             Borrowed(&self.modulus),

@@ -1,7 +1,7 @@
 //! A private key as it is written: a row of its parts. The compiler takes rows of seven parts at most, so the end of
 //! the row is a type of its own.
 ghost use Rattle.std.specs.Prelude.{◌≡◌, ◌≤◌, ◌⊎◌, Option, length, option_map};
-ghost use Rattle.der_core.specs.Words.{Appends, Counts, Prepends, RefusedAs, free_of, last, last_alike, last_law, last_shortest, limit, parts, row_alike, row_law, row_shortest};
+ghost use Rattle.der_core.specs.Words.{Appends, Counts, Prepends, RefusedAs, Tells, free_of, last, last_alike, last_law, last_shortest, limit, parts, row_alike, row_law, row_shortest};
 ghost use Rattle.pkcs1.specs.Words.{RowIsValid, ThreeNumbersAreValid, ThreeNumbersThen, crt_with, key_row, parts_row, row_as, row_printed, three_numbers_as, three_numbers_printed};
 ghost use Rattle.standard.specs.Statement.{IfPresent, optional};
 
@@ -53,6 +53,16 @@ impl<'b, U: Encode, O: Encode> EncodeValue for CrtParts<'b, U, O> {
             Last::borrowed(&key.other_prime_infos),
         );
         (Borrowed(&key.exponent1), (Borrowed(&key.exponent2), last)).value_len()
+    }
+
+    #[inline(always)]
+    fn quick_value_len(&self) -> u64 {
+        let key = self.0;
+        let last = (
+            Borrowed(&key.coefficient),
+            Last::borrowed(&key.other_prime_infos),
+        );
+        (Borrowed(&key.exponent1), (Borrowed(&key.exponent2), last)).quick_value_len()
     }
 
     #[inline(always)]
@@ -124,6 +134,15 @@ impl<U: Encode, O: Encode> PrivateKeyOf<U, O> {
         ensures tag { RefusedAs (λ tag. U.Encode.refused tag ⊎ O.Encode.refused tag) result }
     {
         self.row().value_len()
+    }
+
+    /// The length of the contents octets, told quickly. More than `Length::MAX` says nothing of them.
+    #[inline(always)]
+    pub fn quick_row_len(&self) -> u64
+        ensures { let s = row_as U.written O.written (key_row U.value O.value self.now) in
+            Tells (RowIsValid U.valid O.valid s) (row_printed U.printed O.printed s) result }
+    {
+        self.row().quick_value_len()
     }
 
     /// Appends the contents. Requires that there are some, of at most `Length::MAX` octets. `NoRoom` after a beginning
