@@ -11,4 +11,3 @@ pub mod StructErrors
 pub mod StatusRows
 pub mod StructErrorsRows
 pub mod StructsRows
-pub mod KeyLengths

@@ -1,10 +1,9 @@
 -- The keys that are written of structs that the caller passes.
-use Rattle.std.specs.Prelude.{ℕ, List, ◌++◌, map}
-use Rattle.std.specs.List.{concat}
+use Rattle.std.specs.Prelude.{ℕ, List, map}
 use Rattle.pkcs1.specs.Words.{number_in, key_with, other_from, other_stated, private_stated}
 use Rattle.pkcs1.specs.Keys as keys
 use Rattle.pkcs1.specs.declared.private_key.PrivateKeyOf.{PrivateKeyOf}
-use Rattle.standard.specs.Statement.{OtherPrime, PrivateKey, integer}
+use Rattle.standard.specs.Statement.{OtherPrime, PrivateKey}
 use Rattle.pkcs1_c.specs.NumberValue.{given_octets_of}
 use Rattle.pkcs1_c.specs.Structs.{other_prime_seen}
 use Rattle.pkcs1_c.specs.declared.given_number.Number.{Number}
@@ -22,7 +21,3 @@ given_key = key_with (number_in given_octets_of) given_primes
 
 abbrev pub held_given_key : PrivateKeyOf Number GivenPrimes → PrivateKey
 held_given_key key = private_stated (given_key key)
-
--- The octets in front of other primes: the version and the eight numbers.
-abbrev pub key_front_encoded : keys.PrivateRow ℕ → List ℕ
-key_front_encoded key = integer (keys.version_of (keys.others_in key)) ++ concat (map integer (keys.key_numbers key))

@@ -1,5 +1,5 @@
 -- The words that contracts and proofs cite, from all files of specs.
-pub use Rattle.pkcs1_c.specs.GivenPrimesValue.{given_key, given_primes, held_given_key, held_primes, key_front_encoded}
+pub use Rattle.pkcs1_c.specs.GivenPrimesValue.{given_key, given_primes, held_given_key, held_primes}
 pub use Rattle.pkcs1_c.specs.NumberValue.{given_octets_of}
 pub use Rattle.pkcs1_c.specs.PrimeLists.{AreCounted, given_encoded, prime_encoded}
 pub use Rattle.pkcs1_c.specs.Status.{IsErrorNumber, IsErrorOf, IsStatusOf, NoStatus, kind_number, status_of, status_text}

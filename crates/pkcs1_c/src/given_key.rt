@@ -1,18 +1,15 @@
 //! Private keys that the caller passes.
-ghost use Rattle.std.specs.Prelude.{◌≡◌, ℕ, IfErr, IfOk, OnOk};
-ghost use Rattle.der_core.specs.Words.{Counts, one_spelling_shortest, reading_alike};
+ghost use Rattle.std.specs.Prelude.{◌≡◌, ℕ, IfErr, IfOk, IfSome, OnOk, OnSome};
+ghost use Rattle.der_core.specs.Words.{one_spelling_shortest, reading_alike};
 ghost use Rattle.pkcs1.specs.Words.{AnyNumber, PrivateIsValid, PrivateRow, integer_law, number_front as number_at, private_key_read, private_law, private_printed};
-ghost use Rattle.pkcs1_c.specs.Words.{NoStatus, NumbersError, given_key, given_numbers, held_given_key, key_front_encoded, private_key_seen, status_of};
+ghost use Rattle.pkcs1_c.specs.Words.{NoStatus, NumbersError, given_key, given_numbers, held_given_key, private_key_seen, status_of};
 ghost use Rattle.standard.specs.Statement.{integer};
 
 use crate::given_number::Number;
-use crate::given_primes::{GivenPrimes, octets_with_tag};
-use crate::numbers::number;
+use crate::given_primes::GivenPrimes;
+use crate::numbers::{number, quick_number};
 use crate::private_key::{OtherPrime, PrivateKey};
-use der_core::{
-    BackWriter, Contents, Encode, EncodeValue, Length, Result, SequenceTag, TaggedBy, Writer,
-    joined_len,
-};
+use der_core::{BackWriter, Contents, EncodeValue, Length, Result, SequenceTag, TaggedBy, Writer};
 use pkcs1::PrivateKeyOf;
 
 /// A key of the caller's numbers.
@@ -27,6 +24,44 @@ impl<'a> GivenKey<'a> {
         key: &PrivateKey<'a>,
         others: &'a [OtherPrime<'a>],
     ) -> pkcs1::Result<GivenKey<'a>>
+        ensures ok { IfOk result (λ made. held_given_key made.0 ≡ private_key_seen key.now others.now) }
+        ensures held { OnOk result (NoStatus (NumbersError (given_numbers key.now others.now))) }
+        ensures err { let numbers = given_numbers key.now others.now in
+            IfErr result (λ e. NumbersError numbers (status_of e)) }
+    {
+        match GivenKey::quick(key, others) {
+            Some(made) => Ok(made),
+            None => GivenKey::exactly(key, others),
+        }
+    }
+
+    /// The key with these numbers. `None` says nothing of them. No error is kept beside a number here, which would cost
+    /// more than to look twice at a number with zeros in front.
+    #[inline(always)]
+    fn quick(key: &PrivateKey<'a>, others: &'a [OtherPrime<'a>]) -> Option<GivenKey<'a>>
+        ensures some { IfSome result (λ made. held_given_key made.0 ≡ private_key_seen key.now others.now) }
+        ensures held { OnSome result (NoStatus (NumbersError (given_numbers key.now others.now))) }
+    {
+        Some(GivenKey(PrivateKeyOf {
+            modulus: quick_number(key.modulus)?,
+            public_exponent: quick_number(key.public_exponent)?,
+            private_exponent: quick_number(key.private_exponent)?,
+            prime1: quick_number(key.prime1)?,
+            prime2: quick_number(key.prime2)?,
+            exponent1: quick_number(key.exponent1)?,
+            exponent2: quick_number(key.exponent2)?,
+            coefficient: quick_number(key.coefficient)?,
+            other_prime_infos: match GivenPrimes::of(others) {
+                Ok(others) => others,
+                Err(_) => return None,
+            },
+        }))
+    }
+
+    /// As `of`.
+    #[cold]
+    #[inline(never)]
+    fn exactly(key: &PrivateKey<'a>, others: &'a [OtherPrime<'a>]) -> pkcs1::Result<GivenKey<'a>>
         ensures ok { IfOk result (λ made. held_given_key made.0 ≡ private_key_seen key.now others.now) }
         ensures held { OnOk result (NoStatus (NumbersError (given_numbers key.now others.now))) }
         ensures err { let numbers = given_numbers key.now others.now in
@@ -47,23 +82,6 @@ impl<'a> GivenKey<'a> {
             },
         }))
     }
-}
-
-/// The length of what is in front of other primes, as `row_len` tells it: fewer steps, as a number has contents and a
-/// length of some octets, and the version has one.
-#[inline(always)]
-fn numbers_len(key: &PrivateKeyOf<Number<'_>, GivenPrimes<'_>>) -> Result<Length>
-    ensures { Counts (Unit {0}) (key_front_encoded (given_key key.now)) result }
-{
-    let first = octets_with_tag(key.modulus.size())
-        + octets_with_tag(key.public_exponent.size())
-        + octets_with_tag(key.private_exponent.size())
-        + octets_with_tag(key.prime1.size());
-    let second = octets_with_tag(key.prime2.size())
-        + octets_with_tag(key.exponent1.size())
-        + octets_with_tag(key.exponent2.size())
-        + octets_with_tag(key.coefficient.size());
-    Length::try_from(3 + first + second)
 }
 
 impl Contents for GivenKey<'_> {
@@ -98,11 +116,12 @@ impl TaggedBy for GivenKey<'_> {
 
 impl EncodeValue for GivenKey<'_> {
     fn value_len(&self) -> Result<Length> {
-        let numbers = numbers_len(&self.0);
-        match &self.0.other_prime_infos {
-            None => numbers,
-            Some(others) => joined_len(numbers, others.encoded_len()),
-        }
+        self.0.row_len()
+    }
+
+    #[inline(always)]
+    fn quick_value_len(&self) -> u64 {
+        self.0.quick_row_len()
     }
 
     fn append_value<W: Writer>(&self, writer: &mut W) -> Result<()> {

@@ -14,7 +14,7 @@ use der_core::{
 #[derive(Clone, Copy, Drop)]
 pub struct Number<'a> {
     bytes: &'a [u8],
-    zeros: usize,
+    zeros: u8,
     ghost canonical: { HoldsNumber bytes.now },
     ghost bounded: { length bytes.now ≤ limit },
     ghost zero_counted: { zeros ≡ (if nat_lt (slice_index bytes.now 0) 128 then 0 else 1) },
@@ -41,7 +41,7 @@ impl<'a> Number<'a> {
         ensures is { result ≡ length (number_contents (number_from_digits 256 (given_octets_of self.now))) }
         ensures bound { result ≤ limit + 1 }
     {
-        self.bytes.len() + self.zeros
+        self.bytes.len() as u32 as usize + self.zeros as usize
     }
 
     /// A bound on the octets of an encoding within the limit, known without a look at them: a tag, a length and a zero
@@ -91,6 +91,11 @@ impl TaggedBy for Number<'_> {
 impl EncodeValue for Number<'_> {
     fn value_len(&self) -> Result<Length> {
         Length::try_from(self.size())
+    }
+
+    #[inline(always)]
+    fn quick_value_len(&self) -> u64 {
+        self.size() as u64
     }
 
     fn append_value<W: Writer>(&self, writer: &mut W) -> Result<()> {

@@ -1,6 +1,6 @@
 //! Other primes that the caller passes, written from the caller's array.
-ghost use Rattle.std.specs.Prelude.{◌≡◌, ◌+◌, ◌^◌, ◌≤◌, ◌<◌, length, IsTrue, IfOk, IfErr, OnOk};
-ghost use Rattle.der_core.specs.Words.{Prepends, free_of, limit, tlv_len, Appends, Counts};
+ghost use Rattle.std.specs.Prelude.{◌≡◌, ◌+◌, ◌≤◌, ◌<◌, length, IsTrue, IfOk, IfErr, OnOk};
+ghost use Rattle.der_core.specs.Words.{Prepends, free_of, limit, Appends, Counts};
 ghost use Rattle.pkcs1.specs.Words.{held_other_prime};
 ghost use Rattle.pkcs1_c.specs.NumberValue.{given_octets_of};
 ghost use Rattle.pkcs1_c.specs.PrimeLists.{AreCounted, AreCounted-prop, given_encoded, prime_encoded};
@@ -13,7 +13,7 @@ use crate::numbers::number;
 use crate::private_key::OtherPrime;
 use der_core::{
     BackWriter, Contents, Encode, EncodeValue, Error, ErrorKind, Length, Result, SequenceTag,
-    TaggedBy, Writer, joined_len,
+    TaggedBy, UNTOLD, Writer, joined_len,
 };
 use pkcs1::OtherPrimeInfo;
 
@@ -42,40 +42,12 @@ fn from_c_other_prime<'a>(other: &OtherPrime<'a>) -> pkcs1::Result<OtherPrimeInf
     })
 }
 
-/// How many octets a tag, a length and contents are; more than the limit, if the contents are.
-#[tactic(auto, using(der_core::proofs::Lengths::known_lengths))]
-#[inline(always)]
-pub(crate) fn octets_with_tag(contents: usize) -> usize
-    requires { contents < 2 ^ 40 }
-    ensures within { contents ≤ limit → result ≡ tlv_len contents }
-    ensures least { contents ≤ result }
-    ensures most { result ≤ contents + 6 }
-{
-    if contents < 0x80 {
-        return contents + 2;
-    }
-    if contents < 0x100 {
-        return contents + 3;
-    }
-    if contents < 0x1_0000 {
-        return contents + 4;
-    }
-    if contents < 0x100_0000 {
-        return contents + 5;
-    }
-    contents + 6
-}
-
-/// The length of a prime's encoding, as `encoded_len` tells it: fewer steps, as a number has contents and a length of
-/// some octets.
+/// The length of a prime's encoding.
 #[inline(always)]
 fn length_of(info: &OtherPrimeInfo<Number<'_>>) -> Result<Length>
     ensures { Counts (Unit {0}) (prime_encoded (held_other_prime given_octets_of info.now)) result }
 {
-    let numbers = octets_with_tag(info.prime.size())
-        + octets_with_tag(info.exponent.size())
-        + octets_with_tag(info.coefficient.size());
-    Length::try_from(octets_with_tag(numbers))
+    info.encoded_len()
 }
 
 /// Appends a prime.
@@ -190,6 +162,14 @@ impl TaggedBy for GivenPrimes<'_> {
 impl EncodeValue for GivenPrimes<'_> {
     fn value_len(&self) -> Result<Length> {
         self.len
+    }
+
+    #[inline(always)]
+    fn quick_value_len(&self) -> u64 {
+        match self.value_len() {
+            Ok(length) => length.to_usize() as u64,
+            Err(_) => UNTOLD,
+        }
     }
 
     fn append_value<W: Writer>(&self, writer: &mut W) -> Result<()> {

@@ -1,12 +1,12 @@
 //! Encoding into a caller's slice.
-ghost use Rattle.std.specs.Prelude.{◌≡◌, ◌≤◌, ◌<◌, length, IfErr, IfOk};
+ghost use Rattle.std.specs.Prelude.{◌≡◌, ◌≤◌, ◌<◌, ◌++◌, drop, length, IfErr, IfOk};
 ghost use Rattle.der_core.specs.Words.{Spells, limit};
 ghost use Rattle.pkcs1_params.specs.Words.{EncodingOfFields};
 ghost use Rattle.pkcs1_c.specs.Words.{IsErrorOf, UnwrittenStatus, WritesOrTells};
 ghost use Rattle.standard.specs.Statement.{AlgorithmEncoding};
 
 use crate::status::{NO_ROOM, OK, kind_number, status};
-use der_core::Encode;
+use der_core::{BackWriter, Encode};
 use pkcs1::{EncodeParams, Shortest};
 use pkcs1_params::Written;
 use spki_core::AssociatedOid;
@@ -40,6 +40,26 @@ pub(crate) fn set_needed<T: Encode>(value: &T, len: &mut usize)
     }
 }
 
+/// Writes the shortest encoding of the value, which has `count` octets, to the front of `out`, if there is room for it.
+#[inline(always)]
+fn write_counted<T: Encode>(value: &T, count: usize, out: &mut [u8]) -> Written
+    requires has { T.valid (T.written (T.value value.now)) }
+    requires counted { count ≡ length (T.printed (T.written (T.value value.now))) }
+    requires fits { count ≤ limit }
+    ensures ok { let encoding = T.printed (T.written (T.value value.now)) in
+        IfOk result (λ n. (n ≡ length encoding) × (out.new ≡ encoding ++ drop n out.old)) }
+    ensures no_room { let encoding = T.printed (T.written (T.value value.now)) in
+        IfErr result (λ n. (n ≡ length encoding) × (length out.old < n) × (out.new ≡ out.old)) }
+{
+    if out.len() < count {
+        return Err(count);
+    }
+    let (region, _) = out.split_at_mut(count);
+    let mut writer = BackWriter::new(region);
+    value.prepend(&mut writer);
+    Ok(count)
+}
+
 /// Writes the shortest encoding of the value to the front of `out`. Returns 0, with its length in `len`, or `NO_ROOM`,
 /// with the needed length in `len`, or another status, with `len` unchanged.
 pub(crate) fn write_encoding<T: Encode>(value: &T, out: &mut [u8], len: &mut usize) -> u32
@@ -49,15 +69,9 @@ pub(crate) fn write_encoding<T: Encode>(value: &T, out: &mut [u8], len: &mut usi
     ensures exact { let Encoding = Spells T.valid T.printed T.means in
         IsErrorOf (UnwrittenStatus Encoding (T.value value.now) (length out.old)) result }
 {
-    match value.encode_into(out) {
-        Ok(written) => {
-            *len = written;
-            OK
-        }
-        Err(error) => {
-            set_needed(value, len);
-            kind_number(&error.kind)
-        }
+    match value.encoded_len() {
+        Ok(length) => written_status(write_counted(value, length.to_usize(), out), len),
+        Err(error) => kind_number(&error.kind),
     }
 }
 

@@ -1,9 +1,9 @@
--- `GivenKey::of`: it has the numbers of the struct, or its error is that of the first that can't be held.
+-- `GivenKey::exactly`: it has the numbers of the struct, or its error is that of the first that can't be held.
 use Rattle.std.proofs.Common.{arith, rules}
 use Rattle.std.proofs.lemmas.Grind.{common_steps}
 use Rattle.pkcs1_c.specs.Words.{status_of, numbers_of_primes, numbers_of_key}
 use Rattle.pkcs1_c.proofs.StructErrors.{numbers_behind, numbers_none_both, numbers_none_held}
-use Rattle.pkcs1_c.proofs.given_key.GivenKey.of.Goals as goal
+use Rattle.pkcs1_c.proofs.given_key.GivenKey.exactly.Goals as goal
 
 -- `GivenPrimes::of` has failed. The eight numbers of the struct can be held, so the first that can't is one of a prime.
 pub returns-in-Err-clause-err : goal.returns-in-Err-clause-err
