@@ -9,6 +9,6 @@ pub mod LengthReading
 pub mod Numbers
 pub mod OptionalReadings
 pub mod Printed
-pub mod Counted
+pub mod Appended
 pub mod SliceReaders
 pub mod TaggedReadings

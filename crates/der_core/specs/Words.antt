@@ -31,16 +31,16 @@ pub use Rattle.der_core.specs.Writing.{Appends, Counts, IsOutOfMemory, RefusedAs
 pub use Rattle.der_core.specs.declared.error.Error.{Error}
 pub use Rattle.der_core.specs.declared.error.ErrorKind.{ErrorKind}
 pub use Rattle.der_core.specs.declared.tag.Tag.{Tag}
+pub use Rattle.der_core.specs.Laws.Appended.{octets_appended_as}
 pub use Rattle.der_core.specs.Laws.BitString.{behind_zero_alike, behind_zero_asks_as_contents, behind_zero_law, behind_zero_shortest}
 pub use Rattle.der_core.specs.Laws.Boolean.{boolean_law}
-pub use Rattle.der_core.specs.Laws.Counted.{octets_appended_as, octets_counted_as}
 pub use Rattle.der_core.specs.Laws.Encodings.{last_part_asks_as_it, nothing_asked, parts_ask_as_each, same_tag, tlv_not_empty, tlv_recast, tlv_short, tlv_split}
 pub use Rattle.der_core.specs.Laws.Integer.{and_decides, bytes_decide, canonical_same, holds_canonical, number_decides, option_decides, written_large}
 pub use Rattle.der_core.specs.Laws.Length.{length_octets-only, length_octets-short, length_octets-within}
 pub use Rattle.der_core.specs.Laws.LengthReading.{are_bytes, cond_cases, header_at-complete, header_at-sound, header_at-tells, header_sound, length_at-complete, length_at-sound, length_at-tells, ok_pair, value_error_tells}
 pub use Rattle.der_core.specs.Laws.Numbers.{after_ge, base256_ge}
 pub use Rattle.der_core.specs.Laws.OptionalReadings.{is_next_false, is_next_false_only, is_next_true, optional_reads, tlv_front_is_next}
-pub use Rattle.der_core.specs.Laws.Printed.Alike.{alone_alike, chain_alike, front_alike, front_row_alike, items_alike, itself_once, last_alike, last_once, list_once, made_alike, made_once, optional_alike, reading_alike, row_alike, row_once, tagged_alike, values_alike, whole_alike}
+pub use Rattle.der_core.specs.Laws.Printed.Alike.{alone_alike, chain_alike, front_alike, front_row_alike, items_alike, itself_once, last_alike, last_once, list_once, made_alike, optional_alike, reading_alike, row_alike, row_once, tagged_alike, values_alike, whole_alike}
 pub use Rattle.der_core.specs.Laws.Printed.Items.{front_reading_reads, items_law, ok_meant, ok_meant_front, ok_paired, prints_some, reading_reads, written_prints}
 pub use Rattle.der_core.specs.Laws.Printed.Leaves.{number_contents_as, number_law, number_octets, numbers_encode, octets_canonical, octets_grow, octets_law, octets_number, small_contents_as, small_law, tlv_fit, tlv_is, tlv_made}
 pub use Rattle.der_core.specs.Laws.Printed.Optional.{IsInRange, chain_law, checked_optional_law, front_end_law, front_row_law, last_by_tag_law, last_law, optional_gives, optional_last_law, optional_part_law, optional_row_law, ranged_law, tagged_starts, unless_alike, unless_shortest}

@@ -1,17 +1,15 @@
 -- Reading by functions: a part that is there if its tag is next.
-use Rattle.std.proofs.Common.{ℕ, true, false, List, [], ◌∷◌, ◌++◌, ◌≡◌, ◌==◌, ◌⊎◌, ◌≤◌, length, refl, sym, ap, subst, ◌∙◌, arith, inl, inr, ⊎_elim, append-nil, append_assoc, Ok, Err, Option, Some, None}
+use Rattle.std.proofs.Common.{ℕ, true, false, List, [], ◌∷◌, ◌++◌, ◌≡◌, ◌==◌, ◌⊎◌, ◌≤◌, length, refl, sym, ap, subst, ◌∙◌, arith, inl, inr, ⊎_elim, append_assoc, Ok, Err, Option, Some, None}
 use Rattle.std.proofs.lemmas.Bool.Decides.{nat_tests}
 use Rattle.der_core.specs.declared.error.ErrorKind.{ErrorKind}
-use Rattle.der_core.specs.declared.tag.Tag.{Tag}
 use Rattle.der_core.specs.Laws.LengthReading.{ok_pair, cond_cases}
 use Rattle.der_core.specs.Laws.Numbers.{cons_injective}
 use Rattle.der_core.specs.Laws.Readings.{bind_err, bind_ok}
-use Rattle.der_core.specs.Laws.TaggedReadings.{tagged_reads}
 use Rattle.der_core.specs.Length.{limit}
 use Rattle.der_core.specs.Encodings.{AreBytes}
-use Rattle.der_core.specs.Parts.{IsNext, Optional, OptionalRead}
+use Rattle.der_core.specs.Parts.{IsNext, OptionalRead}
 use Rattle.der_core.specs.Reading.{TellsOfBytes}
-use Rattle.der_core.specs.Readings.{Reading, FrontReading, ReadsBy, ReadsContents, ReadsFronts, ◌>>=◌, alone, ended, is_next, optional_front, tagged}
+use Rattle.der_core.specs.Readings.{FrontReading, ReadsBy, ReadsFronts, ◌>>=◌, is_next, optional_front}
 use Rattle.der_core.specs.Tlv.{Tlv}
 
 -- The octet that is next.
@@ -90,23 +88,3 @@ module _ {V : Type 0} (t : ℕ) {encoding : V → List ℕ → Type 0} {at : Fro
     takes = optional_part_read_takes;
     tells = λ i k e. optional_tells t at i (law.tells i) k e;
   }
-
--- The last part that is known by its tag.
-module _ {V : Type 0} (tag : Tag) {contents : V → List ℕ → Type 0} {read : Reading V}
-    (law : ReadsContents contents read) where
-  abbrev TaggedEncoding : V → List ℕ → Type 0
-  TaggedEncoding v = Tlv tag.octet (contents v)
-
-  abbrev tagged_at : FrontReading V
-  tagged_at = tagged tag read
-
-  tagged_at_reads : ReadsFronts TaggedEncoding tagged_at
-  tagged_at_reads = tagged_reads tag law
-
-  optional_tagged_takes : (c : List ℕ) (v : Option V) → length c ≤ limit → Optional TaggedEncoding v c
-      → alone (optional_front tag.octet tagged_at) c ≡ Ok v
-  optional_tagged_takes c None within p = ap (alone (optional_front tag.octet tagged_at)) p
-  optional_tagged_takes c (Some v) within p =
-      let first : is_next tag.octet c ≡ true = rw p.written (grind (arith, nat_tests)) in
-      ap (λ r. r >>= λ p. ended p.0 p.1)
-      (optional_takes tag.octet tagged_at c v [] first (tagged_at_reads.takes c c [] v within (sym (append-nil c)) p))

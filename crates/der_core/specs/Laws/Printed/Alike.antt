@@ -203,11 +203,3 @@ list_once once (s ∷ ss) [] e = cc
 list_once {means = means} once (s ∷ ss) (t ∷ ts) e =
     let first : means s ≡ means t = cc in let rest : map means ss ≡ map means ts = cc in
     λ i. once s t first i ∷ list_once once ss ts rest i
-
--- Values that are made of others.
-pub made_once : {S T V W : Type 0} {means : S → V} → AreSpelledOnce means → (back : T → S) (join : V → W) (split : W → V)
-    → ((s t : T) → back s ≡ back t → s ≡ t) → ((v : V) → split (join v) ≡ v)
-    → AreSpelledOnce (λ t. join (means (back t)))
-made_once {means = means} once back join split same there s t e =
-    same s t
-    (once (back s) (back t) (sym (there (means (back s))) ∙ ap split e ∙ there (means (back t))))

@@ -1,21 +1,10 @@
--- Of a value that has octets, the same is counted and appended whatever says that it has them.
+-- Of a value that has octets, the same is appended whatever says that it has them.
 use Rattle.std.specs.Prelude.{ℕ, List, Option, Result, Ok, Err}
 use Rattle.der_core.specs.Document.{EncodeError, another, no_encoding, no_room, too_long}
-use Rattle.der_core.specs.Writing.{Appends, Counts, WhyOctetsNotCounted, WhyOctetsNotWritten, encode_error}
+use Rattle.der_core.specs.Writing.{Appends, WhyOctetsNotWritten, encode_error}
 use Rattle.der_core.specs.declared.error.Error.{Error}
 
 module _ {P Q : Type 0} (p : P) (q : Q) where
-  octets_uncounted_as : (octets : List ℕ) (k : EncodeError) → WhyOctetsNotCounted P octets k
-      → WhyOctetsNotCounted Q octets k
-  octets_uncounted_as octets no_encoding h = absurd (h p)
-  octets_uncounted_as octets too_long h = (q, h.1)
-  octets_uncounted_as octets no_room h = h
-  octets_uncounted_as octets another h = h
-
-  pub octets_counted_as : (octets : List ℕ) (r : Result ℕ Error) → Counts P octets r → Counts Q octets r
-  octets_counted_as octets (Ok n) h = (q, h.1, h.2)
-  octets_counted_as octets (Err e) h = octets_uncounted_as octets (encode_error e.kind) h
-
   octets_unwritten_as : (octets : List ℕ) (room : Option ℕ) (old new : List ℕ → Type 0) (k : EncodeError)
       → WhyOctetsNotWritten P octets room old new k → WhyOctetsNotWritten Q octets room old new k
   octets_unwritten_as octets room old new no_encoding h = absurd (h.0 p)
