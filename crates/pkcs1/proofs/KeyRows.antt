@@ -4,7 +4,7 @@ use Rattle.std.proofs.Common.{ℕ, List, [], ◌∷◌, map, ◌≡◌, ◌<◌,
 use Rattle.std.specs.List.{AllByRecursion}
 use Rattle.std.specs.declared.alloc.Global.{Global}
 use Rattle.std.specs.declared.vec.Vec.{Vec}
-use Rattle.der_core.specs.Words.{Prepends, limit, Appends, Counts}
+use Rattle.der_core.specs.Words.{Prepends, Appends, Counts}
 use Rattle.der_core.specs.declared.back_writer.BackWriter.{BackWriter}
 use Rattle.der_core.specs.declared.error.Error.{Error}
 use Rattle.pkcs1.specs.Words.{KeyRow, RowIsValid, row_printed, OtherRow, OthersAreValid, PrivateRow, eight_numbers_behind, others_in, version_of, private_row, other_as, others_as, ListsNone, other_of, others_of, AreSome, OtherIsValid, PrivateIsValid, primes_printed, private_printed}
@@ -67,9 +67,6 @@ module _ {S : Type 0} (valid : S → Type 0) (printed : S → List ℕ) (key : P
   key_counted r some counted =
       subst (λ o. Counts (PrivateIsValid valid key) o r) private_row_is
       (counts_as private_row_octets r (key_valid some) row_valid counted)
-
-  pub row_fits : length (private_printed printed key) ≤ limit → length private_row_octets ≤ limit
-  row_fits fits = omega (arith, fits, ap length private_row_is)
 
   pub row_room : {n : ℕ} → length (private_printed printed key) ≤ n → length private_row_octets ≤ n
   row_room fits = omega (arith, fits, ap length private_row_is)

@@ -5,7 +5,7 @@ ghost use Rattle.pkcs1.specs.Words.{public_row};
 use der_core::{
     AsUintRef, BackWriter, Borrowed, Decode, Encode, EncodeInParts, EncodeValue, Encoding,
     EqualByValue, Length, NoMemory, Record, SequenceTag, TaggedBy, TryClone, Uint, UintEncoding,
-    UintRef, Writer,
+    UintRef, Writer, write_only,
 };
 use pkcs1_params::{Error, Result};
 use std::alloc::Global;
@@ -170,6 +170,6 @@ impl<U: UintEncoding> RsaPublicKey<U> {
         ensures err { let key = held_public_key U.number self.now in
             IfErr result (Refuses (λ _. ⊤) PublicKeyEncoding key (length out.old)) }
     {
-        Ok(self.as_key_ref().encode_into(out)?)
+        Ok(write_only(&self.as_key_ref(), out)?)
     }
 }
