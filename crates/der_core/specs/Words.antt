@@ -44,7 +44,7 @@ pub use Rattle.der_core.specs.Laws.Printed.Alike.{alone_alike, chain_alike, fron
 pub use Rattle.der_core.specs.Laws.Printed.Items.{front_reading_reads, items_law, ok_meant, ok_meant_front, ok_paired, prints_some, reading_reads, written_prints}
 pub use Rattle.der_core.specs.Laws.Printed.Leaves.{number_contents_as, number_law, number_octets, numbers_encode, octets_canonical, octets_grow, octets_law, octets_number, small_contents_as, small_law, tlv_fit, tlv_is, tlv_made}
 pub use Rattle.der_core.specs.Laws.Printed.Optional.{IsInRange, chain_law, checked_optional_law, front_end_law, front_row_law, last_by_tag_law, last_law, optional_gives, optional_last_law, optional_part_law, optional_row_law, ranged_law, tagged_starts, unless_alike, unless_shortest}
-pub use Rattle.der_core.specs.Laws.Printed.Relations.{StatedAs, decodes_stated, encodes_stated, memory_stated, optional_itself, spells_once, stated, unwritten_stated, written_encodes}
+pub use Rattle.der_core.specs.Laws.Printed.Relations.{StatedAs, decodes_stated, encodes_stated, memory_stated, optional_itself, stated, unwritten_stated, written_encodes}
 pub use Rattle.der_core.specs.Laws.Printed.Rows.{alone_law, decodes_as, end_law, expected_law, made_law, meant_decodes, prints_one, reads_printed_as, row_law, such_law, tagged_law, whole_decodes, whole_takes}
 pub use Rattle.der_core.specs.Laws.Printed.Shortest.{joined_shortest, last_shortest, list_shortest, made_shortest, one_spelling_shortest, row_shortest, tagged_shortest, tagged_some, written_is_shortest}
 pub use Rattle.der_core.specs.Laws.Readings.{alone_reads, any_contents_reads, back_bytes, behind_within, bind_err, bind_ok, ended_is, ended_tells, front_bytes, made_errs, made_tells, ok_injective, relation_of_equals}

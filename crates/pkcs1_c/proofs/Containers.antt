@@ -1,6 +1,6 @@
 -- Containers: why one isn't read or written: one status at most. For `src/container.rt`.
 use Rattle.std.proofs.Common.{ℕ, List, ◌≡◌, ◌∙◌, ap, arith, false, inl, inr, length, sym, ⊎_elim, Err, Ok, if◌then◌else◌, nat_lt}
-use Rattle.der_core.specs.Words.{nat_tests, alone_law, tagged_law, Spells, bind_err, limit, TellsOfBytes, alone, tagged, whole, ◌>>=◌}
+use Rattle.der_core.specs.Words.{nat_tests, alone_law, tagged_law, bind_err, limit, TellsOfBytes, alone, tagged, whole, ◌>>=◌}
 use Rattle.der_core.specs.Tags as tags
 use Rattle.der_core.specs.declared.error.ErrorKind.{ErrorKind}
 use Rattle.der_core.specs.declared.error.ErrorKind.TheVariants.{Overflow}
@@ -8,8 +8,8 @@ use Rattle.pkcs1.specs.Words.{number_front, private_key_read, rsa_private_key, i
 use Rattle.pkcs1_params.proofs.Faults.{whole_tells}
 use Rattle.pkcs8_core.proofs.ContainedKeys.{key_tells}
 use Rattle.pkcs8_core.specs.ContainerReadings as readings
-use Rattle.pkcs8_core.specs.Words.{rsa_held, rsa_private_key_info, container_law, IsContainer, container_printed}
-use Rattle.standard.specs.Statement.{Container, ContainerEncoding, PrivateKey, PrivateKeyEncoding, sequence}
+use Rattle.pkcs8_core.specs.Words.{rsa_held, rsa_private_key_info, container_law}
+use Rattle.standard.specs.Statement.{ContainerEncoding, PrivateKey, PrivateKeyEncoding}
 use Rattle.pkcs1_c.specs.declared.container.PrivateKeyInfo.{PrivateKeyInfo}
 use Rattle.pkcs1_c.specs.Words.{IsErrorNumber, InfoError, UnwrittenStatus, InfoHasKey, private_key_info_seen}
 use Rattle.pkcs1_c.proofs.StructErrors.{HasOneStatus, unwritten_one}
@@ -32,9 +32,6 @@ private_key_octets_read key octets p =
     ∙ (alone_law (tagged_law (private_law integer_law) tags.sequence_tag)).takes s ok (omega (arith, few, ap length same)) in
     ap (λ r. r >>= λ v. Ok (private_stated v)) read ∙ ap (λ k. Ok (private_stated k)) (sym (private_itself s) ∙ is)
     ∙ ap (λ k. Ok k) (private_key_back key)
-
-abbrev pub ContainerSpells : Container → List ℕ → Type 0
-ContainerSpells = Spells IsContainer (λ c. sequence (container_printed c)) (λ c. c)
 
 module _ (info : PrivateKeyInfo) where
   -- A key in it has no fault.

@@ -2,13 +2,12 @@
 use Rattle.std.proofs.Common.{ℕ, List, [], ◌≡◌, refl, sym, ap, ◌∙◌, ⊎_elim, Option, Some, None, Ok, Err, ◌++◌, subst, inl, inr, IfErr, IfOk, Result, ◌∷◌, ◌≤◌, length, arith, append-nil, append_assoc, slice_index}
 use Rattle.der_core.specs.declared.error.ErrorKind.{ErrorKind}
 use Rattle.der_core.specs.declared.tag.Tag.{Tag}
-use Rattle.der_core.specs.Words.{bind_err, TellsOfBytes, AreBytes, Answers, prints_one, tagged_law, ok_of, value_in, ◌>>=◌, Excludes, tlv_fit, ok_injective, limit, ReadsPrinted, number_contents, octets_of_all}
+use Rattle.der_core.specs.Words.{bind_err, TellsOfBytes, AreBytes, prints_one, tagged_law, value_in, ◌>>=◌, Excludes, tlv_fit, ok_injective, limit, ReadsPrinted, number_contents, octets_of_all}
 use Rattle.pkcs1_params.specs.Words.{AnswersAsn1OrAsks, AreDelimited}
 use Rattle.pkcs1.proofs.KeyReads.{private_tells, printed_front_unique}
 use Rattle.pkcs1.proofs.RsaEncryption.{rsa_gives, rsa_only_tells, rsa_taken}
 use Rattle.pkcs8_core.specs.Words.{Container, key_in, rsa_encryption, private_key_info, rsa_held, rsa_private_key_info, container_encoded, container_law, containers_decode, IsContainer, container_printed, ContainedKey}
 use Rattle.der_core.specs.Tags as tags
-use Rattle.der_core.specs.declared.error.Error as der
 use Rattle.pkcs1.specs.Words.{MayAllocate, Rejects, rsa_only, rsa_private_key, private_decodes, viewed_encoding}
 use Rattle.pkcs1.specs.declared.view.RsaPrivateKeyView.{RsaPrivateKeyView}
 use Rattle.pkcs1_params.proofs.Faults.{asn1_as}
@@ -107,14 +106,6 @@ module _ (bytes : List ℕ) (are : AreBytes bytes) where
           → Decodes ContainedKeyEncoding bytes (value_in (r >>= rsa_held))
       go (Ok c) (is, only) = key c is only (value_in (rsa_held c)) (contained_decode c c.private_key is.2)
       go (Err k) never = λ other p. never p.0 p.1
-
-  -- What a call returned that gives the container.
-  pub container_answers_decode : {X : Type 0} (value : X → Container) (r : Result X der.Error)
-      → Answers value r (private_key_info bytes) → Decodes ContainerEncoding bytes (ok_of value r)
-  container_answers_decode value (Ok x) e =
-      subst (λ r. Decodes ContainerEncoding bytes (value_in r)) e (containers_decode bytes are)
-  container_answers_decode value (Err k) e =
-      subst (λ r. Decodes ContainerEncoding bytes (value_in r)) e (containers_decode bytes are)
 
 -- A key whose encoding is that of the container.
 pub viewed_in : (c : Container) (bytes octets : List ℕ) → ContainerEncoding c bytes → octets ≡ c.private_key

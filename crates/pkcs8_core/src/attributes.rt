@@ -1,11 +1,11 @@
 //! The attributes of containers, as opaque bytes.
 ghost use Rattle.std.specs.Prelude.{◌≡◌, ◌<◌, ◌^◌, ℕ, List, length, slice_index};
-ghost use Rattle.der_core.specs.Words.{AreBytes, nothing_asked, octets_law, octets_of_all, one_spelling_shortest, reading_alike};
+ghost use Rattle.der_core.specs.Words.{AreBytes, itself_once, nothing_asked, octets_law, octets_of_all, one_spelling_shortest, reading_alike};
 ghost use Rattle.pkcs8_core.specs.Tags.{attributes_tag};
 
 use pkcs1::der::{
-    BackWriter, Contents, DecodeValue, EncodeValue, Header, Length, Memory, Reader, Result, Tag,
-    TagMarker, TaggedBy, Writer, quick_contents,
+    BackWriter, Contents, DecodeValue, EncodeValue, Header, Length, Memory, OneContents, Reader,
+    Result, Tag, TagMarker, TaggedBy, Writer, quick_contents,
 };
 
 /// The tag of attributes.
@@ -67,6 +67,10 @@ impl Contents for Attributes<'_> {
 
 impl TaggedBy for Attributes<'_> {
     type Marker = AttributesTag;
+}
+
+impl OneContents for Attributes<'_> {
+    ghost once = { itself_once };
 }
 
 impl<'a, M: Memory> DecodeValue<&'a [u8], M> for Attributes<'a> {

@@ -9,7 +9,7 @@ use crate::attributes::Attributes;
 use pkcs1::der::{
     BackWriter, Borrowed, Contents, Decode, Encode, EncodeInParts, EncodeValue, Error, Expected,
     InParts, Last, LastByTag, Length, Memory, OctetStringRef, Result, SequenceTag, TaggedBy,
-    Writer, read_borrowed,
+    Writer, read_borrowed, write_only,
 };
 use pkcs1::spki::{
     AlgorithmIdentifierOf, AnyRef, IdentifierValue, IdentifierView, ObjectIdentifier,
@@ -173,7 +173,7 @@ impl<'a, O: ReadIdentifier<'a>> PrivateKeyInfoOf<'a, O> {
             IfErr result (λ e. Unwritten (λ _. ⊤) ContainerEncoding c (length out.old) (encode_error e.kind)) }
     {
         self.lemma_has_encoding();
-        self.encode_into(out)
+        write_only(self, out)
     }
 }
 

@@ -1,11 +1,11 @@
 -- Containers: the function reads what is printed of them, and nothing else; and this is what the statement says.
 use Rattle.std.proofs.Common.{ℕ, List, ◌++◌, ◌≡◌, ◌≤◌, length, refl, sym, ap, ◌∙◌, arith, append_assoc, Option, Some, None, ◌↔◌}
-use Rattle.der_core.specs.Words.{AreBytes, octets_law, last_by_tag_law, spells_once, expected_law, made_law, row_law, tagged_law, whole_decodes, limit, ReadsPrinted, Spells, value_in}
+use Rattle.der_core.specs.Words.{AreBytes, octets_law, last_by_tag_law, expected_law, made_law, row_law, tagged_law, whole_decodes, limit, ReadsPrinted, StatedAs, stated, value_in}
 use Rattle.der_core.specs.Tags as tags
 use Rattle.spki_core.specs.Words.{algorithm_law, any_law}
 use Rattle.pkcs8_core.specs.ContainerReadings.{info_read, of_info_parts, private_key_info}
 use Rattle.pkcs8_core.specs.Container.{info_parts}
-use Rattle.pkcs8_core.specs.PrintedContainers.{IsContainer, container_printed}
+use Rattle.pkcs8_core.specs.PrintedContainers.{ContainerSpells, IsContainer, container_printed}
 use Rattle.pkcs8_core.specs.Tags.{attributes_tag}
 use Rattle.standard.specs.Statement.{AtMostOne, Container, ContainerEncoding, Decodes, algorithm, any, integer, optional, sequence, tlv}
 
@@ -37,12 +37,10 @@ container_encoded c bytes = (
       (few, (omega arith, (algorithm, (key, attributes))), same ∙ sym (container_joined c)),
 )
 
-pub container_spells : (c : Container) (bytes : List ℕ)
-    → Spells IsContainer (λ c. sequence (container_printed c)) (λ c. c) c bytes ↔ ContainerEncoding c bytes
-container_spells c bytes =
-    let once = spells_once IsContainer (λ c. sequence (container_printed c)) c bytes in
-    let is = container_encoded c bytes in
-    (λ p. is.0 (once.0 p), λ p. once.1 (is.1 p))
+-- What the kernel prints of containers is what the statement has.
+pub container_stated : StatedAs IsContainer ContainerSpells IsContainer ContainerEncoding (λ c. c)
+container_stated =
+    stated (λ c. c) (λ c. refl) (λ c. c) (λ c. refl) (λ c. (λ p. p, λ p. p)) container_encoded
 
 -- The function that tells the containers of whole slices gives one exactly of the bytes that encode it.
 pub containers_decode : (bytes : List ℕ) → AreBytes bytes

@@ -56,15 +56,6 @@ module _ {V W : Type 0} {Is : V → Type 0} {E : V → List ℕ → Type 0} {Val
   unwritten_stated v room (Ok x) h = tt
   unwritten_stated v room (Err e) h = unwritten_stated_by v room (encode_error e.kind) h
 
--- A type whose values have one spelling each, and all an encoding.
-module _ {V : Type 0} (valid : V → Type 0) (printed : V → List ℕ) where
-  pub spells_once : (v : V) (bytes : List ℕ)
-      → Spells valid printed (λ v. v) v bytes ↔ ((length bytes ≤ limit) × valid v × (bytes ≡ printed v))
-  spells_once v bytes = (
-    λ (few, (s, is, ok, same)). (few, subst valid is ok, same ∙ ap printed is),
-    λ (few, ok, same). (few, (v, refl, ok, same)),
-  )
-
 -- A type whose values are spelled as themselves, by a function that changes nothing. A relation that is written out says
 -- the same.
 module _ {V W : Type 0} {valid : V → Type 0} {printed : V → List ℕ} {Valid : W → Type 0} {F : W → List ℕ → Type 0}

@@ -2,10 +2,10 @@
 use Rattle.std.proofs.Common.{length, arith, rules, inl, inr}
 use Rattle.pkcs1.proofs.KeyReads.{private_tells}
 use Rattle.pkcs1.specs.Words.{rsa_private_key}
-use Rattle.pkcs8_core.specs.Words.{container_spells}
+use Rattle.pkcs8_core.specs.Words.{ContainerSpells, container_stated}
 use Rattle.standard.specs.Statement.{ContainerEncoding}
 use Rattle.pkcs1_c.specs.Words.{InfoError, UnwrittenStatus, InfoHasKey, private_key_info_seen}
-use Rattle.pkcs1_c.proofs.Containers.{ContainerSpells, error_none, info_one, info_rest}
+use Rattle.pkcs1_c.proofs.Containers.{error_none, info_one, info_rest}
 use Rattle.pkcs1_c.proofs.Writes.{status_known, error_of_same_reasons, held_written, only_status_is_error, unwritten_error_as}
 use Rattle.pkcs1_c.proofs.container.pkcs1_c_private_key_info_encode.Goals as goal
 
@@ -23,13 +23,13 @@ returns-in-Ok c =
     let holds = c.in-Ok.ensures.key in
     let told = c.write_encoding.ensures in record {
       writes =
-          held_written ContainerEncoding v ContainerSpells v (container_spells v) (InfoHasKey info) holds
+          held_written ContainerEncoding v ContainerSpells v (container_stated.same v) (InfoHasKey info) holds
           (rw c.in-Ok.ensures.ok at told.writes);
       exact =
           error_of_same_reasons (UnwrittenStatus ContainerEncoding v room) (InfoError info room) _
           (λ t p. inr (holds, p))
           (info_rest info room holds)
-          (unwritten_error_as ContainerEncoding v ContainerSpells v (container_spells v) room _
+          (unwritten_error_as ContainerEncoding v ContainerSpells v (container_stated.same v) room _
           (rw c.in-Ok.ensures.ok at told.exact));
     }
 
