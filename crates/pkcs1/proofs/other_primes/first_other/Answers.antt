@@ -1,6 +1,6 @@
 -- `first_other` reads a prime from a reader of the bytes, and then takes all that is left. What `quick_other` gives
 -- needs no answer.
-use Rattle.std.proofs.Common.{◌∙◌, Ok, ap, arith, sym}
+use Rattle.std.proofs.Common.{◌∙◌, Ok, ap, sym, rules}
 use Rattle.der_core.specs.Words.{err_from_is_err_and, are_bytes, bytes_of}
 use Rattle.der_core.proofs.ReadSteps.{front_errs, front_of_all}
 use Rattle.pkcs1.specs.Words.{number_in, next_prime, other_of}
@@ -25,4 +25,4 @@ returns-in_err-other-clause-err c =
 
 -- The elements of a slice of `u8` are octets: `type_inv` says it of each.
 pub returns-clause-octets : goal.returns-clause-octets
-returns-clause-octets c = are_bytes c.args.bytes.now (λ i. omega (arith, c.type_inv.bytes i))
+returns-clause-octets c = are_bytes c.args.bytes.now (search rules)

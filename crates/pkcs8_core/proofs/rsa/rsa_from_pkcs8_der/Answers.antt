@@ -1,6 +1,6 @@
 -- `rsa_private_key_info bytes` is the RSA key in the container, or the kind of the first fault. `told` says that the
 -- call returned this.
-use Rattle.std.proofs.Common.{arith, refl, rules}
+use Rattle.std.proofs.Common.{refl, rules}
 use Rattle.der_core.specs.Words.{are_bytes}
 use Rattle.spki_core.specs.Words.{identifier_octets}
 use Rattle.pkcs1.specs.Words.{held_view}
@@ -15,7 +15,7 @@ use Rattle.pkcs8_core.proofs.rsa.rsa_from_pkcs8_der.Goals as goal
 pub returns-clause-read : goal.returns-clause-read
 returns-clause-read c =
     let bytes = c.args.bytes.now in
-    let are = are_bytes bytes (λ i. omega (arith, c.type_inv.bytes i)) in
+    let are = are_bytes bytes (search rules) in
     let told =
     answers_asn1_behind held_view (private_key_info bytes) rsa_held (info_in identifier_octets c.in_ok-info.info)
     c.in_ok-info.ensures.exact c.rsa_view.result c.rsa_view.ensures.exact in
@@ -27,7 +27,7 @@ returns-clause-read c =
 pub returns-in_err-info-clause-read : goal.returns-in_err-info-clause-read
 returns-in_err-info-clause-read c =
     let bytes = c.args.bytes.now in
-    let are = are_bytes bytes (λ i. omega (arith, c.type_inv.bytes i)) in
+    let are = are_bytes bytes (search rules) in
     let told : AnswersAsn1 held_view (rsa_private_key_info bytes) c.from_residual.result = search rules in
     answers_asn1_decode ContainedKeyEncoding bytes held_view (rsa_private_key_info bytes)
     (contained_keys_decode bytes are)

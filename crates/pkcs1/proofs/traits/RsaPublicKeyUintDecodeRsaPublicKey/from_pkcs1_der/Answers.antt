@@ -1,6 +1,6 @@
 -- `from_pkcs1_der` of `DecodeRsaPublicKey` for `RsaPublicKey<Uint>`. It calls `from_der`, whose clause `exact` says
 -- what the function `whole public_read` gives of the bytes. `public_stated` says the key in the words of the statement.
-use Rattle.std.proofs.Common.{arith}
+use Rattle.std.proofs.Common.{rules}
 use Rattle.der_core.specs.Words.{err_from_is_err_and, are_bytes, whole}
 use Rattle.pkcs1.specs.Words.{public_decodes, public_read, public_stated}
 use Rattle.pkcs1.proofs.KeyReads.{made_reading_faulty, made_reading_ok, public_tells, read_rejected, reading_decodes_some}
@@ -17,7 +17,7 @@ returns-clause-exact c =
 pub returns-clause-ok : goal.returns-clause-ok
 returns-clause-ok c =
     reading_decodes_some public_stated (whole public_read) PublicKeyEncoding public_decodes c.args.bytes.now
-    (are_bytes c.args.bytes.now (λ i. omega (arith, c.type_inv.bytes i))) _ c.in_ok-from_der.ensures.exact
+    (are_bytes c.args.bytes.now (search rules)) _ c.in_ok-from_der.ensures.exact
 
 -- At the `?` behind `from_der`: the bytes encode no key, or memory ran out. `owned_parts_ask` says that memory is only
 -- asked for if the contents begin with a number. `p.1` says that the result is an error, `p.2` that it is this one in
@@ -26,7 +26,7 @@ pub returns-in_err-from_der-clause-err : goal.returns-in_err-from_der-clause-err
 returns-in_err-from_der-clause-err c =
     let p = err_from_is_err_and c.from_residual.result c.from_residual.ensures.1 in
     rw (p.1, p.2) (read_rejected public_stated (whole public_read) PublicKeyEncoding public_decodes c.args.bytes.now
-    (are_bytes c.args.bytes.now (λ i. omega (arith, c.type_inv.bytes i))) public_tells _ _
+    (are_bytes c.args.bytes.now (search rules)) public_tells _ _
     (faulty_as owned_parts_ask _ _ c.in_err-from_der.ensures.exact))
 
 -- There too: the function gives this error, or memory ran out.

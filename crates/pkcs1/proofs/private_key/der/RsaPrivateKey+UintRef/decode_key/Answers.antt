@@ -1,6 +1,6 @@
 -- `decode_key` of `RsaPrivateKey<UintRef>`. It calls `from_der`, whose clause `exact` says what the function
 -- `whole_private_key` gives of the bytes. `private_stated` says the key in the words of the statement.
-use Rattle.std.proofs.Common.{arith}
+use Rattle.std.proofs.Common.{rules}
 use Rattle.der_core.specs.Words.{err_from_is_err_and, are_bytes}
 use Rattle.pkcs1.specs.Words.{number_front, private_decodes, private_stated, whole_private_key}
 use Rattle.pkcs1.proofs.KeyReads.{made_reading_faulty, made_reading_ok, private_tells, read_rejected, reading_decodes_some}
@@ -18,7 +18,7 @@ pub returns-clause-ok : goal.returns-clause-ok
 returns-clause-ok c =
     reading_decodes_some private_stated
     (whole_private_key number_front) PrivateKeyEncoding private_decodes c.args.bytes.now
-    (are_bytes c.args.bytes.now (λ i. omega (arith, c.type_inv.bytes i))) _ c.in_ok-from_der.ensures.exact
+    (are_bytes c.args.bytes.now (search rules)) _ c.in_ok-from_der.ensures.exact
 
 -- At the `?` behind `from_der`: the bytes encode no key, or memory ran out. `borrowed_key_asks` says that memory is
 -- only asked for if a SEQUENCE that begins with an OtherPrimeInfo follows the eight numbers. `p.1` says that the result
@@ -28,7 +28,7 @@ returns-in_err-from_der-clause-err c =
     let p = err_from_is_err_and c.from_residual.result c.from_residual.ensures.1 in
     rw (p.1, p.2) (read_rejected private_stated (whole_private_key number_front) PrivateKeyEncoding private_decodes
     c.args.bytes.now
-    (are_bytes c.args.bytes.now (λ i. omega (arith, c.type_inv.bytes i))) private_tells _ _
+    (are_bytes c.args.bytes.now (search rules)) private_tells _ _
     (faulty_as borrowed_key_asks _ _ c.in_err-from_der.ensures.exact))
 
 -- There too, but it isn't reached: the bytes encode a key of two primes, which is read without memory.
