@@ -1,6 +1,6 @@
 -- `c.requires` has parameters `v`, that the slice is within the limit, the octets `p` of their encoding, and `is`: the
 -- slice is a SEQUENCE of the identifier and `p`.
-use Rattle.std.proofs.Common.{ℕ, List, ◌++◌, ◌≡◌, ◌≤◌, ◌∙◌, arith, ap, sym, subst, length, true, Ok}
+use Rattle.std.proofs.Common.{ℕ, List, ◌++◌, ◌≡◌, ◌≤◌, ◌∙◌, ap, sym, subst, length, true, Ok, rules}
 use Rattle.der_core.specs.Words.{AreBytes, are_bytes, whole_takes, ok_injective, limit, whole}
 use Rattle.spki_core.specs.Words.{any_law, any_front}
 use Rattle.spki_core.proofs.StrictFields.{contents_bytes}
@@ -22,7 +22,7 @@ whole_any_read oid p bytes are few is =
 pub returns-in-Err : goal.returns-in-Err
 returns-in-Err g c =
     let (v, (few, p, e, is)) = c.requires in
-    let bytes = are_bytes _ (λ i. omega (arith, c.type_inv.identifier i)) in
+    let bytes = are_bytes c.args.identifier.now (search rules) in
     let never =
     sym (whole_any_read g.T.Oid.AssociatedOid.contents p _ bytes few is)
     ∙ fault_without_memory (λ w. w.3) c.in-Err.ensures.exact in
@@ -34,7 +34,7 @@ pub returns-in-Ok : goal.returns-in-Ok
 returns-in-Ok g c =
     let (v, (few, p, e, is)) = c.requires in
     let oid = g.T.Oid.AssociatedOid.contents in
-    let bytes = are_bytes _ (λ i. omega (arith, c.type_inv.identifier i)) in
+    let bytes = are_bytes c.args.identifier.now (search rules) in
     let identifier = identifier_in oid g.T.Oid.AssociatedOid.valid p _ bytes is in
     let same = ok_injective (sym (whole_any_read oid p _ bytes few is) ∙ c.in-Ok.ensures.exact) in
     let contents : tlv 6 oid ++ p ≡ c.in-Ok.any.contents.now = ap (λ (x : TagAndContents). x.contents) same in

@@ -1,7 +1,7 @@
 -- `reads` is about the slice in which `read_any` found the parameters. `reads.0` is that it encodes their identifier.
 -- `reads.1` is that the octets behind the object identifier encode them, and that strict reading of both is the same.
 -- `bytes` is that the slice holds octets, and `p` that `?` hands the error on.
-use Rattle.std.proofs.Common.{arith, ap, refl, ◌∙◌}
+use Rattle.std.proofs.Common.{ap, refl, ◌∙◌, rules}
 use Rattle.der_core.specs.Words.{err_from_is_err_and, are_bytes, ◌>>=◌}
 use Rattle.spki_core.specs.Words.{any_of, record_read, record_strictly}
 use Rattle.pkcs1_params.specs.Words.{identified}
@@ -38,7 +38,7 @@ pub encoded_parameters-requires : goal.encoded_parameters-requires
 encoded_parameters-requires g c κs =
     let t = g.T.AlgorithmParams in
     let oid = g.T.Oid.AssociatedOid in
-    let bytes = are_bytes _ (λ i. omega (arith, c.type_inv.bytes i)) in
+    let bytes = are_bytes c.args.bytes.now (search rules) in
     let reads =
     identified_behind_reads oid.contents oid.valid t.form _ (any_of c.in_ok-any.any) _ _ bytes
     c.in_ok-algorithm.ensures.exact
@@ -50,7 +50,7 @@ pub reject_defaults-requires : goal.reject_defaults-requires
 reject_defaults-requires g c κs =
     let t = g.T.AlgorithmParams in
     let oid = g.T.Oid.AssociatedOid in
-    let bytes = are_bytes _ (λ i. omega (arith, c.type_inv.bytes i)) in
+    let bytes = are_bytes c.args.bytes.now (search rules) in
     let reads =
     identified_behind_reads oid.contents oid.valid t.form _ (any_of c.in_ok-any.any) _ _ bytes
     c.in_ok-algorithm.ensures.exact
@@ -65,7 +65,7 @@ returns-in_err-reject_defaults g c =
     c.from_residual-in_err-reject_defaults.ensures.1 in
     let t = g.T.AlgorithmParams in
     let oid = g.T.Oid.AssociatedOid in
-    let bytes = are_bytes _ (λ i. omega (arith, c.type_inv.bytes i)) in
+    let bytes = are_bytes c.args.bytes.now (search rules) in
     let reads =
     identified_behind_reads oid.contents oid.valid t.form _ (any_of c.in_ok-any.any) _ _ bytes
     c.in_ok-algorithm.ensures.exact
@@ -79,7 +79,7 @@ pub returns : goal.returns
 returns g c =
     let t = g.T.AlgorithmParams in
     let oid = g.T.Oid.AssociatedOid in
-    let bytes = are_bytes _ (λ i. omega (arith, c.type_inv.bytes i)) in
+    let bytes = are_bytes c.args.bytes.now (search rules) in
     let reads =
     identified_behind_reads oid.contents oid.valid t.form _ (any_of c.in_ok-any.any) _ _ bytes
     c.in_ok-algorithm.ensures.exact

@@ -11,7 +11,7 @@ pub returns-then-is_empty-clause-written : goal.returns-then-is_empty-clause-wri
 returns-then-is_empty-clause-written c =
     let label = c.args.label.now in
     let source : c.args.source.now ≡ id_p_specified = search rules in
-    let bytes : AreBytes label = are_bytes _ (λ i. omega (arith, c.type_inv.label i)) in
+    let bytes : AreBytes label = are_bytes _ (search rules) in
     let none : length label ≡ 0 = search rules in
     let written = known_oaep _ _ _ _ _ _ label [] c.in_ok-hash.ensures.some source bytes (label_none label none) in
     known_octets_put written c.args.place (place_front_few c.args.place [] (omega arith)) c.args.out.now _ c.put.result c.put.auto.out
@@ -23,7 +23,7 @@ pub returns-clause-written : goal.returns-clause-written
 returns-clause-written c =
     let label = c.args.label.now in
     let source : c.args.source.now ≡ id_p_specified = search rules in
-    let bytes : AreBytes label = are_bytes _ (λ i. omega (arith, c.type_inv.label i)) in
+    let bytes : AreBytes label = are_bytes _ (search rules) in
     let some : 0 < length label = search rules in
     let known : length label < known_label c.args.place = search rules in
     let fits = known_label_fits c.args.place label known in

@@ -1,6 +1,6 @@
 -- `from_algorithm_der` of `FromAlgorithm for T`, for each `T`. What it returns is what `whole_algorithm` gives, and
 -- that decodes the slice. `bytes` is that the slice holds octets, and `p` that `?` hands the error on, as `Asn1`.
-use Rattle.std.proofs.Common.{arith, ap, subst}
+use Rattle.std.proofs.Common.{ap, subst, rules}
 use Rattle.der_core.specs.Words.{err_from_is_err_and, are_bytes, value_in, ◌>>=◌}
 use Rattle.spki_core.specs.Words.{record_read}
 use Rattle.pkcs1_params.specs.Words.{identified, EncodingOfFields}
@@ -17,7 +17,7 @@ pub returns-in_err-algorithm-clause-read : goal.returns-in_err-algorithm-clause-
 returns-in_err-algorithm-clause-read g c =
     let t = g.T.AlgorithmParams in
     let oid = g.T.Oid.AssociatedOid.contents in
-    let bytes = are_bytes _ (λ i. omega (arith, c.type_inv.bytes i)) in
+    let bytes = are_bytes c.args.bytes.now (search rules) in
     let p = err_from_is_err_and c.from_residual.result c.from_residual.ensures.1 in
     let fault = fault_without_memory (λ w. plain_never _ w.3) c.in_err-algorithm.ensures.exact in
     rw p.1
@@ -30,7 +30,7 @@ pub returns-clause-read : goal.returns-clause-read
 returns-clause-read g c =
     let t = g.T.AlgorithmParams in
     let oid = g.T.Oid.AssociatedOid.contents in
-    let bytes = are_bytes _ (λ i. omega (arith, c.type_inv.bytes i)) in
+    let bytes = are_bytes c.args.bytes.now (search rules) in
     answers_asn1_decode (AlgorithmEncoding oid (EncodingOfFields t.Is t.fields_of)) _ t.params _
     (algorithm_decodes oid g.T.Oid.AssociatedOid.valid t.form _ bytes) _
     (answers_asn1_behind t.params _ (identified oid (record_read t.form)) _ c.in_ok-algorithm.ensures.exact _
