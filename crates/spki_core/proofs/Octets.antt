@@ -1,7 +1,6 @@
 -- Steps of the test for identifiers: for `ends_well` and `of` of `src/object_identifier.rt`.
 use Rattle.std.proofs.Common.{Bool, true, false, nat_lt, ℕ, zero, suc, List, [], ◌∷◌, ◌≡◌, ◌≢◌, ◌<◌, ◌≤◌, ◌+◌, ◌-◌, ◌⊎◌, inr, length, take, drop, get_or, slice_index, refl, ap, ◌∙◌, arith}
 use Rattle.std.proofs.lemmas.List.{at_drop_more}
-use Rattle.der_core.specs.Words.{nat_tests}
 use Rattle.spki_core.specs.Words.{ends_well, ends_well_goes_on, has_no_128, starts_at}
 
 -- Whether a subidentifier starts at the next octet is told by this one.
@@ -22,12 +21,12 @@ ends_well_plain_from : (s : Bool) (n : ℕ) (c : List ℕ) → length c ≡ suc 
     → slice_index c n < 128
     → ends_well s c ≡ true
 ends_well_plain_from s n [] e h l = grind arith
-ends_well_plain_from true zero (b ∷ []) e h l = grind (arith, nat_tests)
-ends_well_plain_from false zero (b ∷ []) e h l = grind (arith, nat_tests)
+ends_well_plain_from true zero (b ∷ []) e h l = grind arith
+ends_well_plain_from false zero (b ∷ []) e h l = grind arith
 ends_well_plain_from s zero (b ∷ x ∷ xs) e h l = grind arith
 ends_well_plain_from s (suc n) (b ∷ bs) e h l =
-    let differs : b ≢ 128 = grind (arith, nat_tests) in
-    let later : has_no_128 (take n bs) ≡ true = grind (arith, nat_tests) in
+    let differs : b ≢ 128 = grind arith in
+    let later : has_no_128 (take n bs) ≡ true = grind arith in
     ends_well_goes_on s b bs (inr differs) ∙ ends_well_plain_from (nat_lt b 128) n bs (omega arith) later l
 
 pub ends_well_plain : (c : List ℕ) → 1 ≤ length c → has_no_128 (take (length c - 1) c) ≡ true

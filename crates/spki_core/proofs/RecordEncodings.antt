@@ -10,12 +10,12 @@ use Rattle.standard.specs.Statement.{AreAll, Decodes, Defaults, Field, Fields, F
 -- Lists by a function.
 length_upto : {X : Type 0} (n : ℕ) (f : ℕ → X) → length (upto n f) ≡ n
 length_upto zero f = refl
-length_upto (suc n) f = let e = length_upto n (λ i. f (suc i)) in omega (arith, e)
+length_upto (suc n) f = let e = length_upto n (λ i. f (suc i)) in omega arith
 
 pub index_upto : {X : Type 0} (n : ℕ) (f : ℕ → X) (d : X) (i : ℕ) → i < n → slice_index_or (upto n f) i d ≡ f i
-index_upto zero f d i less = absurd (omega (arith, less))
+index_upto zero f d i less = absurd (omega arith)
 index_upto (suc n) f d zero less = refl
-index_upto (suc n) f d (suc i) less = index_upto n (λ i. f (suc i)) d i (omega (arith, less))
+index_upto (suc n) f d (suc i) less = index_upto n (λ i. f (suc i)) d i (omega arith)
 
 upto_suc : {X : Type 0} (n : ℕ) (f : ℕ → X) → upto (suc n) f ≡ upto n f ++ f n ∷ []
 upto_suc zero f = refl
@@ -28,7 +28,7 @@ upto_more n f = let next : n + 1 ≡ suc n = omega arith in rw next (upto_suc n 
 pub sequence_grows : (c d : List ℕ) → length c ≤ length d → length d ≤ limit → length (sequence c) ≤ length (sequence d)
 sequence_grows c d less few =
     let g = octets_grow (length c) (length d) less few in
-    omega (arith, less, g, length-append (length_octets (length c)) c, length-append (length_octets (length d)) d)
+    omega (arith, length-append (length_octets (length c)) c, length-append (length_octets (length d)) d)
 
 module _ {V : Type 0} {Is : V → Type 0} {fields : V → List Field} (r : FieldRecord Is fields) where
   -- What the kernel prints of spellings is the SEQUENCE of the standard's fields.
@@ -128,7 +128,7 @@ module _ {V : Type 0} {Is : V → Type 0} {fields : V → List Field} (r : Field
       → length (encoding_under v i) ≤ limit → encoding_under v i ≡ encoding_under v j → i ≡ j
   masks_differ v i j ok less also few e =
       let one = prints_one (record_front_law r) (record_under r i v) (record_under r j v) [] [] (valid_under v i ok)
-      (valid_under v j ok) (omega (arith, few, ap length (append-nil (encoding_under v i)))) (ap (λ x. x ++ []) e) in
+      (valid_under v j ok) (omega (arith, ap length (append-nil (encoding_under v i)))) (ap (λ x. x ++ []) e) in
       sym (under_mask r.kinds 0 r.lawful i (r.split v) less) ∙ ap (mask_of r.kinds) one.0
       ∙ under_mask r.kinds 0 r.lawful j (r.split v) also
 
@@ -159,11 +159,11 @@ module _ {V : Type 0} {Is : V → Type 0} {fields : V → List Field} (r : Field
       let count = ap length is in
       let under = ap (λ w. length (encoding_under w 0)) e in
       let less : length (encoding_under v 0) ≤ length bytes =
-      elim ((tagged_shortest (record_shortest r) 48).least s ok (omega (arith, few, count))) [
-        | inl same ↦ omega (arith, count, ap (λ z. length (sequence (spelling_printed r.kinds z))) same, under)
-        | inr l ↦ omega (arith, l, count, under)
+      elim ((tagged_shortest (record_shortest r) 48).least s ok (omega arith)) [
+        | inl same ↦ omega (arith, ap (λ z. length (sequence (spelling_printed r.kinds z))) same)
+        | inr l ↦ omega arith
       ] in
-      (written_under v 0 q.0 (pow_pos (default_count v)) (omega (arith, less, few)), less)
+      (written_under v 0 q.0 (pow_pos (default_count v)) (omega arith), less)
 
   -- All of them.
   encoding_under_below_longest : (v : V) (mask : ℕ) → length (longest (fields v)) ≤ limit
@@ -174,11 +174,11 @@ module _ {V : Type 0} {Is : V → Type 0} {fields : V → List Field} (r : Field
       let l : length (spelling_printed r.kinds (record_under r mask v)) ≤ length all =
       rw (under_means r.kinds 0 r.lawful mask (r.split v)) at (full_last r.kinds (record_under r mask v)) in
       rw (r.fields_are v)
-      (sequence_grows (spelling_printed r.kinds (record_under r mask v)) all l (omega (arith, within, tlv_fit 48 all)))
+      (sequence_grows (spelling_printed r.kinds (record_under r mask v)) all l (omega (arith, tlv_fit 48 all)))
 
   pub encoding_under_fits : (v : V) (mask : ℕ) → length (longest (fields v)) ≤ limit
       → length (encoding_under v mask) ≤ limit
-  encoding_under_fits v mask few = let g = encoding_under_below_longest v mask few in omega (arith, g, few)
+  encoding_under_fits v mask few = let g = encoding_under_below_longest v mask few in omega arith
 
   -- Under the greatest mask it is the longest.
   pub full_longest : (v : V) (mask : ℕ) → mask + 1 ≡ 2 ^ default_count v → encoding_under v mask ≡ longest (fields v)

@@ -2,7 +2,7 @@
 -- isn't. For `src/strict.rt`, and strict reading of parameters.
 use Rattle.std.proofs.Common.{ℕ, List, [], ◌∷◌, ◌++◌, ◌≡◌, ◌≤◌, ◌+◌, length, refl, sym, subst, ap, ◌∙◌, arith, Bool, true, false, Option, Some, None, Result, Ok, Err, length-append, inl, inr, ◌↔◌, pow_pos}
 use Rattle.std.proofs.lemmas.Bool.{cases_Bool}
-use Rattle.der_core.specs.Words.{nat_tests, AreBytes, back_bytes, tlv_fit, whole_decodes, whole_takes, tagged_alike, whole_alike, bind_err, limit, value_in, is_next, tagged, whole, ◌>>=◌, checked_as, same_tag, context_octet, is_allowed, header_at, front_bytes}
+use Rattle.der_core.specs.Words.{AreBytes, back_bytes, tlv_fit, whole_decodes, whole_takes, tagged_alike, whole_alike, bind_err, limit, value_in, is_next, tagged, whole, ◌>>=◌, checked_as, same_tag, context_octet, is_allowed, header_at, front_bytes}
 use Rattle.der_core.specs.declared.error.ErrorKind.{ErrorKind}
 use Rattle.der_core.specs.declared.error.ErrorKind.TheVariants.{Incomplete, Noncanonical, TagUnknown}
 use Rattle.der_core.specs.declared.tag.Tag.{Tag}
@@ -35,9 +35,9 @@ noncanonical_is n tag is =
 first_written_none : (ks : List Kind) (s : Spelling ks) → (first_written ks s ≡ None) ↔ (mask_of ks s ≡ 0)
 first_written_none [] s = (λ e. refl, λ e. refl)
 first_written_none (k ∷ ks) (None, s) =
-    let later = first_written_none ks s in (λ e. omega (arith, later.0 e), λ e. later.1 (omega (arith, e)))
+    let later = first_written_none ks s in (λ e. omega arith, λ e. later.1 (omega arith))
 first_written_none (k ∷ ks) (Some x, s) = elim (cases_Bool (k.is_default x)) [
-  | inl is ↦ rw is (λ e. cc, λ e. absurd (omega (arith, e)))
+  | inl is ↦ rw is (λ e. cc, λ e. absurd (omega arith))
   | inr isnt ↦ rw isnt (first_written_none ks s)
 ]
 
@@ -72,15 +72,15 @@ walk_finds [] n m law numbered s bytes few = refl
 walk_finds (k ∷ ks) n m law numbered (None, s) bytes few =
     let is : k.is_default k.default ≡ true = (law.2 k.default).1 refl in
     let other : is_next (160 + m) (spelling_printed ks s) ≡ false =
-    spelled_not_next ks (k.number + 1) m (omega (arith, numbered.0)) law.4 s in
+    spelled_not_next ks (k.number + 1) m (omega arith) law.4 s in
     rw (is, other) (walk_finds ks (k.number + 1) (m + 1) law.4 numbered.1 s bytes few)
 walk_finds (k ∷ ks) n m law numbered (Some x, s) bytes few =
     let later =
     walk_finds ks (k.number + 1) (m + 1) law.4 numbered.1 s
     (back_bytes (field_printed k x) (spelling_printed ks s) bytes)
-    (omega (arith, few, length-append (field_printed k x) (spelling_printed ks s))) in
+    (omega (arith, length-append (field_printed k x) (spelling_printed ks s))) in
     let next : is_next (160 + m) (field_printed k x ++ spelling_printed ks s) ≡ true =
-    grind (arith, nat_tests, numbered.0) in
+    grind arith in
     elim (cases_Bool (k.is_default x)) [
       | inl is ↦ rw (is, next) (ap (λ i. Some i) (sym numbered.0))
       | inr isnt ↦ rw (isnt, any_front_of_field k x (spelling_printed ks s) bytes few) later
@@ -112,7 +112,7 @@ module _ {V : Type 0} {Is : V → Type 0} {fields : V → List Field} (r : Field
       elim (bind_err (whole (tagged tags.sequence_tag (spelling_read r.kinds)) bytes) _
       ((whole_alike (tagged_alike (record_alike r) tags.sequence_tag)).same bytes ∙ e)) [
         | inl p ↦ ap (λ x. x >>= strict_value r.kinds r.join) p
-        | inr s ↦ let never = s.2 in cc
+        | inr s ↦ cc
       ]
 
   -- a valid spelling is printed, within the limit
@@ -150,7 +150,7 @@ module _ {V : Type 0} {Is : V → Type 0} {fields : V → List Field} (r : Field
           let same : record_under r 0 v ≡ s = p.1 (record_under r 0 v) (q.0.1, valid_under r v 0 q.0.0, is) in
           let none : first_written r.kinds s ≡ None =
           ap (first_written r.kinds) (sym same) ∙ first_written_under_zero r.kinds r.lawful (r.split v) in
-          let never : None ≡ Some n = sym none ∙ found in cc
+          cc
 
       go : (o : Result (Spelling r.kinds) ErrorKind) → Decodes Stands bytes (value_in o)
           → Decodes (IsShortest RecordEncoding) bytes

@@ -46,16 +46,16 @@ identifier_cut (b ∷ bs) o =
     let rest : ends_well (nat_lt b 128) bs ≡ true
     → AreRestOfSubidentifiers (b ∷ bs) = elim (cases_Bool (nat_lt b 128)) [
       | inl small ↦ λ e.
-          let low : b < 128 = grind (arith, nat_tests, small) in
+          let low : b < 128 = grind (arith, nat_tests) in
           ([], b, bs, ih.0 (rw small at e), tt, low, refl)
       | inr large ↦ λ e.
-          let high : 128 ≤ b = grind (arith, nat_tests, large) in
+          let high : 128 ≤ b = grind (arith, nat_tests) in
           let r = ih.1 (rw large at e) in
           (b ∷ r.0, r.1, r.2, r.3, ((high, o.0), r.4), r.5, ap (λ l. b ∷ l) r.6)
     ] in (
       λ e.
           let t = and_parts (not (b == 128)) (ends_well (nat_lt b 128) bs) e in
-          let other : b ≢ 128 = grind (arith, nat_tests, t.0) in
+          let other : b ≢ 128 = grind (arith, nat_tests) in
           subidentifiers_of_rest (b ∷ bs) other (rest t.1),
       rest,
     )
@@ -66,14 +66,14 @@ rest_of_subidentifier_ends_well : (front : List ℕ) (last : ℕ) (rest : List �
 rest_of_subidentifier_ends_well [] last rest all low =
     let small : nat_lt last 128 ≡ true = grind (arith, nat_tests) in rw small refl
 rest_of_subidentifier_ends_well (b ∷ front) last rest all low =
-    let large : nat_lt b 128 ≡ false = grind (arith, nat_tests, all.0.0) in
+    let large : nat_lt b 128 ≡ false = grind (arith, nat_tests) in
     rw large (rest_of_subidentifier_ends_well front last rest all.1 low)
 
 -- An octet other than 128 goes on alike from the start and from within.
 pub ends_well_goes_on : (start : Bool) (b : ℕ) (bs : List ℕ) → (start ≡ false) ⊎ (b ≢ 128)
     → ends_well start (b ∷ bs) ≡ ends_well (nat_lt b 128) bs
 ends_well_goes_on start b bs (inl within) = rw within refl
-ends_well_goes_on true b bs (inr other) = let no : (b == 128) ≡ false = grind (arith, nat_tests) in rw no refl
+ends_well_goes_on true b bs (inr other) = let no : (b == 128) ≡ false = grind arith in rw no refl
 ends_well_goes_on false b bs (inr other) = refl
 
 subidentifier_ends_well : (front : List ℕ) (last : ℕ) (rest : List ℕ) → AreInner front → last < 128
@@ -96,8 +96,8 @@ pub is_identifier-sound : (c : List ℕ) → AreBytes c → is_identifier c ≡ 
 is_identifier-sound c o e =
     let t = and_parts (nat_lt 0 (length c) && nat_lt (length c) 40) (ends_well true c) e in
     let u = and_parts (nat_lt 0 (length c)) (nat_lt (length c) 40) t.0 in
-    let some : 0 < length c = grind (arith, nat_tests, u.0) in
-    let short : length c ≤ 39 = grind (arith, nat_tests, u.1) in
+    let some : 0 < length c = grind (arith, nat_tests) in
+    let short : length c ≤ 39 = grind (arith, nat_tests) in
     let p = (identifier_cut c o).0 t.1 in
     (p.0, count p.0 p.2 some, p.1, p.2, short)
   where

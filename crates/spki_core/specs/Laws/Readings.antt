@@ -2,7 +2,7 @@
 use Rattle.std.proofs.Common.{ℕ, true, false, List, ◌++◌, ◌≡◌, ◌≤◌, refl, sym, ap, ◌∙◌, inl, inr, subst, ⊎_elim, Ok, Err, IsTrue, arith}
 use Rattle.der_core.specs.declared.error.ErrorKind.TheVariants.{TagUnknown}
 use Rattle.der_core.specs.declared.tag.Tag.{Tag}
-use Rattle.der_core.specs.Words.{ok_pair, cond_cases, tlv_front_is_next, is_next_false, is_next_true, is_next_false_only, alone_reads, checked_as, tagged_reads, same_tag, FrontReading, alone, is_next, tagged, ReadsBy, ReadsFronts, context_octet, is_allowed, Tlv, nat_tests}
+use Rattle.der_core.specs.Words.{ok_pair, cond_cases, tlv_front_is_next, is_next_false, is_next_true, is_next_false_only, alone_reads, checked_as, tagged_reads, same_tag, FrontReading, alone, is_next, tagged, ReadsBy, ReadsFronts, context_octet, is_allowed, Tlv}
 use Rattle.spki_core.specs.Explicit.{FieldRead}
 use Rattle.spki_core.specs.Readings.{defaulted, explicit}
 
@@ -23,7 +23,7 @@ pub number_allowed : (n : ℕ) → n ≤ 30 → IsTrue (is_allowed (context_octe
 number_allowed n h = go n h
   where
     go : (n : ℕ) → n ≤ 30 → is_allowed (context_octet n) ≡ true
-    go n h = grind (arith, nat_tests)
+    go n h = grind arith
 
 module _ {V : Type 0} {encoding : V → List ℕ → Type 0} {at : FrontReading V} (law : ReadsFronts encoding at) (n : ℕ)
     (few : n ≤ 30) where
@@ -50,5 +50,5 @@ module _ {V : Type 0} {encoding : V → List ℕ → Type 0} {at : FrontReading 
           rw yes (explicit_reads.takes i b rest v w (split ∙ ap (λ r. b ++ r) same) p)
     ];
     tells = λ i k e.
-        ⊎_elim (λ w. explicit_reads.tells i k w.1) (λ w. let no = w.1 in cc) (cond_cases (is_next (context_octet n) i) _ _ _ e);
+        ⊎_elim (λ w. explicit_reads.tells i k w.1) (λ w. cc) (cond_cases (is_next (context_octet n) i) _ _ _ e);
   }

@@ -18,5 +18,5 @@ returns g c oid encoding held same (b, rest, is, asks) =
     append-nil (tlv 6 oid) ∙ sym only ∙ split ∙ ap (λ x. x ++ last) printed in
     let one =
     prints_one (tagged_law oid_law object_identifier_tag) oid o [] last held identifier
-    (omega (arith, few, ap length (append-nil (tlv 6 oid)))) both in
-    omega (arith, more, ap length one.1)
+    (omega (arith, ap length (append-nil (tlv 6 oid)))) both in
+    omega (arith, ap length one.1)

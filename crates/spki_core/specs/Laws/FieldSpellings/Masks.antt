@@ -43,14 +43,14 @@ under_valid (k ∷ ks) mask (x, v) ok =
 pub under_mask : (ks : List Kind) (n : ℕ) → AreLawful n ks → (mask : ℕ) (v : Values ks)
     → mask < 2 ^ number_of_defaults ks v
     → mask_of ks (spelling_under ks mask v) ≡ mask
-under_mask [] n law mask v less = omega (arith, less)
+under_mask [] n law mask v less = omega arith
 under_mask (k ∷ ks) n law mask (x, v) less =
     let later = λ (m : ℕ). under_mask ks (k.number + 1) law.4 m v in
     let half = λ (is : k.is_default x ≡ true).
     let below : mask < 2 ^ (number_of_defaults ks v + 1) = rw is at less in
-    later (mask / 2) (omega (arith, below, two_pow (number_of_defaults ks v))) in
-    by_field k ks mask x v (λ s. mask_of (k ∷ ks) s ≡ mask) (λ is even. grind (arith, nat_tests, even, half is))
-    (λ is odd. rw is (grind (arith, nat_tests, odd, half is))) (λ isnt. rw isnt (later mask (rw isnt at less)))
+    later (mask / 2) (omega (arith, two_pow (number_of_defaults ks v))) in
+    by_field k ks mask x v (λ s. mask_of (k ∷ ks) s ≡ mask) (λ is even. grind (arith, nat_tests, half is))
+    (λ is odd. rw is (grind (arith, nat_tests, half is))) (λ isnt. rw isnt (later mask (rw isnt at less)))
 
 -- The mask of a spelling is below two to the defaults, gives the spelling back, and is what `Statement.antt` calls so.
 pub spelling_masked : (ks : List Kind) (n : ℕ) → AreLawful n ks → (s : Spelling ks)
@@ -75,7 +75,7 @@ spelling_masked (k ∷ ks) n law (Some x, s) =
           let odd : ((2 * m + 1) % 2 == 0) ≡ false = grind (arith, nat_tests) in
           let half : (2 * m + 1) / 2 ≡ m = omega arith in
           let below : 2 * m + 1 < 2 ^ (number_of_defaults ks (spelling_means ks s) + 1) =
-          omega (arith, less, two_pow (number_of_defaults ks (spelling_means ks s))) in
+          omega (arith, two_pow (number_of_defaults ks (spelling_means ks s))) in
           rw (is, odd, half) (
             below,
             (λ i. (Some x, same i)),
@@ -93,11 +93,11 @@ fields_masked : (ks : List Kind) (n : ℕ) → AreLawful n ks → (mask : ℕ) (
 fields_masked [] n law mask v c p = (tt, refl, sym p.1, p.0)
 fields_masked (k ∷ ks) n law mask (x, v) c (inl (d, half, is, p)) =
     let (s, e, m, same) = fields_masked ks (k.number + 1) law.4 half v c p in
-    ((None, s), (λ i. (sym d i, e i)), omega (arith, is, m), same)
+    ((None, s), (λ i. (sym d i, e i)), omega arith, same)
 fields_masked (k ∷ ks) n law mask (x, v) c (inr (inl (d, half, is, later, split, p))) =
     let (s, e, m, same) = fields_masked ks (k.number + 1) law.4 half v later p in
     let yes : k.is_default x ≡ true = (law.2 x).1 d in
-    ((Some x, s), (λ i. (x, e i)), rw yes (omega (arith, is, m)), split ∙ ap (λ z. field_printed k x ++ z) same)
+    ((Some x, s), (λ i. (x, e i)), rw yes (omega arith), split ∙ ap (λ z. field_printed k x ++ z) same)
 fields_masked (k ∷ ks) n law mask (x, v) c (inr (inr (other, later, split, p))) =
     let (s, e, m, same) = fields_masked ks (k.number + 1) law.4 mask v later p in
     let no : k.is_default x ≡ false = false_from_ne_true _ (λ is. other ((law.2 x).0 is)) in
@@ -124,7 +124,7 @@ pub defaults_are : (ks : List Kind) (n : ℕ) → AreLawful n ks → (v : Values
 defaults_are [] n law v k p = p
 defaults_are (d ∷ ks) n law (x, v) k (inl (e, j, is, p)) =
     let yes : d.is_default x ≡ true = (law.2 x).1 e in
-    let same = defaults_are ks (d.number + 1) law.4 v j p in rw yes (omega (arith, is, same))
+    let same = defaults_are ks (d.number + 1) law.4 v j p in rw yes (omega arith)
 defaults_are (d ∷ ks) n law (x, v) k (inr (other, p)) =
     let no : d.is_default x ≡ false = false_from_ne_true _ (λ is. other ((law.2 x).0 is)) in
     rw no (defaults_are ks (d.number + 1) law.4 v k p)
@@ -150,7 +150,7 @@ full_last (k ∷ ks) (None, s) =
     omega (arith, full_last ks s, length-append (field_printed k k.default) (full ks (spelling_means ks s)))
 full_last (k ∷ ks) (Some x, s) =
     let front = length-append (field_printed k x) in
-    omega (arith, full_last ks s, front (full ks (spelling_means ks s)), front (spelling_printed ks s))
+    omega (arith, full_last ks s, front (spelling_printed ks s))
 
 -- It stands under the greatest mask.
 pub full_there : (ks : List Kind) (v : Values ks) (mask : ℕ) → mask + 1 ≡ 2 ^ number_of_defaults ks v
@@ -162,5 +162,5 @@ full_there (k ∷ ks) (x, v) mask is =
     let whole = λ (d : k.is_default x ≡ true).
     let e : mask + 1 ≡ 2 ^ (number_of_defaults ks v + 1) = rw d at is in e ∙ two_pow (number_of_defaults ks v) in
     by_field k ks mask x v (λ s. spelling_printed (k ∷ ks) s ≡ full (k ∷ ks) (x, v))
-    (λ d even. absurd (grind (arith, nat_tests, even, whole d)))
-    (λ d odd. later (mask / 2) (grind (arith, nat_tests, odd, whole d))) (λ other. later mask (rw other at is))
+    (λ d even. absurd (grind (arith, nat_tests)))
+    (λ d odd. later (mask / 2) (grind (arith, nat_tests, whole d))) (λ other. later mask (rw other at is))

@@ -15,16 +15,16 @@ pub spelled_not_next : (ks : List Kind) (n m : ℕ) → m < n → AreLawful n ks
     → is_next (160 + m) (spelling_printed ks s) ≡ false
 spelled_not_next [] n m less law s = refl
 spelled_not_next (k ∷ ks) n m less law (None, s) =
-    spelled_not_next ks (k.number + 1) m (omega (arith, less, law.0)) law.4 s
+    spelled_not_next ks (k.number + 1) m (omega arith) law.4 s
 spelled_not_next (k ∷ ks) n m less law (Some v, s) =
-    let other : m < k.number = omega (arith, less, law.0) in grind (arith, nat_tests, other)
+    grind (arith, nat_tests)
 
 pub spellings_law : (ks : List Kind) (n : ℕ) → AreLawful n ks
     → ReadsPrinted (AreSpelled ks) (spelling_printed ks) (spelling_read ks)
 spellings_law [] n law = end_law
 spellings_law (k ∷ ks) n law =
     optional_row_law (tagged_law (alone_law law.1) (tag_of k)) (spellings_law ks (k.number + 1) law.4)
-    (160 + k.number) (λ v x. grind (arith, nat_tests))
+    (160 + k.number) (λ v x. grind arith)
     (λ w ok. spelled_not_next ks (k.number + 1) k.number (omega arith) law.4 w)
 
 -- Spellings are what the standard calls fields.
@@ -68,17 +68,11 @@ shortest_first (k ∷ ks) n law (Some x, s) =
     elim (cases_Bool (k.is_default x)) [
       | inl is ↦ rw is (inr (elim (shortest_first ks (k.number + 1) law.4 s) [
         | inl e ↦ omega (arith, ap (λ z. length (spelling_printed ks z)) e, front (spelling_printed ks s))
-        | inr l ↦ omega (arith, l, front (spelling_printed ks s))
+        | inr l ↦ omega (arith, front (spelling_printed ks s))
       ]))
       | inr isnt ↦ rw isnt (elim (shortest_first ks (k.number + 1) law.4 s) [
         | inl e ↦ inl (λ i. (Some x, e i))
-        | inr l ↦ inr (omega (
-          arith,
-          l,
-          front (spelling_printed ks s),
-          front
-              (spelling_printed ks (spelling_under ks 0 (spelling_means ks s))),
-        ))
+        | inr l ↦ inr (omega (arith, front (spelling_printed ks s)))
       ])
     ]
 

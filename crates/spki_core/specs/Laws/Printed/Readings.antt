@@ -4,7 +4,7 @@ use Rattle.std.proofs.Common.{ℕ, false, List, ◌++◌, ◌≡◌, ◌<◌, �
 use Rattle.std.proofs.lemmas.Bool.{cases_Bool}
 use Rattle.der_core.specs.Words.{nat_tests, cond_cases, front_alike, tlv_is, tlv_made, last_law, front_reading_reads, alone_law, made_law, row_law, tagged_law, bind_ok, made_tells, ok_injective, by_tag_reads, Prints, ReadsFrontPrinted, ReadsPrinted, TellsOfBytes, FrontReading, Reading, ReadsContents, ReadsFronts, alone, by_tag, ◌>>=◌, context_octet, is_allowed, object_identifier_tag, front_of, header_at, reading_alike, alone_alike, last_alike, made_alike, row_alike, tagged_alike, ok_meant, ok_meant_front, ok_paired, ReadsAlike, ReadsFrontAlike, inside}
 use Rattle.der_core.specs.declared.error.ErrorKind.{ErrorKind}
-use Rattle.der_core.specs.declared.error.ErrorKind.TheVariants.{OidMalformed, TagUnknown}
+use Rattle.der_core.specs.declared.error.ErrorKind.TheVariants.{OidMalformed}
 use Rattle.spki_core.specs.Identifiers.{algorithm_contents, algorithm_map}
 use Rattle.spki_core.specs.Explicit.{HasNumbered, Numbered, written_numbered, numbered_map}
 use Rattle.spki_core.specs.IdentifierTest.{is_identifier}
@@ -49,7 +49,7 @@ module _ {S : Type 0} {valid : S → Type 0} (octet : S → ℕ) (contents : S �
   inner_reads t ok = record {
     gives = λ c s bytes e. let h = (inner t ok).gives c s bytes e in (h.0.0, (h.0.1, h.1));
     takes = λ c s few p.
-        ap (read t) p.1.1 ∙ (inner t ok).takes s (p.0, p.1.0) (omega (arith, few, ap length p.1.1));
+        ap (read t) p.1.1 ∙ (inner t ok).takes s (p.0, p.1.0) (omega (arith, ap length p.1.1));
     tells = tells t;
   }
 
@@ -63,7 +63,7 @@ module _ {S : Type 0} {valid : S → Type 0} (octet : S → ℕ) (contents : S �
         takes = λ s rest ok few.
             old.takes (tlv (octet s) (contents s) ++ rest) (tlv (octet s) (contents s)) rest s few refl
             (tlv_made (octet s) (contents s) (ok, refl)
-            (omega (arith, few, length-append (tlv (octet s) (contents s)) rest)));
+            (omega (arith, length-append (tlv (octet s) (contents s)) rest)));
         tells = old.tells;
       }
 
@@ -91,7 +91,7 @@ module _ {S : Type 0} {valid : S → Type 0} {printed : S → List ℕ} {at : Fr
     (law : ReadsFrontPrinted valid printed at) where
   numbered_in_tells : (t : ℕ) (c : List ℕ) (k : ErrorKind) → numbered_in at t c ≡ Err k → TellsOfBytes k
   numbered_in_tells t c k e =
-      ⊎_elim (λ w. let same : TagUnknown t ≡ k = let q = w.1 in cc in (λ no. cc, λ no. cc, λ no. cc))
+      ⊎_elim (λ w. (λ no. cc, λ no. cc, λ no. cc))
       (λ w. made_tells (λ x. record { number = t - 160; value = x }) (alone at c) ((alone_law law).tells c k) w.1)
       (cond_cases (nat_lt t 160 || nat_lt 190 t) _ _ _ e)
 
@@ -103,15 +103,15 @@ module _ {S : Type 0} {valid : S → Type 0} {printed : S → List ℕ} {at : Fr
         ⊎_elim (λ w. let no = w.1 in cc)
         (λ w.
         let s = bind_ok (alone at c) _ w.1 in
-        let low : 160 ≤ t = grind (arith, nat_tests, w.0) in
-        let high : t ≤ 190 = grind (arith, nat_tests, w.0) in
+        let low : 160 ≤ t = grind (arith, nat_tests) in
+        let high : t ≤ 190 = grind (arith, nat_tests) in
         let h = (alone_law law).gives c s.0 bytes s.1 in
         subst (λ (v : Numbered S). ((context_octet v.number ≡ t) × HasNumbered valid v) × (c ≡ printed v.value))
-        (ok_injective s.2) ((omega (arith, low), (omega (arith, low, high), h.0)), h.1))
+        (ok_injective s.2) ((omega arith, (omega arith, h.0)), h.1))
         (cond_cases (nat_lt t 160 || nat_lt 190 t) _ _ _ e);
     takes = λ v ok few.
-        let inside : (nat_lt t 160 || nat_lt 190 t) ≡ false = grind (arith, nat_tests, ok.0, ok.1.0) in
-        let number : t - 160 ≡ v.number = omega (arith, ok.0) in
+        let inside : (nat_lt t 160 || nat_lt 190 t) ≡ false = grind (arith, nat_tests) in
+        let number : t - 160 ≡ v.number = omega arith in
         rw inside
         (ap (λ r. r >>= λ x. Ok (record { number = t - 160; value = x })) ((alone_law law).takes v.value ok.1.1 few)
         ∙ ap (λ n. Ok (record { number = n; value = v.value })) number);

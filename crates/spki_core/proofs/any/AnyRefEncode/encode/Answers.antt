@@ -14,7 +14,7 @@ returns-in_err-write-clause-appends g c =
     let p = err_from_is_err_and c.from_residual-in_err-write.result c.from_residual-in_err-write.ensures.1 in
     let any = any_of c.args.self.now in
     let all = c.in_ok-encoded_len.ensures.counted in
-    let few : length (written_any any) ≤ limit = omega (arith, all.1) in
+    let few : length (written_any any) ≤ limit = omega arith in
     rw (p.1, p.2) (no_header any.tag any.contents c.header.ensures.length _ (search rules) few all.0
     c.in_err-write.ensures.err c.in_err-write.ensures.nothing.0)
 
@@ -27,7 +27,7 @@ pub returns-clause-appends : goal.returns-clause-appends
 returns-clause-appends g c =
     let any = any_of c.args.self.now in
     let all = c.in_ok-encoded_len.ensures.counted in
-    let few : length (written_any any) ≤ limit = omega (arith, all.1) in
+    let few : length (written_any any) ≤ limit = omega arith in
     behind_header any.tag any.contents c.header.ensures.length c.to_bytes.result.items (search rules) few {here = Unit {0}} all.0 tt
     (search rules) (search rules)
     (appends_at_once _ tt c.args.self.now.bounded c.write-2.ensures.written c.write-2.ensures.room c.write-2.ensures.err

@@ -8,13 +8,11 @@ use Rattle.spki_core.proofs.identifier_view.IdentifierView.from_bytes.Goals as g
 pub returns-then-not-is_identifier-clause-err : goal.returns-then-not-is_identifier-clause-err
 returns-then-not-is_identifier-clause-err c = (
   ap (λ e. e.kind) c.new.ensures,
-  λ is. let yes = is_identifier-complete c.args.bytes.now is in
-      let no = c.is_identifier.ensures in let f = c.if-not-is_identifier.true in cc,
+  λ is. let yes = is_identifier-complete c.args.bytes.now is in cc,
 )
 
 -- At the end, where the test is passed: only identifiers pass it. The view is over the same octets.
 pub returns-clause-ok : goal.returns-clause-ok
 returns-clause-ok c =
-    let yes : is_identifier c.args.bytes.now ≡ true =
-    let no = c.is_identifier.ensures in let f = c.if-not-is_identifier.false in cc in
+    let yes : is_identifier c.args.bytes.now ≡ true = cc in
     (is_identifier-sound c.args.bytes.now (are_bytes c.args.bytes.now (search rules)) yes, c.over.ensures)

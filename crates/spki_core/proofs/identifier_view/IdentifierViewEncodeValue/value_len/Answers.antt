@@ -10,4 +10,4 @@ returns-clause-counts c =
     let oid = c.args.self.now in
     let held = viewed_held oid in
     let same : c.of.result ≡ length (identifier_octets oid) = c.of.ensures ∙ c.octet_count.ensures in
-    let few : length (identifier_octets oid) ≤ limit = omega (arith, held.4) in (held, same, rw same few)
+    let few : length (identifier_octets oid) ≤ limit = omega arith in (held, same, rw same few)
