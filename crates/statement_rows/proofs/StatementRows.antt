@@ -226,6 +226,11 @@ unfolding hex digit length_octets
 container_of_any_algorithm_encoded =
     (omega arith, (two_parts_are_identifier, tt), (omega arith, tt), (omega arith, tt), refl)
 
+-- Whatever else the container holds.
+contained_key_encoded : (c : Container) (bytes : List ℕ) → ContainerEncoding c bytes → c.algorithm ≡ rsa_encryption
+    → PrivateKeyEncoding small_private_key c.private_key → ContainedKeyEncoding small_private_key bytes
+contained_key_encoded c bytes is under holds = (c, is, under, holds)
+
 attribute_of_256 : (bytes : List ℕ)
     → ContainerEncoding (record { algorithm = rsa_encryption; private_key = []; attributes = Some (256 ∷ []) }) bytes
     → ⊥
