@@ -1,5 +1,5 @@
 // Makes the allocation of the number REFUSED fail, and those behind it up to the number REFUSED_TO, if that is set. It
-// reports each on descriptor 9. Preloaded by refuse_memory.sh.
+// reports each on descriptor 9. No file is synced, and if UNSYNCED is set, none can be. Preloaded by refuse_memory.sh.
 #include <errno.h>
 #include <stdlib.h>
 #include <unistd.h>
@@ -23,4 +23,9 @@ void *malloc(size_t size) {
 
 void *realloc(void *old, size_t size) {
     return is_refused() ? NULL : __libc_realloc(old, size);
+}
+
+int fsync(int file) {
+    errno = EIO;
+    return file < 0 || getenv("UNSYNCED") != NULL ? -1 : 0;
 }

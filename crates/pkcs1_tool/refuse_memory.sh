@@ -2,9 +2,9 @@
 # Out of memory: runs the built program with each of its allocations failing in turn, one in each run, until a run makes
 # no more. A run with a failed allocation must report that it is out of memory and exit with 1. Of the stored input, and
 # of the rows, it has then written the whole output for the first lines, however many; when it copies a key, OUT is
-# unchanged; allocations for the arguments fail too. A run without a failed allocation must do what was asked. Called by
-# .ci/run and ffi/tests/check.sh after run_built.sh; it needs gcc. It prints any other result, and then exits with 1; the
-# last line counts.
+# unchanged; allocations for the arguments fail too. A run without a failed allocation must do what was asked. One run
+# more can't sync its new file. Called by .ci/run and ffi/tests/check.sh after run_built.sh; it needs gcc. It prints any
+# other result, and then exits with 1; the last line counts.
 set -u
 # All of it ends in ten minutes, of which it takes seconds.
 [ -n "${LIMITED-}" ] || LIMITED=1 exec timeout 600 "$0" "$@"
@@ -87,6 +87,15 @@ copies() {
     some "copy $1 $2"
 }
 
+# syncs: a new file that can't be synced isn't renamed.
+syncs() {
+    number=0
+    printf old > "$room/out.der"
+    UNSYNCED=1 refusing 0 copy priv in.der out.der
+    { [ "$status:$(cat "$room/error")" = "1:writing out.der: a write failed" ] && [ "$(cat "$room/out.der")" = old ] &&
+        [ ! -e "$room/.pkcs1_tool" ]; } || fails "a file that can't be synced"
+}
+
 # words ARGUMENT..: arguments for which the usage is printed.
 words() {
     number=1
@@ -111,6 +120,7 @@ for program in "${built[@]}"; do
         copies pub 3006020107020103
         copies priv 301b02010002010702010302010502010b02010d020102020104020106
         copies priv 302802010102010702010302010502010b02010d020102020104020106300b3009020111020102020103
+        syncs
         words copy pem in.der out.der
     fi
 done
