@@ -1,12 +1,12 @@
 -- A SubjectPublicKeyInfo as its grammar has it, and the RSA key in it. For `src/rsa.rt`.
-use Rattle.std.proofs.Common.{ℕ, List, [], ◌∷◌, ◌++◌, ◌≡◌, ◌≤◌, ◌∙◌, refl, sym, ap, subst, append-nil, Option, Some, None, take, length, length-append, arith, rules, Ok, Err}
-use Rattle.der_core.specs.Words.{StatedAs, stated, Spells, optional_itself, tlv_fit}
+use Rattle.std.proofs.Common.{ℕ, List, [], ◌∷◌, ◌++◌, ◌≡◌, ◌≤◌, ◌∙◌, refl, sym, ap, subst, append-nil, Option, Some, None, take, length, length-append, arith, rules, Ok, Err, Result}
+use Rattle.der_core.specs.Words.{EncodeError, StatedAs, Unwritten, another, no_encoding, no_room, stated, Spells, too_long, optional_itself, tlv_fit, ◌>>=◌}
 use Rattle.spki_core.specs.Words.{algorithm_map, is_identifier-sound}
 use Rattle.der_core.specs.declared.error.ErrorKind.{ErrorKind}
 use Rattle.pkcs1.proofs.RsaEncryption.{rsa_taken}
-use Rattle.pkcs1.specs.Words.{rsa_only}
-use Rattle.standard.specs.Statement.{Algorithm, Decodes, Encodes, IsAlgorithm, IsAny, PublicKey, TagAndContents, algorithm, any, integers, limit, rsa_encryption, sequence, tlv}
-use Rattle.spki_keys.specs.KeyInfo.{RsaKeyInfoEncoding}
+use Rattle.pkcs1.specs.Words.{public_stated, rsa_only}
+use Rattle.standard.specs.Statement.{Algorithm, Decodes, Encodes, IsAlgorithm, IsAny, IsShortest, PublicKey, TagAndContents, algorithm, any, integers, limit, rsa_encryption, sequence, tlv}
+use Rattle.spki_keys.specs.KeyInfo.{KeyInfoRow, RsaKeyInfoEncoding, key_info_read, rsa_key_in, rsa_key_info_read}
 
 -- A key with any algorithm, and its encoding.
 pub record KeyInfo : Type 0 where
@@ -25,9 +25,6 @@ KeyInfoEncoding v bytes =
     × (bytes ≡ key_info_octets v.algorithm (key_octets v.key))
 
 -- What is printed of its row is what that says.
-abbrev KeyInfoRow : Type 0
-KeyInfoRow = Algorithm TagAndContents × ((ℕ × (ℕ × Unit {0})) × Unit {0})
-
 abbrev IsKeyInfoRow : KeyInfoRow → Type 0
 IsKeyInfoRow v = IsAlgorithm IsAny v.0 × ((Unit {0} × (Unit {0} × Unit {0})) × Unit {0})
 
@@ -69,6 +66,11 @@ rsa_encryption_is = (is_identifier-sound rsa_encryption.oid (search rules) refl,
 -- So what `require_rsa_encryption` refuses is another one.
 pub refused_is_another : (a : Algorithm TagAndContents) (k : ErrorKind) → rsa_only a ≡ Err k → a ≡ rsa_encryption → ⊥
 refused_is_another a k refused same = let never : Err k ≡ Ok tt = sym refused ∙ rsa_taken a same in cc
+
+-- What is read of a key whose algorithm was read, and then accepted or refused.
+pub rsa_key_told : (bytes : List ℕ) (v : KeyInfoRow) (r : Result (Unit {0}) ErrorKind) → key_info_read bytes ≡ Ok v
+    → rsa_only v.0 ≡ r → rsa_key_info_read bytes ≡ r >>= λ _. Ok (public_stated v.1.0)
+rsa_key_told bytes v r is told = ap (λ p. p >>= rsa_key_in) is ∙ ap (λ p. p >>= λ _. Ok (public_stated v.1.0)) told
 
 -- An encoding of a key is one of the algorithm and the key.
 abbrev rsa_key_info : PublicKey → KeyInfo
@@ -117,17 +119,27 @@ no_key_read bytes never = λ key p. never (rsa_key_info key) (rsa_key_encoded ke
 rsa_key_info_is : (v : KeyInfo) → v.algorithm ≡ rsa_encryption → rsa_key_info v.key ≡ v
 rsa_key_info_is v rsa i = record { algorithm = sym rsa i; key = v.key }
 
+-- An encoding of the key is one of both.
+key_encoded_as : (v : KeyInfo) (bytes : List ℕ) → v.algorithm ≡ rsa_encryption → RsaKeyInfoEncoding v.key bytes
+    → KeyInfoEncoding v bytes
+key_encoded_as v bytes rsa p =
+    subst (λ w. KeyInfoEncoding w bytes) (rsa_key_info_is v rsa) (rsa_key_encoded v.key bytes p)
+
+rsa_key_shortest : (v : KeyInfo) (bytes : List ℕ) → v.algorithm ≡ rsa_encryption
+    → IsShortest KeyInfoEncoding v bytes → IsShortest RsaKeyInfoEncoding v.key bytes
+rsa_key_shortest v bytes rsa e =
+    (key_info_encoded v bytes rsa e.0, λ other p. e.1 other (key_encoded_as v other rsa p))
+
 pub rsa_key_written : (v : KeyInfo) (old new : List ℕ) (n : Option ℕ) → v.algorithm ≡ rsa_encryption
     → Encodes KeyInfoEncoding v old new n → Encodes RsaKeyInfoEncoding v.key old new n
-rsa_key_written v old new (Some n) rsa e = (
-  e.0,
-  (
-    key_info_encoded v (take n new) rsa e.1.0,
-    λ other p. e.1.1 other (subst (λ w. KeyInfoEncoding w other) (rsa_key_info_is v rsa) (rsa_key_encoded v.key other p)),
-  ),
-  e.2,
-)
-rsa_key_written v old new None rsa e = (
-  e.0,
-  λ bytes p. e.1 bytes (subst (λ w. KeyInfoEncoding w bytes) (rsa_key_info_is v rsa) (rsa_key_encoded v.key bytes p)),
-)
+rsa_key_written v old new (Some n) rsa e = (e.0, rsa_key_shortest v (take n new) rsa e.1, e.2)
+rsa_key_written v old new None rsa e = (e.0, λ bytes p. e.1 bytes (key_encoded_as v bytes rsa p))
+
+-- And what wasn't written for a reason, wasn't for the same.
+pub rsa_key_unwritten : (v : KeyInfo) (room : ℕ) (e : EncodeError) → v.algorithm ≡ rsa_encryption
+    → Unwritten (λ w. IsAlgorithm IsAny w.algorithm) KeyInfoEncoding v room e
+    → Unwritten (λ _. Unit {0}) RsaKeyInfoEncoding v.key room e
+rsa_key_unwritten v room no_encoding rsa never = λ _. never (subst (IsAlgorithm IsAny) (sym rsa) rsa_encryption_is)
+rsa_key_unwritten v room too_long rsa (is, none) = (tt, λ bytes p. none bytes (key_encoded_as v bytes rsa p))
+rsa_key_unwritten v room no_room rsa (bytes, shortest, less) = (bytes, rsa_key_shortest v bytes rsa shortest, less)
+rsa_key_unwritten v room another rsa never = never

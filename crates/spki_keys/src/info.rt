@@ -1,4 +1,6 @@
 //! SubjectPublicKeyInfo (RFC 5280 4.1.2.7): a record that holds any key in a BIT STRING.
+ghost use Rattle.std.specs.Prelude.{◌⊎◌};
+
 use der_core::{
     BackWriter, BitString, Borrowed, Containing, Encode, EncodeInParts, EncodeValue, Encoding,
     Length, Record, Result, SequenceTag, TaggedBy, Writer,
@@ -36,6 +38,8 @@ impl<A: Encoding, K: Encoding> Record for SubjectPublicKeyInfo<A, K> {
 }
 
 impl<A: Encode, K: Encode> EncodeInParts for SubjectPublicKeyInfo<A, K> {
+    ghost refused = { λ tag. A.Encode.refused tag ⊎ (K.Encode.refused tag ⊎ ⊥) };
+
     fn parts_len(&self) -> Result<Length> {
         (Borrowed(&self.algorithm), (Borrowed(&self.key), ())).value_len()
     }
