@@ -2,5 +2,6 @@
 pub mod CutAtByte
 pub mod Runs
 pub mod OneAnswer
+pub mod SequenceFronts
 pub mod AppendedOutput
 pub mod Verdicts

@@ -1,5 +1,5 @@
 -- What copying a key does.
-use Rattle.std.specs.Prelude.{◌≡◌, ◌≢◌, ◌⊎◌, ℕ, List, ◌++◌, Option, Some, None, Err, codes}
+use Rattle.std.specs.Prelude.{◌≡◌, ◌≢◌, ◌⊎◌, ℕ, List, ◌++◌, Option, Some, None, Ok, Err, codes}
 use Rattle.std.specs.Io.KnownBytes.{Consumes}
 use Rattle.der_core.specs.declared.error.ErrorKind.{ErrorKind}
 use Rattle.der_core.specs.declared.error.ErrorKind.TheVariants as kind
@@ -16,6 +16,10 @@ abbrev pub CopiesKey : {V Place : Type 0} → (V → List ℕ → Type 0) → Op
     → (Place → List ℕ → Type 0) → Option Place → Type 0
 CopiesKey Encoding before after Takes output = (encoding : List ℕ) × GivesAll before after encoding
     × IsEncoded Encoding encoding × (place : _) × (output ≡ Some place) × Takes place encoding
+
+-- These bytes are a SEQUENCE, or too few for one.
+abbrev pub IsSequenceFront : List ℕ → Type 0
+IsSequenceFront bytes = (read_document bytes ≡ Ok tt) ⊎ (read_document bytes ≡ Err kind.Incomplete)
 
 -- What came isn't a beginning of a SEQUENCE: this is its fault, and it isn't that it is too short.
 abbrev pub GivesWrong : ErrorKind → Option (List ℕ) → Option (List ℕ) → Type 0

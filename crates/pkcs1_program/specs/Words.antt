@@ -1,6 +1,6 @@
 -- The words that contracts and proofs cite, from all files of specs.
 pub use Rattle.pkcs1_program.specs.Answer.{Answer, AnswerTo, Answered, ListedEncoding, Output, Outputs, PairAnswer, Puts, PutsAnswer, RsaContainerEncoding, SaysWhether, TellsContainer, TellsParameters, TellsSame, TellsSpellings, TellsStrict, TellsValue, WordAnswer, any_digits, attributes_field, bracketed_digits, hash_and_mask_fields, hex_field, identifier_digits, key_fields, key_number_fields, mask_digits, number_field, oaep_answer, other_prime_field, other_prime_fields, p8_answer, plain_digits, priv_answer, pss_answer, pub_answer, spell_answer, spelling_fields, version_field}
-pub use Rattle.pkcs1_program.specs.Copied.{CopiesAt, CopiesFile, CopiesKey, GivesWrong, PlaceRefuses, WhyFileNotRead, WhyKeyNotCopied, WhyKeyNotRead, WhyNotCopied, file_error_text, file_of, write_error_text}
+pub use Rattle.pkcs1_program.specs.Copied.{CopiesAt, CopiesFile, CopiesKey, GivesWrong, IsSequenceFront, PlaceRefuses, WhyFileNotRead, WhyKeyNotCopied, WhyKeyNotRead, WhyNotCopied, file_error_text, file_of, write_error_text}
 pub use Rattle.pkcs1_program.specs.Fault.{IsMemoryError, fault_text}
 pub use Rattle.pkcs1_program.specs.Plan.{IsDone, exit_status_of, planned_by, task_of}
 pub use Rattle.pkcs1_program.specs.Replaced.{Aim, Filled, FillsFile, ObtainsNew, PutsFile, PutsAt, RefusesFile, RefusesAt, SinkStops, SinkTakes, absent, aim_of, aimed, in_place, refused, replaced, stopped, whole}

@@ -1,32 +1,36 @@
 //! Reading a source as long as what came may begin a SEQUENCE.
-ghost use Rattle.std.specs.Prelude.{◌≡◌, ◌≢◌, ◌≤◌, ◌⊎◌, length, IfOk, IfErr, IfSome, OnOk};
+ghost use Rattle.std.specs.Prelude.{◌≡◌, ◌≢◌, ◌≤◌, ◌⊎◌, length, IfOk, IfErr, IfNone, IfSome, IsTrue, OnOk};
 ghost use Rattle.der_core.specs.Words.{GivesAll, WhyReadingStopped, limit, read_document};
-ghost use Rattle.pkcs1_program.specs.Words.{GivesWrong};
+ghost use Rattle.pkcs1_program.specs.Words.{GivesWrong, IsSequenceFront};
 
-use der_core::{Document, Error, ErrorKind, Header, Length, Result, SliceReader, Source};
+use der_core::{
+    Document, Error, ErrorKind, Header, Length, Reader, Result, SliceReader, Source, Tag,
+};
 use std::alloc::Global;
 
 /// How many bytes are read at once.
 const PIECE: usize = 65536;
 
 /// Whether the bytes begin with the header of a SEQUENCE, and aren't more than this announces.
-fn is_front(bytes: &[u8]) -> bool {
+fn is_front(bytes: &[u8]) -> bool
+    ensures { IsTrue result → IsSequenceFront bytes.now }
+{
     let Ok(mut reader) = SliceReader::new(bytes) else {
         return false;
     };
     match Header::decode(&mut reader) {
         Ok(header) => {
-            let contents = header.length.to_usize();
-            let octets = header.to_bytes();
-            bytes.starts_with(b"\x30") && bytes.len() <= octets.len().saturating_add(contents)
+            header.tag.octet() == Tag::SEQUENCE.octet()
+                && reader.remaining_len().to_usize() <= header.length.to_usize()
         }
         Err(_) => false,
     }
 }
 
-/// The fault of bytes that aren't a beginning of a SEQUENCE. Nothing is allocated for those that are one.
+/// The fault of bytes that aren't a beginning of a SEQUENCE; `None` of those that are. Nothing is allocated for these.
 fn fault_of(alloc: Global, bytes: &[u8]) -> Option<Error>
-    ensures { IfSome result (λ e. (read_document bytes.now ≡ Err e.kind) × (e.kind ≢ ErrorKind.Incomplete)) }
+    ensures fault { IfSome result (λ e. (read_document bytes.now ≡ Err e.kind) × (e.kind ≢ ErrorKind.Incomplete)) }
+    ensures front { IfNone result (IsSequenceFront bytes.now) }
 {
     if is_front(bytes) {
         return None;
@@ -46,6 +50,7 @@ fn fault_of(alloc: Global, bytes: &[u8]) -> Option<Error>
 /// what came has this fault as a document, which isn't that it is too short. What was read before an error is lost.
 pub fn read_sequence<R: Source>(alloc: Global, source: &mut R) -> Result<Vec<u8>>
     ensures all { IfOk result (λ bytes. GivesAll (R.remaining source.old) (R.remaining source.new) bytes.items) }
+    ensures front { IfOk result (λ bytes. IsSequenceFront bytes.items) }
     ensures quiet { OnOk result (R.failures source.new ≡ R.failures source.old) }
     ensures err { IfErr result (λ e. WhyReadingStopped limit e.kind (R.remaining source.old) (R.remaining source.new)
         (R.failures source.old) (R.failures source.new)
