@@ -57,10 +57,11 @@ abbrev pub CopiesFile : {V F : Type 0} → (V → List ℕ → Type 0) → (Opti
 CopiesFile Encoding Opens remaining Takes =
     (encoding : List ℕ) × FileGives Opens remaining encoding × IsEncoded Encoding encoding × Takes encoding
 
--- The same from path to path.
+-- The same from path to path. What is written may depend on both.
 abbrev pub CopiesAt : {V F : Type 0} → (V → List ℕ → Type 0) → (List ℕ → Option F → Type 0) → (F → Option (List ℕ))
-    → (List ℕ → List ℕ → Type 0) → List ℕ → List ℕ → Type 0
-CopiesAt Encoding opens remaining Takes input output = CopiesFile Encoding (opens input) remaining (Takes output)
+    → (List ℕ → List ℕ → List ℕ → Type 0) → List ℕ → List ℕ → Type 0
+CopiesAt Encoding opens remaining Takes input output =
+    CopiesFile Encoding (opens input) remaining (Takes input output)
 
 -- No key was read from a file: it can't be opened; or it was, and no key was read from it.
 abbrev pub WhyFileNotRead : {V F : Type 0} → Reading V → (Option F → Type 0) → (F → Option (List ℕ)) → (F → ℕ)

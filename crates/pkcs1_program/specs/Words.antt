@@ -3,6 +3,6 @@ pub use Rattle.pkcs1_program.specs.Answer.{Answer, AnswerTo, Answered, ListedEnc
 pub use Rattle.pkcs1_program.specs.Copied.{CopiesAt, CopiesFile, CopiesKey, GivesWrong, IsSequenceFront, PlaceRefuses, WhyFileNotRead, WhyKeyNotCopied, WhyKeyNotRead, WhyNotCopied, file_error_text, file_of, write_error_text}
 pub use Rattle.pkcs1_program.specs.Fault.{IsMemoryError, fault_text}
 pub use Rattle.pkcs1_program.specs.Plan.{IsDone, exit_status_of, planned_by, task_of}
-pub use Rattle.pkcs1_program.specs.Replaced.{Aim, Filled, FillsFile, ObtainsNew, PutsFile, PutsAt, RefusesFile, RefusesAt, SinkStops, SinkTakes, absent, aim_of, aimed, in_place, refused, replaced, stopped, whole}
+pub use Rattle.pkcs1_program.specs.Replaced.{Aim, Filled, Fills, FillsFile, ObtainsNew, PutsFile, PutsAt, RefusesFile, RefusesAt, SinkStops, SinkTakes, absent, aim_of, aimed, in_place, refused, replaced, stopped, whole}
 pub use Rattle.pkcs1_program.specs.Request.{Asked, asked_by, asked_by_parts, asked_with, asks, asks_pair, bad_line, decoded, encoding_in_hex, lines_of, longest_input, pair_asked_with, pair_words, parts_of, request_seen, value_named, words}
 pub use Rattle.pkcs1_program.specs.Written.{MakesFirst, MakesOutput, WritesFirst, WritesFront, WritesFrontOfAll, WritesHeld, WritesOut, WritesOutput}

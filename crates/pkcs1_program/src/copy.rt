@@ -1,5 +1,5 @@
 //! Copying keys from a source to a place, and from file to file.
-ghost use Rattle.std.specs.Prelude.{◌≡◌, ℕ, List, Err, IfOk, IfErr, OnOk};
+ghost use Rattle.std.specs.Prelude.{◌≡◌, ℕ, List, Err, IfOk, IfErr, OnOk, option_map};
 ghost use Rattle.std.specs.Path.{path_bytes};
 ghost use Rattle.der_core.specs.Words.{GivesAll, Reading};
 ghost use Rattle.pkcs1.specs.Words.{IsEncoded, rsa_private_key, rsa_public_key};
@@ -142,12 +142,13 @@ fn copy_file<'a, K: Copied, F: ReplaceFiles>(
         F.Created.failures in
         let new = FillsFile F.creates_new F.New.is_closed F.New.contents F.New.is_flushed F.New.failures in
         OnOk result (CopiesFile K.encoding (F.opens (path_bytes input.entry)) F.Opened.remaining
-        (PutsFile F.aims old new F.renames (path_bytes output.entry))) }
+        (PutsFile (F.aims (option_map path_bytes rights.entry)) old new F.renames (path_bytes output.entry))) }
     ensures err { let old = FillsFile F.opens_in_place F.Created.is_closed F.Created.contents F.Created.is_flushed
         F.Created.failures in
         let new = FillsFile F.creates_new F.New.is_closed F.New.contents F.New.is_flushed F.New.failures in
         IfErr result (WhyNotCopied K.encoding K.given (F.opens (path_bytes input.entry)) F.Opened.remaining
-        F.Opened.failures (RefusesFile F.aims old new F.renames F.removes (path_bytes output.entry))) }
+        F.Opened.failures (RefusesFile (F.aims (option_map path_bytes rights.entry)) old new F.renames F.removes
+        (path_bytes output.entry))) }
 {
     let mut source = files.open(input)?;
     let place = FileAt::new(files, alloc, output, rights);
@@ -169,13 +170,13 @@ pub fn copy_pub<'a, F: ReplaceFiles>(
         F.Created.failures in
         let new = FillsFile F.creates_new F.New.is_closed F.New.contents F.New.is_flushed F.New.failures in
         OnOk result (CopiesFile PublicKeyEncoding (F.opens (path_bytes input.entry)) F.Opened.remaining
-        (PutsFile F.aims old new F.renames (path_bytes output.entry))) }
+        (PutsFile (F.aims None) old new F.renames (path_bytes output.entry))) }
     ensures err { let old = FillsFile F.opens_in_place F.Created.is_closed F.Created.contents F.Created.is_flushed
         F.Created.failures in
         let new = FillsFile F.creates_new F.New.is_closed F.New.contents F.New.is_flushed F.New.failures in
         IfErr result (λ told. WhyNotCopied PublicKeyEncoding rsa_public_key (F.opens (path_bytes input.entry))
         F.Opened.remaining F.Opened.failures
-        (RefusesFile F.aims old new F.renames F.removes (path_bytes output.entry)) told.error) }
+        (RefusesFile (F.aims None) old new F.renames F.removes (path_bytes output.entry)) told.error) }
     ensures path { IfErr result (λ told. path_bytes told.path
         ≡ file_of told.error (path_bytes input.entry) (path_bytes output.entry)) }
 {
@@ -195,13 +196,14 @@ pub fn copy_priv<'a, F: ReplaceFiles>(
         F.Created.failures in
         let new = FillsFile F.creates_new F.New.is_closed F.New.contents F.New.is_flushed F.New.failures in
         OnOk result (CopiesFile PrivateKeyEncoding (F.opens (path_bytes input.entry)) F.Opened.remaining
-        (PutsFile F.aims old new F.renames (path_bytes output.entry))) }
+        (PutsFile (F.aims (Some (path_bytes input.entry))) old new F.renames (path_bytes output.entry))) }
     ensures err { let old = FillsFile F.opens_in_place F.Created.is_closed F.Created.contents F.Created.is_flushed
         F.Created.failures in
         let new = FillsFile F.creates_new F.New.is_closed F.New.contents F.New.is_flushed F.New.failures in
         IfErr result (λ told. WhyNotCopied PrivateKeyEncoding rsa_private_key (F.opens (path_bytes input.entry))
         F.Opened.remaining F.Opened.failures
-        (RefusesFile F.aims old new F.renames F.removes (path_bytes output.entry)) told.error) }
+        (RefusesFile (F.aims (Some (path_bytes input.entry))) old new F.renames F.removes (path_bytes output.entry))
+        told.error) }
     ensures path { IfErr result (λ told. path_bytes told.path
         ≡ file_of told.error (path_bytes input.entry) (path_bytes output.entry)) }
 {

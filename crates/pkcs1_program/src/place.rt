@@ -1,5 +1,5 @@
 //! Where a key is written once.
-ghost use Rattle.std.specs.Prelude.{◌≡◌, List, ℕ, IfErr, OnOk};
+ghost use Rattle.std.specs.Prelude.{◌≡◌, List, ℕ, IfErr, OnOk, option_map};
 ghost use Rattle.std.specs.Path.{path_buf_bytes, path_bytes};
 ghost use Rattle.pkcs1_program.specs.Words.{FillsFile, PutsFile, PutsAt, RefusesFile, RefusesAt, SinkStops, SinkTakes, in_place, replaced};
 
@@ -20,7 +20,7 @@ pub trait Place {
     /// These bytes weren't written, for this reason.
     ghost refuses: { Self → WriteError → List ℕ → Type 0 };
 
-    /// Writes the bytes.
+    /// Writes the bytes. Ok: the place took exactly them. Err: it didn't, for this reason.
     fn write(self, bytes: &[u8]) -> Result<(), WriteError>
         ensures ok { OnOk result (takes self bytes.now) }
         ensures err { IfErr result (λ error. refuses self error bytes.now) };
@@ -51,11 +51,12 @@ fn write_in_place<F: ReplaceFiles>(
     ensures ok { let old = FillsFile F.opens_in_place F.Created.is_closed F.Created.contents F.Created.is_flushed
         F.Created.failures in
         let new = FillsFile F.creates_new F.New.is_closed F.New.contents F.New.is_flushed F.New.failures in
-        OnOk result (PutsAt old new F.renames in_place (path_bytes path.entry) bytes.now) }
+        OnOk result (PutsAt old new F.renames (in_place rights) (path_bytes path.entry) bytes.now) }
     ensures err { let old = FillsFile F.opens_in_place F.Created.is_closed F.Created.contents F.Created.is_flushed
         F.Created.failures in
         let new = FillsFile F.creates_new F.New.is_closed F.New.contents F.New.is_flushed F.New.failures in
-        IfErr result (λ error. RefusesAt old new F.renames F.removes error in_place (path_bytes path.entry) bytes.now) }
+        let aim = in_place rights in
+        IfErr result (λ error. RefusesAt old new F.renames F.removes error aim (path_bytes path.entry) bytes.now) }
 {
     match files.open_in_place(path, rights) {
         Ok(sink) => fill(sink, bytes),
@@ -73,12 +74,12 @@ fn write_beside<F: ReplaceFiles>(
     ensures ok { let old = FillsFile F.opens_in_place F.Created.is_closed F.Created.contents F.Created.is_flushed
         F.Created.failures in
         let new = FillsFile F.creates_new F.New.is_closed F.New.contents F.New.is_flushed F.New.failures in
-        let aim = replaced (path_buf_bytes beside.now.to) (path_buf_bytes beside.now.path) in
+        let aim = replaced (path_buf_bytes beside.now.to) (path_buf_bytes beside.now.path) beside.now.rights in
         OnOk result (PutsAt old new F.renames aim (path_bytes path.entry) bytes.now) }
     ensures err { let old = FillsFile F.opens_in_place F.Created.is_closed F.Created.contents F.Created.is_flushed
         F.Created.failures in
         let new = FillsFile F.creates_new F.New.is_closed F.New.contents F.New.is_flushed F.New.failures in
-        let aim = replaced (path_buf_bytes beside.now.to) (path_buf_bytes beside.now.path) in
+        let aim = replaced (path_buf_bytes beside.now.to) (path_buf_bytes beside.now.path) beside.now.rights in
         IfErr result (λ error. RefusesAt old new F.renames F.removes error aim (path_bytes path.entry) bytes.now) }
 {
     let new = beside.path.as_path();
@@ -113,7 +114,8 @@ pub struct FileAt<'a, F: ReplaceFiles> {
 impl<'a, F: ReplaceFiles> FileAt<'a, F> {
     /// The file at this path. A new one gets no more rights than the file at the path `model` has, if that is given.
     pub fn new(files: &'a F, alloc: Global, path: Path<'a>, model: Option<Path<'a>>) -> Self
-        ensures { path_bytes result.path ≡ path_bytes path.entry }
+        ensures path { path_bytes result.path ≡ path_bytes path.entry }
+        ensures model { option_map path_bytes result.model ≡ option_map path_bytes model.entry }
     {
         FileAt {
             files,
@@ -128,11 +130,13 @@ impl<'a, F: ReplaceFiles> FileAt<'a, F> {
         ensures ok { let old = FillsFile F.opens_in_place F.Created.is_closed F.Created.contents F.Created.is_flushed
             F.Created.failures in
             let new = FillsFile F.creates_new F.New.is_closed F.New.contents F.New.is_flushed F.New.failures in
-            OnOk result (PutsFile F.aims old new F.renames (path_bytes self.now.path) bytes.now) }
+            let aims = F.aims (option_map path_bytes self.now.model) in
+            OnOk result (PutsFile aims old new F.renames (path_bytes self.now.path) bytes.now) }
         ensures err { let old = FillsFile F.opens_in_place F.Created.is_closed F.Created.contents F.Created.is_flushed
             F.Created.failures in
             let new = FillsFile F.creates_new F.New.is_closed F.New.contents F.New.is_flushed F.New.failures in
-            IfErr result (λ error. RefusesFile F.aims old new F.renames F.removes (path_bytes self.now.path) error
+            let aims = F.aims (option_map path_bytes self.now.model) in
+            IfErr result (λ error. RefusesFile aims old new F.renames F.removes (path_bytes self.now.path) error
             bytes.now) }
     {
         match self.files.target(self.alloc, self.path, self.model, number) {
@@ -145,17 +149,20 @@ impl<'a, F: ReplaceFiles> FileAt<'a, F> {
 }
 
 impl<F: ReplaceFiles> Place for FileAt<'_, F> {
+    /// As `target` says, what isn't a regular file took the bytes, or a new file did, which was then renamed.
     ghost takes = { λ place.
         let old = FillsFile F.opens_in_place F.Created.is_closed F.Created.contents F.Created.is_flushed
         F.Created.failures in
         let new = FillsFile F.creates_new F.New.is_closed F.New.contents F.New.is_flushed F.New.failures in
-        PutsFile F.aims old new F.renames (path_bytes place.path) };
+        PutsFile (F.aims (option_map path_bytes place.model)) old new F.renames (path_bytes place.path) };
 
+    /// `Memory`: it ran out before the target was known. `Open`, `Create`, `Taken`: no file was created. `Write`: a call
+    /// failed behind a beginning. `Rename`: renaming failed. Behind these two, removing a new file was tried.
     ghost refuses = { λ place.
         let old = FillsFile F.opens_in_place F.Created.is_closed F.Created.contents F.Created.is_flushed
         F.Created.failures in
         let new = FillsFile F.creates_new F.New.is_closed F.New.contents F.New.is_flushed F.New.failures in
-        RefusesFile F.aims old new F.renames F.removes (path_bytes place.path) };
+        RefusesFile (F.aims (option_map path_bytes place.model)) old new F.renames F.removes (path_bytes place.path) };
 
     fn write(self, bytes: &[u8]) -> Result<(), WriteError> {
         let mut written = self.write_once(0, bytes);

@@ -1,5 +1,5 @@
 //! Files of which a new one can take the place of an old one.
-ghost use Rattle.std.specs.Prelude.{◌≡◌, ◌≢◌, ◌⊎◌, ℕ, List, Bool, Option, Some, None, bit_and, is_ok, unwrap_or};
+ghost use Rattle.std.specs.Prelude.{◌≡◌, ◌≢◌, ◌⊎◌, ℕ, List, Bool, Option, Some, None, bit_and, is_ok, option_map, unwrap_or};
 ghost use Rattle.std.specs.Path.{path_bytes};
 ghost use Rattle.der_core.specs.Words.{Obtains};
 ghost use Rattle.pkcs1_program.specs.Words.{Aim, FillsFile, ObtainsNew, aimed, whole};
@@ -70,17 +70,21 @@ impl Rights {
 
 /// Files of which a new one can take the place of an old one, by one call. Each `Files` of std is one.
 pub trait ReplaceFiles: FileSystem {
+    ghost use Rattle.pkcs1_program.specs.declared.replace.Rights.{Rights};
+
     /// A file that was created where none was.
     type New: Close + Drop;
 
-    /// What is at this path is written in this way; `None`: memory ran out before that was known.
-    ghost aims: { List ℕ → Option Aim → Type 0 };
+    /// With this model, what is at this path is written in this way; `None`: memory ran out before that was known.
+    ghost aims: { Option (List ℕ) → List ℕ → Option Aim → Type 0 };
 
-    /// Opening what isn't replaced gave this sink, to which nothing was written yet; `None`: it gave none.
-    ghost opens_in_place: { List ℕ → Option Self.Created → Type 0 };
+    /// Opening what isn't replaced, or creating it with these rights, gave this sink, to which nothing was written yet;
+    /// `None`: it gave none.
+    ghost opens_in_place: { List ℕ → Rights → Option Self.Created → Type 0 };
 
-    /// Creating where nothing was gave this sink, to which nothing was written yet; `None`: it gave none.
-    ghost creates_new: { List ℕ → Option Self.New → Type 0 };
+    /// Creating with these rights where nothing was gave this sink, to which nothing was written yet; `None`: it gave
+    /// none.
+    ghost creates_new: { List ℕ → Rights → Option Self.New → Type 0 };
 
     /// Renaming from the first path to the second was tried, and succeeded or failed.
     ghost renames: { List ℕ → List ℕ → Bool → Type 0 };
@@ -97,25 +101,26 @@ pub trait ReplaceFiles: FileSystem {
         model: Option<Path<'_>>,
         number: u32,
     ) -> std::result::Result<Target, AllocError>
-        ensures { aims (path_bytes path.entry) (aimed result) };
+        ensures { aims (option_map path_bytes model.entry) (path_bytes path.entry) (aimed result) };
 
-    /// Opens what is no regular file, or creates one where nothing is.
+    /// Opens what is no regular file, or creates one with these rights where nothing is.
     fn open_in_place(&self, path: Path<'_>, rights: Rights) -> Result<Self::Created>
-        ensures { Obtains (opens_in_place (path_bytes path.entry)) result };
+        ensures { Obtains (opens_in_place (path_bytes path.entry) rights) result };
 
-    /// Creates a file. `Ok(None)`: something is at the path.
+    /// Creates a file with these rights where nothing is. `Ok(None)`: something is at the path.
     fn create_new(&self, path: Path<'_>, rights: Rights) -> Result<Option<Self::New>>
-        ensures { ObtainsNew (creates_new (path_bytes path.entry)) result };
+        ensures { ObtainsNew (creates_new (path_bytes path.entry) rights) result };
 
-    /// Renames a new file, which must have been written, flushed and closed. What is at the other path is replaced.
+    /// Renames a new file, which must have taken some bytes and been flushed and closed. What is at the other path is
+    /// replaced.
     fn rename(&self, from: Path<'_>, to: Path<'_>) -> io::Result<()>
         requires whole { let new = FillsFile creates_new Self.New.is_closed Self.New.contents Self.New.is_flushed
             Self.New.failures in
-            (bytes : List ℕ) × new (path_bytes from) whole bytes }
+            (rights : Rights) × (bytes : List ℕ) × new (path_bytes from) rights whole bytes }
         ensures { renames (path_bytes from.entry) (path_bytes to.entry) (is_ok result) };
 
     /// Removes a file that was created where nothing was.
     fn remove(&self, path: Path<'_>) -> io::Result<()>
-        requires created { (file : Self.New) × creates_new (path_bytes path) (Some file) }
+        requires created { (rights : Rights) × (file : Self.New) × creates_new (path_bytes path) rights (Some file) }
         ensures { removes (path_bytes path.entry) (is_ok result) };
 }

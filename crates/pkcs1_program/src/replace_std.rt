@@ -140,11 +140,11 @@ fn sync_folder<Rt: Files>(files: &Rt, path: Path<'_>) {
 impl<Rt: Files> ReplaceFiles for Rt {
     type New = ToWrite<Synced<Rt::File>>;
 
-    ghost aims = { λ _ _. ⊤ };
+    ghost aims = { λ _ _ _. ⊤ };
 
-    ghost opens_in_place = { λ _ opened. IfSome opened (λ sink. write_faults sink ≡ 0) };
+    ghost opens_in_place = { λ _ _ opened. IfSome opened (λ sink. write_faults sink ≡ 0) };
 
-    ghost creates_new = { λ _ created. IfSome created (λ sink. write_faults sink ≡ 0) };
+    ghost creates_new = { λ _ _ created. IfSome created (λ sink. write_faults sink ≡ 0) };
 
     ghost renames = { λ _ _ _. ⊤ };
 

@@ -61,9 +61,10 @@ fn carry_out<P: Eprint, F: ReplaceFiles, R: Source, W: Sink>(
         let old = FillsFile F.opens_in_place F.Created.is_closed F.Created.contents F.Created.is_flushed
         F.Created.failures in
         let new = FillsFile F.creates_new F.New.is_closed F.New.contents F.New.is_flushed F.New.failures in
-        let takes = PutsFile F.aims old new F.renames in
-        result ≡ 0 → IsDone plan.now answered (CopiesAt PublicKeyEncoding F.opens F.Opened.remaining takes)
-        (CopiesAt PrivateKeyEncoding F.opens F.Opened.remaining takes) }
+        result ≡ 0 → IsDone plan.now answered
+        (CopiesAt PublicKeyEncoding F.opens F.Opened.remaining (λ _. PutsFile (F.aims None) old new F.renames))
+        (CopiesAt PrivateKeyEncoding F.opens F.Opened.remaining
+        (λ input. PutsFile (F.aims (Some input)) old new F.renames)) }
 {
     let ok = match plan {
         Plan::Usage => reported::<(), _>(rt, Err(USAGE)),

@@ -107,11 +107,11 @@ impl<'a> FileSystem for Recorder<'a> {
 impl<'a> ReplaceFiles for Recorder<'a> {
     type New = Recorded<'a>;
 
-    ghost aims = { λ _ _. ⊤ };
+    ghost aims = { λ _ _ _. ⊤ };
 
-    ghost opens_in_place = { λ _ _. ⊤ };
+    ghost opens_in_place = { λ _ _ _. ⊤ };
 
-    ghost creates_new = { λ _ _. ⊤ };
+    ghost creates_new = { λ _ _ _. ⊤ };
 
     ghost renames = { λ _ _ _. ⊤ };
 
