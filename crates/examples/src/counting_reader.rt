@@ -1,6 +1,7 @@
 //! A reader of one's own, and memory of one's own.
+ghost use Rattle.std.specs.Prelude.{◌≡◌, ◌+◌, ◌-◌, ◌^◌, min};
 ghost use Rattle.std.specs.Int.Digits.{number_from_digits};
-ghost use Rattle.der_core.specs.Words.{ReadsFront, bytes_of, integer_tag, left_of, left_of-bounded, left_of-bytes, number_of, tagged};
+ghost use Rattle.der_core.specs.Words.{ReadsFront, ReadsOrFails, bytes_of, front_of, integer_tag, left_of, left_of-bounded, left_of-bytes, number_of, tagged};
 
 use der_core::{
     BytesLeft, Decode, Error, ErrorKind, Length, Memory, Reader, Result, SliceReader, UintRef,
@@ -40,7 +41,11 @@ impl<'a> Reader<&'a [u8]> for CountingReader<'a> {
         self.inner.peek_octet()
     }
 
-    fn read_slice(&mut self, len: Length) -> Result<&'a [u8]> {
+    fn read_slice(&mut self, len: Length) -> Result<&'a [u8]>
+        ensures read { let before = left_of self.old.inner in
+            ReadsOrFails (λ s. s.now) result before (left_of self.new.inner) (front_of len) }
+        ensures counted { self.new.asked ≡ min (self.old.asked + 1) (2 ^ 64 - 1) }
+    {
         self.asked = self.asked.saturating_add(1);
         self.inner.read_slice(len)
     }

@@ -1,11 +1,11 @@
 //! A writer of one's own.
-ghost use Rattle.std.specs.Prelude.{◌≡◌, ◌++◌, OnOk, Some};
+ghost use Rattle.std.specs.Prelude.{◌≡◌, ◌++◌, ◌+◌, ◌-◌, ◌^◌, IfErr, OnErr, OnOk, Some, length, min};
 ghost use Rattle.std.specs.Int.Digits.{number_from_digits};
-ghost use Rattle.der_core.specs.Words.{bytes_of, integer_tag, number_contents, tlv};
+ghost use Rattle.der_core.specs.Words.{LacksRoom, Receives, ReceivesNothing, TakesRoom, bytes_of, integer_tag, number_contents, tlv};
 ghost use Rattle.der_core.specs.Slices.{Keeps, room_of, written_of};
 ghost use Rattle.der_core.specs.Laws.Numbers.{Keeps-itself, Keeps-through};
 
-use der_core::{Encode, Result, SliceWriter, UintRef, Writer};
+use der_core::{Encode, ErrorKind, Result, SliceWriter, UintRef, Writer};
 
 /// A writer that counts the slices that it is given.
 #[derive(Drop)]
@@ -23,7 +23,19 @@ impl Writer for CountingWriter<'_> {
 
     ghost keeps = { λ v w. Keeps v.inner w.inner };
 
-    fn write(&mut self, bytes: &[u8]) -> Result<()> {
+    fn write(&mut self, bytes: &[u8]) -> Result<()>
+        ensures written { OnOk result (Receives bytes.now (λ octets. written_of self.old.inner ≡ octets)
+            (λ octets. written_of self.new.inner ≡ octets)) }
+        ensures room { OnOk result (TakesRoom (length bytes.now) (Some (room_of self.old.inner))
+            (Some (room_of self.new.inner))) }
+        ensures err { IfErr result (λ error. (error.kind ≡ ErrorKind.NoRoom)
+            × LacksRoom (length bytes.now) (Some (room_of self.old.inner))) }
+        ensures nothing { OnErr result (ReceivesNothing (λ octets. written_of self.old.inner ≡ octets)
+            (λ octets. written_of self.new.inner ≡ octets)
+            × (Some (room_of self.new.inner) ≡ Some (room_of self.old.inner))) }
+        ensures kept { Keeps self.old.inner self.new.inner }
+        ensures counted { self.new.given ≡ min (self.old.given + 1) (2 ^ 64 - 1) }
+    {
         self.given = self.given.saturating_add(1);
         self.inner.write(bytes)
     }
