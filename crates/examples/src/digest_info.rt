@@ -1,5 +1,5 @@
 //! A record with an identifier.
-ghost use Rattle.std.specs.Prelude.{IfErr, length};
+ghost use Rattle.std.specs.Prelude.{◌⊎◌, IfErr, length};
 ghost use Rattle.standard.specs.Statement as standard;
 ghost use Rattle.der_core.specs.Words.{Answers, Spells, Unwritten, encode_error, ok_of, whole};
 
@@ -41,6 +41,8 @@ impl<A: Encoding, D: Encoding> Record for DigestInfo<A, D> {
 }
 
 impl<A: Encode, D: Encode> EncodeInParts for DigestInfo<A, D> {
+    ghost refused = { λ tag. A.Encode.refused tag ⊎ (D.Encode.refused tag ⊎ ⊥) };
+
     fn parts_len(&self) -> Result<Length> {
         (Borrowed(&self.algorithm), (Borrowed(&self.digest), ())).value_len()
     }

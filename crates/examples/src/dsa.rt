@@ -1,5 +1,5 @@
 //! A record as the parameters of an algorithm identifier.
-ghost use Rattle.std.specs.Prelude.{IfErr, length};
+ghost use Rattle.std.specs.Prelude.{◌⊎◌, IfErr, length};
 ghost use Rattle.standard.specs.Statement as standard;
 ghost use Rattle.der_core.specs.Words.{Answers, Spells, Unwritten, encode_error, ok_of, whole};
 
@@ -46,6 +46,8 @@ impl<U: Encoding> Record for DsaParams<U> {
 }
 
 impl<U: Encode> EncodeInParts for DsaParams<U> {
+    ghost refused = { λ tag. U.Encode.refused tag ⊎ (U.Encode.refused tag ⊎ (U.Encode.refused tag ⊎ ⊥)) };
+
     fn parts_len(&self) -> Result<Length> {
         let later = (Borrowed(&self.q), (Borrowed(&self.g), ()));
         (Borrowed(&self.p), later).value_len()

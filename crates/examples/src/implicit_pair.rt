@@ -1,5 +1,5 @@
 //! A row under another tag than that of SEQUENCE: two numbers, tagged implicitly (X.690 8.14.3).
-ghost use Rattle.std.specs.Prelude.{IfErr, length};
+ghost use Rattle.std.specs.Prelude.{◌⊎◌, IfErr, length};
 ghost use Rattle.standard.specs.Statement as standard;
 ghost use Rattle.der_core.specs.Words.{Answers, Spells, Unwritten, encode_error, ok_of, whole};
 ghost use Rattle.examples.specs.ImplicitPair.{implicit_tag};
@@ -50,6 +50,8 @@ impl<U: Encoding> Record for ImplicitPair<U> {
 }
 
 impl<U: Encode> EncodeInParts for ImplicitPair<U> {
+    ghost refused = { λ tag. U.Encode.refused tag ⊎ (U.Encode.refused tag ⊎ ⊥) };
+
     fn parts_len(&self) -> Result<Length> {
         (Borrowed(&self.first), (Borrowed(&self.second), ())).value_len()
     }

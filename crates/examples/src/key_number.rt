@@ -78,6 +78,8 @@ impl<'a, M: Memory> DecodeValue<&'a [u8], M> for KeyNumber<'a> {
 }
 
 impl EncodeValue for KeyNumber<'_> {
+    ghost refused = { λ _. ⊥ };
+
     fn value_len(&self) -> Result<Length> {
         self.number.value_len()
     }

@@ -1,7 +1,7 @@
 //! A record with a number in a range, and a list.
-ghost use Rattle.std.specs.Prelude.{IfErr, length};
+ghost use Rattle.std.specs.Prelude.{◌≡◌, ◌⊎◌, IfErr, length};
 ghost use Rattle.standard.specs.Statement.{Encodes};
-ghost use Rattle.der_core.specs.Words.{DecodesOrMemory, Returns, Unwritten, encode_error, ok_of};
+ghost use Rattle.der_core.specs.Words.{DecodesOrMemory, Returns, Unwritten, encode_error, integer_tag, ok_of};
 ghost use Rattle.examples.specs.NumberList.{IsNumberList, MayAskMemory, NumberListEncoding, number_list_read, numbers_of};
 
 use der_core::{
@@ -42,6 +42,8 @@ impl<U: Encoding> Record for NumberList<U> {
 }
 
 impl<U: Encode> EncodeInParts for NumberList<U> {
+    ghost refused = { λ tag. (tag ≡ integer_tag) ⊎ (U.Encode.refused tag ⊎ ⊥) };
+
     fn parts_len(&self) -> Result<Length> {
         (Borrowed(&self.version), (Borrowed(&self.numbers), ())).value_len()
     }

@@ -1,5 +1,5 @@
 //! A SEQUENCE with an OPTIONAL last part.
-ghost use Rattle.std.specs.Prelude.{IfErr, length};
+ghost use Rattle.std.specs.Prelude.{◌⊎◌, IfErr, length};
 ghost use Rattle.standard.specs.Statement.{Decodes, Encodes};
 ghost use Rattle.der_core.specs.Words.{Answers, Unwritten, encode_error, ok_of};
 ghost use Rattle.examples.specs.Salt.{IsSalt, SaltEncoding, salt_of, salt_read};
@@ -42,6 +42,8 @@ impl<U: Encoding, S: Encoding> Record for OptionalSalt<U, S> {
 }
 
 impl<U: Encode, S: Encode> EncodeInParts for OptionalSalt<U, S> {
+    ghost refused = { λ tag. U.Encode.refused tag ⊎ S.Encode.refused tag };
+
     fn parts_len(&self) -> Result<Length> {
         (Borrowed(&self.iterations), Last::borrowed(&self.salt)).value_len()
     }
