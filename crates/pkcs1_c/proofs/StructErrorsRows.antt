@@ -1,5 +1,5 @@
 -- Worked rows of `StructErrors.antt`: the status of a struct that isn't written.
-use Rattle.std.proofs.Common.{ℕ, List, [], ◌∷◌, ◌≡◌, arith, refl, inl, inr, false, None, replicate, ap, sym, ◌∙◌, Result, Ok, Err}
+use Rattle.std.proofs.Common.{ℕ, List, [], ◌∷◌, ◌≡◌, arith, refl, inl, inr, false, None, replicate, ap, length, sym, ◌∙◌, Result, Ok, Err}
 use Rattle.std.specs.Borrow.{Bor}
 use Rattle.pkcs1_c.specs.Status.{NoStatus, kind_number}
 use Rattle.pkcs1_c.specs.StructErrors.{AnyError, FieldsError, HashFieldsThen, InfoError, Miscounted, NumberError, NumbersError, OaepFieldError, OidError, OptionError, PartThen, PrivateKeyError, PssFieldError, PublicKeyError, UnwrittenStatus, given_numbers, two_numbers}
@@ -11,7 +11,8 @@ use Rattle.pkcs1_c.specs.declared.container.PrivateKeyInfo.{PrivateKeyInfo}
 use Rattle.pkcs1_c.specs.declared.private_key.OtherPrime.{OtherPrime}
 use Rattle.pkcs1_c.specs.declared.private_key.PrivateKey.{PrivateKey}
 use Rattle.pkcs1_c.specs.declared.public_key.PublicKey.{PublicKey}
-use Rattle.standard.specs.Statement.{IsIdentifier, PssParameters, mgf1_sha1, sha1}
+use Rattle.pkcs1_c.specs.Structs.{number_seen}
+use Rattle.standard.specs.Statement.{IsIdentifier, PssParameters, mgf1_sha1, octets, sha1}
 
 abbrev borrowed_at : List ℕ → Bor (List ℕ)
 borrowed_at octets = record { ref_ptr = (0, 0); now = octets }
@@ -54,6 +55,12 @@ empty_number_alone (inr p) = omega (arith, p.1)
 short_number : NumberError (1 ∷ []) 8 → ⊥
 short_number (inl p) = omega (arith, p.0)
 short_number (inr p) = omega (arith, p.2)
+
+-- Zeros in front don't count.
+one_with_zeros : (bytes : List ℕ) → number_seen bytes ≡ 1 → NumberError bytes 8 → ⊥
+one_with_zeros bytes is (inl p) = omega (arith, p.0)
+one_with_zeros bytes is (inr p) =
+    let one : length (octets (number_seen bytes)) ≡ 1 = ap (λ n. length (octets n)) is in omega (arith, p.2, one)
 
 no_numbers : NumbersError [] 4 → ⊥
 no_numbers p = p

@@ -1,7 +1,7 @@
 -- Worked rows of `Structs.antt`: what structs hold, and what a call that writes says and leaves.
 use Rattle.std.proofs.Common.{ℕ, List, [], ◌∷◌, ◌≡◌, arith, length, refl, Bool, true, false, Option, Some, None}
 use Rattle.std.specs.Borrow.{Bor}
-use Rattle.pkcs1_c.specs.Structs.{AlgorithmIsTidy, ArePlaced, EncodingIfHeld, HasPrivateNumbers, HasPublicNumbers, HaveBytes, HoldsPrivateKey, HoldsPublicKey, InfoHasKey, InfoIsTidy, MaskGenIsTidy, WritesOrTells, algorithm_seen, mask_gen_seen, numbers_of_key, oaep_seen, octets_of_key, other_primes_seen, private_key_info_seen, private_key_seen, pss_seen, public_key_seen}
+use Rattle.pkcs1_c.specs.Structs.{AlgorithmIsTidy, ArePlaced, EncodingIfHeld, HasPrivateNumbers, HasPublicNumbers, HaveBytes, HoldsPrivateKey, HoldsPublicKey, InfoHasKey, InfoIsTidy, MaskGenIsTidy, OaepIsTidy, WritesOrTells, algorithm_seen, mask_gen_seen, numbers_of_key, oaep_seen, octets_of_key, other_primes_seen, private_key_info_seen, private_key_seen, pss_seen, public_key_seen}
 use Rattle.pkcs1_c.specs.declared.algorithm.Algorithm as algorithms
 use Rattle.pkcs1_c.specs.declared.algorithm.MaskGen.{MaskGen}
 use Rattle.pkcs1_c.specs.declared.container.PrivateKeyInfo.{PrivateKeyInfo}
@@ -123,6 +123,13 @@ untidy_octets p = let same = (p refl).1 in cc
 
 untidy_mask_gen : MaskGenIsTidy (record { oid = lent_at []; has_hash = false; hash = bare_algorithm_struct }) → ⊥
 untidy_mask_gen p = let same = (p.0 refl).0 in cc
+
+untidy_source : OaepIsTidy (record {
+  hash = algorithm_struct;
+  mask_gen = mask_gen_struct;
+  p_source = bare_algorithm_struct;
+}) → ⊥
+untidy_source p = omega (arith, (p.2 refl).0)
 
 -- == Private keys ==
 abbrev private_struct : ℕ → key_structs.PrivateKey
