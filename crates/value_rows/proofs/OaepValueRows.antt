@@ -1,6 +1,6 @@
 -- Worked rows of `OaepValue.antt` of `pkcs1_params`: what parameters hold, which of them are copied without memory, and
 -- for which labels there is an encoding.
-use Rattle.std.proofs.Common.{ℕ, List, [], ◌∷◌, ◌≡◌, inl, inr, length, refl, subst, sym, Some}
+use Rattle.std.proofs.Common.{ℕ, List, [], ◌∷◌, ◌≡◌, codes, inl, inr, length, refl, subst, sym, Some}
 use Rattle.der_core.specs.Words.{AreBytes}
 use Rattle.spki_core.specs.declared.any.AnyRef.{AnyRef}
 use Rattle.spki_core.specs.declared.identifier_view.IdentifierView.{IdentifierView}
@@ -8,7 +8,8 @@ use Rattle.spki_core.specs.declared.object_identifier.ObjectIdentifier.{ObjectId
 use Rattle.spki_core.specs.Words.{identifier_octets, own_octets_of}
 use Rattle.pkcs1_params.specs.OaepValue.{IsBareOaep, LabelFits, NoLabelFits, OwnedOaepAllocates, labelled, oaep_in, oaep_of, oaep_viewed, oaep_with}
 use Rattle.pkcs1_params.specs.declared.oaep.OaepParamsOf.{OaepParamsOf}
-use Rattle.standard.specs.Statement.{Algorithm, Fields, IfPresent, IsBare, OaepEncoding, OaepParameters, TagAndContents, empty_label, mgf1_sha1, oaep_fields, sha1}
+use Rattle.standard.proofs.Rows.{digit, hex}
+use Rattle.standard.specs.Statement.{Algorithm, Fields, IfPresent, IsBare, IsOaep, OaepEncoding, OaepParameters, TagAndContents, empty_label, length_octets, mgf1_sha1, oaep_fields, sha1}
 
 -- == What they hold ==
 module _ (p : OaepParamsOf (List ℕ) TagAndContents) where
@@ -92,3 +93,13 @@ oaep_defaults_are_bare p (inr (later, is, rest)) = cc
 
 oaep_defaults_take_no_memory : OwnedOaepAllocates [] → ⊥
 oaep_defaults_take_no_memory p = p.3 (oaep_defaults_are_bare p.0 p.2)
+
+oaep_octet_takes_memory : IsOaep (oaep_sample sha1 sha1 oaep_null_with_octet)
+    → OwnedOaepAllocates (hex (codes "a110300e060101300906052b0e03021a0500a2083006060101050100"))
+unfolding hex digit length_octets
+oaep_octet_takes_memory is = (
+  oaep_sample sha1 sha1 oaep_null_with_octet,
+  is,
+  inl (refl, inr (hex (codes "a2083006060101050100"), refl, inr ([], refl, refl))),
+  oaep_octet_in_source,
+)

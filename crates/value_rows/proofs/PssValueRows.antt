@@ -1,12 +1,13 @@
 -- Worked rows of `PssValue.antt` of `pkcs1_params`: what parameters hold, and which of them are copied without memory.
-use Rattle.std.proofs.Common.{ℕ, List, [], ◌∷◌, ◌≡◌, inl, inr, refl, subst, sym, Some}
+use Rattle.std.proofs.Common.{ℕ, List, [], ◌∷◌, ◌≡◌, codes, inl, inr, refl, subst, sym, Some}
 use Rattle.spki_core.specs.declared.any.AnyRef.{AnyRef}
 use Rattle.spki_core.specs.declared.identifier_view.IdentifierView.{IdentifierView}
 use Rattle.spki_core.specs.declared.object_identifier.ObjectIdentifier.{ObjectIdentifier}
 use Rattle.spki_core.specs.Words.{identifier_octets, own_octets_of}
 use Rattle.pkcs1_params.specs.PssValue.{IsBarePss, OwnedPssAllocates, pss_in, pss_of, pss_viewed, pss_with}
 use Rattle.pkcs1_params.specs.declared.pss.PssParamsOf.{PssParamsOf}
-use Rattle.standard.specs.Statement.{Algorithm, Fields, IfPresent, IsBare, PssParameters, TagAndContents, pss_fields, sha1}
+use Rattle.standard.proofs.Rows.{digit, hex}
+use Rattle.standard.specs.Statement.{Algorithm, Fields, IfPresent, IsBare, IsPss, PssParameters, TagAndContents, length_octets, pss_fields, sha1}
 
 -- == What they hold ==
 module _ (p : PssParamsOf (List ℕ) TagAndContents) where
@@ -69,3 +70,13 @@ pss_defaults_are_bare p (inr (later, is, rest)) = cc
 
 pss_defaults_take_no_memory : OwnedPssAllocates [] → ⊥
 pss_defaults_take_no_memory p = p.3 (pss_defaults_are_bare p.0 p.2)
+
+pss_octet_takes_memory : IsPss (pss_sample pss_null_with_octet sha1)
+    → OwnedPssAllocates (hex (codes "a0083006060101050100a110300e060101300906052b0e03021a0500"))
+unfolding hex digit length_octets
+pss_octet_takes_memory is = (
+  pss_sample pss_null_with_octet sha1,
+  is,
+  inr (hex (codes "a110300e060101300906052b0e03021a0500"), refl, inr ([], refl, inl (refl, inl (refl, refl)))),
+  pss_octet_in_hash,
+)
