@@ -12,7 +12,7 @@ type Items<T> = [T; 0];
 /// A list on the heap. Without the feature `alloc` it is empty.
 #[derive(Clone, PartialEq, Eq, PartialOrd, Ord, Hash)]
 pub struct Vec<T> {
-    items: Items<T>,
+    pub(crate) items: Items<T>,
 }
 
 impl<T> Vec<T> {

@@ -14,9 +14,21 @@ fn octet_of(digit: u8) -> u8 {
     b'0' + digit + u8::from(digit > 9) * (b'a' - b'9' - 1)
 }
 
-fn digit_of(octet: u8) -> Option<u8> {
-    char::from(octet).to_digit(16).map(|digit| digit as u8)
-}
+/// What is in the table for an octet that is no digit.
+const NO_DIGIT: u8 = 0xff;
+
+/// The digit that each octet stands for: a look-up has no branch that a processor could guess wrong.
+static DIGITS: [u8; 256] = {
+    let mut digits = [NO_DIGIT; 256];
+    let mut octet = 0;
+    while octet < digits.len() {
+        if let Some(digit) = (octet as u8 as char).to_digit(16) {
+            digits[octet] = digit as u8;
+        }
+        octet += 1;
+    }
+    digits
+};
 
 pub fn encode_to_slice<T: AsRef<[u8]>>(data: T, out: &mut [u8]) -> Result<(), FromHexError> {
     let data = data.as_ref();
@@ -38,9 +50,10 @@ pub fn decode_to_slice<T: AsRef<[u8]>>(data: T, out: &mut [u8]) -> Result<(), Fr
         return Err(FromHexError::InvalidStringLength);
     }
     for (pair, octet) in data.chunks_exact(2).zip(out) {
-        let (Some(high), Some(low)) = (digit_of(pair[0]), digit_of(pair[1])) else {
+        let [high, low] = [pair[0], pair[1]].map(|octet| DIGITS[usize::from(octet)]);
+        if high | low == NO_DIGIT {
             return Err(FromHexError::InvalidHexCharacter);
-        };
+        }
         *octet = high << 4 | low;
     }
     Ok(())
