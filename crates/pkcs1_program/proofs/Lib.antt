@@ -5,3 +5,5 @@ pub mod OneAnswer
 pub mod SequenceFronts
 pub mod AppendedOutput
 pub mod Verdicts
+mod FirstPlace
+mod DecimalDigits

@@ -3,7 +3,6 @@
 
 use crate::rattle_std::prelude::Vec;
 use crate::rattle_std::alloc::AllocError;
-use crate::rattle_std::io::Write;
 
 /// Appends the bytes to `out`, in lowercase hexadecimal digits.
 pub fn put_hex(bytes: &[u8], out: &mut Vec<u8>) -> Result<(), AllocError> {
@@ -27,11 +26,17 @@ pub fn put_field(label: &[u8], bytes: &[u8], out: &mut Vec<u8>) -> Result<(), Al
     put_hex(bytes, out)
 }
 
+/// Appends the number to `out`, in decimal digits.
+fn put_decimal(number: usize, out: &mut Vec<u8>) -> Result<(), AllocError> {
+    if number >= 10 {
+        put_decimal(number / 10, out)?;
+    }
+    out.push(b'0' + (number % 10) as u8)?;
+    Ok(())
+}
+
 /// Appends the label to `out`, and then the number in decimal digits.
 pub fn put_number(label: &[u8], number: usize, out: &mut Vec<u8>) -> Result<(), AllocError> {
     out.extend_from_slice(label)?;
-    match write!(out, "{number}") {
-        Ok(()) => Ok(()),
-        Err(_) => Err(AllocError),
-    }
+    put_decimal(number, out)
 }
