@@ -16,7 +16,7 @@ contents=(
     crates/pkcs1_tool/{run_built,copies,refuse_memory,all_rows}.sh
     crates/pkcs1_tool/{refuse_memory.c,rows,stdin,stdout,pkcs1_tool.1}
     crates/pkcs1_vectors/stdin
-    crates.txt ffi/proof :!ffi/proof/{build.sh,link_proved.sh,check_contracts.py,mistakes.py,seam/mistakes.py}
+    crates.txt ffi/proof :!ffi/proof/{build.sh,link_proved.sh,check_contracts.py,planted.py,mistakes.py,seam/mistakes.py}
     tools/{fresh,debian_rust,generate,install}.sh tools/generate
     tools/{shell.sh,platforms.sh,other_platforms.sh,wasi.mjs}
 )

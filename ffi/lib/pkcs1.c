@@ -68,15 +68,43 @@ uint64_t pkcs1_bit_len(struct pkcs1_bytes number) {
     return pkcs1_c_bit_len(number.data, number.len);
 }
 
+/* A call that reads a value of this type, into a local that holds these fields before. */
+#define DECODE(name, type, ...)                                                             \
+    uint32_t pkcs1_##name(const uint8_t *der, size_t der_len, struct pkcs1_##type *value) { \
+        struct pkcs1_##type read = {__VA_ARGS__};                                           \
+        uint32_t status = pkcs1_c_##name(input(der, der_len), der_len, &read);              \
+        if (status == PKCS1_OK)                                                             \
+            *value = read;                                                                  \
+        return status;                                                                      \
+    }
+
+/* A call that writes one: the caller's, or a copy. */
+#define ENCODE(name, type)                                                                                         \
+    RARE static uint32_t copied_##name(const struct pkcs1_##type *value, uint8_t *out, size_t room, size_t *len) { \
+        struct pkcs1_##type made = copy_##type(value);                                                             \
+        return pkcs1_c_##name(&made, output(out, room), room, len);                                                \
+    }                                                                                                              \
+    uint32_t pkcs1_##name(const struct pkcs1_##type *value, uint8_t *out, size_t room, size_t *len) {              \
+        if (is_whole_##type(value))                                                                                \
+            return pkcs1_c_##name(value, output(out, room), room, len);                                            \
+        return copied_##name(value, out, room, len);                                                               \
+    }
+
+/* A call that compares two. */
+#define COMPARE(name, type)                                                                             \
+    RARE static bool copied_##name(const struct pkcs1_##type *left, const struct pkcs1_##type *right) { \
+        struct pkcs1_##type made_left = copy_##type(left), made_right = copy_##type(right);             \
+        return pkcs1_c_##name(&made_left, &made_right);                                                 \
+    }                                                                                                   \
+    bool pkcs1_##name(const struct pkcs1_##type *left, const struct pkcs1_##type *right) {              \
+        if (is_whole_##type(left) && is_whole_##type(right))                                            \
+            return pkcs1_c_##name(left, right);                                                         \
+        return copied_##name(left, right);                                                              \
+    }
+
 /* Public keys. */
 
-uint32_t pkcs1_public_key_decode(const uint8_t *der, size_t der_len, struct pkcs1_public_key *key) {
-    struct pkcs1_public_key read = {NO, NO};
-    uint32_t status = pkcs1_c_public_key_decode(input(der, der_len), der_len, &read);
-    if (status == PKCS1_OK)
-        *key = read;
-    return status;
-}
+DECODE(public_key_decode, public_key, NO, NO)
 
 uint32_t pkcs1_public_key_encode(const struct pkcs1_public_key *key, uint8_t *out, size_t room, size_t *len) {
     if (key->modulus.data != NULL && key->public_exponent.data != NULL)
@@ -127,13 +155,13 @@ static inline bool is_whole_key(const struct pkcs1_private_key *given) {
         given->exponent2.data != NULL && given->coefficient.data != NULL;
 }
 
-/* Makes a copy of the key in which nothing is null. */
-RARE static void copy_key(struct pkcs1_private_key *made, const struct pkcs1_private_key *given) {
-    struct pkcs1_private_key copy = {
+/* A copy of the key in which nothing is null. */
+RARE static struct pkcs1_private_key copy_key(const struct pkcs1_private_key *given) {
+    struct pkcs1_private_key made = {
         never_null(given->modulus), never_null(given->public_exponent), never_null(given->private_exponent),
         never_null(given->prime1), never_null(given->prime2), never_null(given->exponent1),
         never_null(given->exponent2), never_null(given->coefficient), given->other_primes};
-    *made = copy;
+    return made;
 }
 
 /* Whether a number of these primes has no octets. Then it may be null, and a proved call may not see it. */
@@ -196,8 +224,7 @@ static uint32_t write_key(const struct pkcs1_private_key *key, const struct pkcs
     uint8_t *place = output(out, room);
     if (is_whole_key(key))
         return pkcs1_c_private_key_encode(key, others, others_len, place, room, len);
-    struct pkcs1_private_key made;
-    copy_key(&made, key);
+    struct pkcs1_private_key made = copy_key(key);
     return pkcs1_c_private_key_encode(&made, others, others_len, place, room, len);
 }
 
@@ -265,23 +292,22 @@ static inline bool is_whole_algorithm(const struct pkcs1_algorithm *given) {
     return given->oid.data != NULL && is_one(&given->has_parameters) && given->parameters.data != NULL;
 }
 
-/* Makes a copy of the algorithm in which the fields after a false `has_parameters` are empty, and nothing is null. */
-RARE static void copy_algorithm(struct pkcs1_algorithm *made, const struct pkcs1_algorithm *given) {
-    const struct pkcs1_algorithm none = NO_ALGORITHM;
-    *made = none;
-    made->oid = never_null(given->oid);
+/* A copy of the algorithm in which the fields after a false `has_parameters` are empty, and nothing is null. */
+RARE static struct pkcs1_algorithm copy_algorithm(const struct pkcs1_algorithm *given) {
+    struct pkcs1_algorithm made = NO_ALGORITHM;
+    made.oid = never_null(given->oid);
     if (is_set(&given->has_parameters)) {
-        made->has_parameters = true;
-        made->tag = given->tag;
-        made->parameters = never_null(given->parameters);
+        made.has_parameters = true;
+        made.tag = given->tag;
+        made.parameters = never_null(given->parameters);
     }
+    return made;
 }
 
 /* Looks at copies of both. */
 RARE static bool copied_algorithm_is(const struct pkcs1_algorithm *given, const struct pkcs1_bytes *oid) {
     struct pkcs1_bytes octets = never_null(*oid);
-    struct pkcs1_algorithm made;
-    copy_algorithm(&made, given);
+    struct pkcs1_algorithm made = copy_algorithm(given);
     return pkcs1_c_algorithm_is(&made, &octets);
 }
 
@@ -291,42 +317,29 @@ bool pkcs1_algorithm_is(const struct pkcs1_algorithm *given, const struct pkcs1_
     return copied_algorithm_is(given, oid);
 }
 
-RARE static bool copied_are_same_hash(const struct pkcs1_algorithm *left, const struct pkcs1_algorithm *right) {
-    struct pkcs1_algorithm made_left, made_right;
-    copy_algorithm(&made_left, left);
-    copy_algorithm(&made_right, right);
-    return pkcs1_c_algorithm_is_same_hash(&made_left, &made_right);
-}
-
-bool pkcs1_algorithm_is_same_hash(const struct pkcs1_algorithm *left, const struct pkcs1_algorithm *right) {
-    if (is_whole_algorithm(left) && is_whole_algorithm(right))
-        return pkcs1_c_algorithm_is_same_hash(left, right);
-    return copied_are_same_hash(left, right);
-}
+COMPARE(algorithm_is_same_hash, algorithm)
 
 /* The same for a mask generation function, which holds an algorithm. */
 static inline bool is_whole_mask_gen(const struct pkcs1_mask_gen *given) {
     return given->oid.data != NULL && is_one(&given->has_hash) && is_whole_algorithm(&given->hash);
 }
 
-RARE static void copy_mask_gen(struct pkcs1_mask_gen *made, const struct pkcs1_mask_gen *given) {
-    const struct pkcs1_mask_gen none = NO_MASK_GEN;
-    *made = none;
-    made->oid = never_null(given->oid);
+RARE static struct pkcs1_mask_gen copy_mask_gen(const struct pkcs1_mask_gen *given) {
+    struct pkcs1_mask_gen made = NO_MASK_GEN;
+    made.oid = never_null(given->oid);
     if (is_set(&given->has_hash)) {
-        made->has_hash = true;
-        copy_algorithm(&made->hash, &given->hash);
+        made.has_hash = true;
+        made.hash = copy_algorithm(&given->hash);
     }
+    return made;
 }
 
 /* Looks at copies of all. */
 RARE static bool both_copied_use(const struct pkcs1_algorithm *hash, const struct pkcs1_mask_gen *mask_gen,
                                  const struct pkcs1_bytes *oid) {
     struct pkcs1_bytes octets = never_null(*oid);
-    struct pkcs1_algorithm made_hash;
-    struct pkcs1_mask_gen made_mask_gen;
-    copy_algorithm(&made_hash, hash);
-    copy_mask_gen(&made_mask_gen, mask_gen);
+    struct pkcs1_algorithm made_hash = copy_algorithm(hash);
+    struct pkcs1_mask_gen made_mask_gen = copy_mask_gen(mask_gen);
     return pkcs1_c_uses_hash(&made_hash, &made_mask_gen, &octets);
 }
 
@@ -338,150 +351,71 @@ static bool both_use(const struct pkcs1_algorithm *hash, const struct pkcs1_mask
     return both_copied_use(hash, mask_gen, oid);
 }
 
-static struct pkcs1_algorithm with_null(const struct pkcs1_bytes *oid) {
-    struct pkcs1_algorithm made = NO_ALGORITHM;
-    made.oid = *oid;
-    made.has_parameters = true;
-    made.tag = 0x05;
+static struct pkcs1_algorithm with_null(struct pkcs1_bytes oid) {
+    struct pkcs1_algorithm made = {oid, true, 0x05, NO};
     return made;
 }
 
-static struct pkcs1_mask_gen mgf1(const struct pkcs1_bytes *hash) {
+static struct pkcs1_mask_gen mgf1(struct pkcs1_bytes hash) {
     struct pkcs1_mask_gen made = {pkcs1_oid_mgf1, true, with_null(hash)};
     return made;
 }
 
 /* Parameters. They are whole, and copied, as what they hold is. */
 
-static inline bool is_whole_pss(const struct pkcs1_pss_params *given) {
+static inline bool is_whole_pss_params(const struct pkcs1_pss_params *given) {
     return is_whole_algorithm(&given->hash) && is_whole_mask_gen(&given->mask_gen);
 }
 
-RARE static void copy_pss(struct pkcs1_pss_params *made, const struct pkcs1_pss_params *given) {
-    copy_algorithm(&made->hash, &given->hash);
-    copy_mask_gen(&made->mask_gen, &given->mask_gen);
-    made->salt_len = given->salt_len;
-    made->trailer_field = given->trailer_field;
+RARE static struct pkcs1_pss_params copy_pss_params(const struct pkcs1_pss_params *given) {
+    struct pkcs1_pss_params made = {
+        copy_algorithm(&given->hash), copy_mask_gen(&given->mask_gen), given->salt_len, given->trailer_field};
+    return made;
 }
 
 bool pkcs1_pss_is(const struct pkcs1_pss_params *params, const struct pkcs1_bytes *hash) {
     return both_use(&params->hash, &params->mask_gen, hash);
 }
 
-/* Looks at copies of both. */
-RARE static bool copied_pss_mean_same(const struct pkcs1_pss_params *left, const struct pkcs1_pss_params *right) {
-    struct pkcs1_pss_params made_left, made_right;
-    copy_pss(&made_left, left);
-    copy_pss(&made_right, right);
-    //@ assert left: pss_seen(made_left) == \at(pss_seen(*left), Pre);
-    //@ assert right: pss_seen(made_right) == \at(pss_seen(*right), Pre);
-    return pkcs1_c_pss_means_same(&made_left, &made_right);
-}
-
-bool pkcs1_pss_means_same(const struct pkcs1_pss_params *left, const struct pkcs1_pss_params *right) {
-    if (is_whole_pss(left) && is_whole_pss(right))
-        return pkcs1_c_pss_means_same(left, right);
-    return copied_pss_mean_same(left, right);
-}
-
-/* Copies what was read into the caller's struct, on success. */
-static uint32_t set_pss(struct pkcs1_pss_params *params, uint32_t status, const struct pkcs1_pss_params *read) {
-    if (status == PKCS1_OK)
-        *params = *read;
-    return status;
-}
-
-uint32_t pkcs1_pss_params_decode(const uint8_t *der, size_t der_len, struct pkcs1_pss_params *params) {
-    struct pkcs1_pss_params read = {NO_ALGORITHM, NO_MASK_GEN, 0, 0};
-    uint32_t status = pkcs1_c_pss_params_decode(input(der, der_len), der_len, &read);
-    return set_pss(params, status, &read);
-}
-
-uint32_t pkcs1_pss_params_decode_strict(const uint8_t *der, size_t der_len, struct pkcs1_pss_params *params) {
-    struct pkcs1_pss_params read = {NO_ALGORITHM, NO_MASK_GEN, 0, 0};
-    uint32_t status = pkcs1_c_pss_params_decode_strict(input(der, der_len), der_len, &read);
-    return set_pss(params, status, &read);
-}
-
-uint32_t pkcs1_pss_algorithm_decode(const uint8_t *der, size_t der_len, struct pkcs1_pss_params *params) {
-    struct pkcs1_pss_params read = {NO_ALGORITHM, NO_MASK_GEN, 0, 0};
-    uint32_t status = pkcs1_c_pss_algorithm_decode(input(der, der_len), der_len, &read);
-    return set_pss(params, status, &read);
-}
-
-uint32_t pkcs1_pss_algorithm_decode_strict(const uint8_t *der, size_t der_len, struct pkcs1_pss_params *params) {
-    struct pkcs1_pss_params read = {NO_ALGORITHM, NO_MASK_GEN, 0, 0};
-    uint32_t status = pkcs1_c_pss_algorithm_decode_strict(input(der, der_len), der_len, &read);
-    return set_pss(params, status, &read);
-}
-
-/* Encode a copy of the parameters. */
-RARE static uint32_t write_copied_pss_params(const struct pkcs1_pss_params *params, uint8_t *out, size_t room,
-                                             size_t *len) {
-    struct pkcs1_pss_params made;
-    copy_pss(&made, params);
-    return pkcs1_c_pss_params_encode(&made, output(out, room), room, len);
-}
-
-RARE static uint32_t write_copied_pss_algorithm(const struct pkcs1_pss_params *params, uint8_t *out, size_t room,
-                                                size_t *len) {
-    struct pkcs1_pss_params made;
-    copy_pss(&made, params);
-    return pkcs1_c_pss_algorithm_encode(&made, output(out, room), room, len);
-}
-
-uint32_t pkcs1_pss_params_encode(const struct pkcs1_pss_params *params, uint8_t *out, size_t room, size_t *len) {
-    if (is_whole_pss(params))
-        return pkcs1_c_pss_params_encode(params, output(out, room), room, len);
-    return write_copied_pss_params(params, out, room, len);
-}
-
-uint32_t pkcs1_pss_algorithm_encode(const struct pkcs1_pss_params *params, uint8_t *out, size_t room, size_t *len) {
-    if (is_whole_pss(params))
-        return pkcs1_c_pss_algorithm_encode(params, output(out, room), room, len);
-    return write_copied_pss_algorithm(params, out, room, len);
-}
+COMPARE(pss_means_same, pss_params)
+DECODE(pss_params_decode, pss_params, NO_ALGORITHM, NO_MASK_GEN, 0, 0)
+DECODE(pss_params_decode_strict, pss_params, NO_ALGORITHM, NO_MASK_GEN, 0, 0)
+DECODE(pss_algorithm_decode, pss_params, NO_ALGORITHM, NO_MASK_GEN, 0, 0)
+DECODE(pss_algorithm_decode_strict, pss_params, NO_ALGORITHM, NO_MASK_GEN, 0, 0)
+ENCODE(pss_params_encode, pss_params)
+ENCODE(pss_algorithm_encode, pss_params)
 
 void pkcs1_pss_params_init(struct pkcs1_pss_params *params, const struct pkcs1_bytes *hash, uint8_t salt_len) {
-    struct pkcs1_pss_params made = {with_null(hash), mgf1(hash), salt_len, 1};
+    struct pkcs1_pss_params made = {with_null(*hash), mgf1(*hash), salt_len, 1};
     *params = made;
 }
 
-static inline bool is_whole_oaep(const struct pkcs1_oaep_params *given) {
+static inline bool is_whole_oaep_params(const struct pkcs1_oaep_params *given) {
     return is_whole_algorithm(&given->hash) && is_whole_mask_gen(&given->mask_gen) &&
         is_whole_algorithm(&given->p_source);
 }
 
-RARE static void copy_oaep(struct pkcs1_oaep_params *made, const struct pkcs1_oaep_params *given) {
-    copy_algorithm(&made->hash, &given->hash);
-    copy_mask_gen(&made->mask_gen, &given->mask_gen);
-    copy_algorithm(&made->p_source, &given->p_source);
+RARE static struct pkcs1_oaep_params copy_oaep_params(const struct pkcs1_oaep_params *given) {
+    struct pkcs1_oaep_params made = {
+        copy_algorithm(&given->hash), copy_mask_gen(&given->mask_gen), copy_algorithm(&given->p_source)};
+    return made;
 }
 
 bool pkcs1_oaep_is(const struct pkcs1_oaep_params *params, const struct pkcs1_bytes *hash) {
     return both_use(&params->hash, &params->mask_gen, hash);
 }
 
-/* Looks at copies of both. */
-RARE static bool copied_oaep_mean_same(const struct pkcs1_oaep_params *left, const struct pkcs1_oaep_params *right) {
-    struct pkcs1_oaep_params made_left, made_right;
-    copy_oaep(&made_left, left);
-    copy_oaep(&made_right, right);
-    //@ assert left: oaep_seen(made_left) == \at(oaep_seen(*left), Pre);
-    //@ assert right: oaep_seen(made_right) == \at(oaep_seen(*right), Pre);
-    return pkcs1_c_oaep_means_same(&made_left, &made_right);
-}
-
-bool pkcs1_oaep_means_same(const struct pkcs1_oaep_params *left, const struct pkcs1_oaep_params *right) {
-    if (is_whole_oaep(left) && is_whole_oaep(right))
-        return pkcs1_c_oaep_means_same(left, right);
-    return copied_oaep_mean_same(left, right);
-}
+COMPARE(oaep_means_same, oaep_params)
+DECODE(oaep_params_decode, oaep_params, NO_ALGORITHM, NO_MASK_GEN, NO_ALGORITHM)
+DECODE(oaep_params_decode_strict, oaep_params, NO_ALGORITHM, NO_MASK_GEN, NO_ALGORITHM)
+DECODE(oaep_algorithm_decode, oaep_params, NO_ALGORITHM, NO_MASK_GEN, NO_ALGORITHM)
+DECODE(oaep_algorithm_decode_strict, oaep_params, NO_ALGORITHM, NO_MASK_GEN, NO_ALGORITHM)
+ENCODE(oaep_params_encode, oaep_params)
+ENCODE(oaep_algorithm_encode, oaep_params)
 
 /* Looks for the label in a copy of the source. */
 RARE static bool label_of_copied(const struct pkcs1_algorithm *source, struct pkcs1_bytes *label) {
-    struct pkcs1_algorithm made;
-    copy_algorithm(&made, source);
+    struct pkcs1_algorithm made = copy_algorithm(source);
     return pkcs1_c_oaep_label(&made, label);
 }
 
@@ -495,69 +429,10 @@ bool pkcs1_oaep_label(const struct pkcs1_oaep_params *params, struct pkcs1_bytes
     return has_label;
 }
 
-/* Copies what was read into the caller's struct, on success. */
-static uint32_t set_oaep(struct pkcs1_oaep_params *params, uint32_t status, const struct pkcs1_oaep_params *read) {
-    if (status == PKCS1_OK)
-        *params = *read;
-    return status;
-}
-
-uint32_t pkcs1_oaep_params_decode(const uint8_t *der, size_t der_len, struct pkcs1_oaep_params *params) {
-    struct pkcs1_oaep_params read = {NO_ALGORITHM, NO_MASK_GEN, NO_ALGORITHM};
-    uint32_t status = pkcs1_c_oaep_params_decode(input(der, der_len), der_len, &read);
-    return set_oaep(params, status, &read);
-}
-
-uint32_t pkcs1_oaep_params_decode_strict(const uint8_t *der, size_t der_len, struct pkcs1_oaep_params *params) {
-    struct pkcs1_oaep_params read = {NO_ALGORITHM, NO_MASK_GEN, NO_ALGORITHM};
-    uint32_t status = pkcs1_c_oaep_params_decode_strict(input(der, der_len), der_len, &read);
-    return set_oaep(params, status, &read);
-}
-
-uint32_t pkcs1_oaep_algorithm_decode(const uint8_t *der, size_t der_len, struct pkcs1_oaep_params *params) {
-    struct pkcs1_oaep_params read = {NO_ALGORITHM, NO_MASK_GEN, NO_ALGORITHM};
-    uint32_t status = pkcs1_c_oaep_algorithm_decode(input(der, der_len), der_len, &read);
-    return set_oaep(params, status, &read);
-}
-
-uint32_t pkcs1_oaep_algorithm_decode_strict(const uint8_t *der, size_t der_len, struct pkcs1_oaep_params *params) {
-    struct pkcs1_oaep_params read = {NO_ALGORITHM, NO_MASK_GEN, NO_ALGORITHM};
-    uint32_t status = pkcs1_c_oaep_algorithm_decode_strict(input(der, der_len), der_len, &read);
-    return set_oaep(params, status, &read);
-}
-
-/* Encode a copy of the parameters. */
-RARE static uint32_t write_copied_oaep_params(const struct pkcs1_oaep_params *params, uint8_t *out, size_t room,
-                                              size_t *len) {
-    struct pkcs1_oaep_params made;
-    copy_oaep(&made, params);
-    return pkcs1_c_oaep_params_encode(&made, output(out, room), room, len);
-}
-
-RARE static uint32_t write_copied_oaep_algorithm(const struct pkcs1_oaep_params *params, uint8_t *out, size_t room,
-                                                 size_t *len) {
-    struct pkcs1_oaep_params made;
-    copy_oaep(&made, params);
-    return pkcs1_c_oaep_algorithm_encode(&made, output(out, room), room, len);
-}
-
-uint32_t pkcs1_oaep_params_encode(const struct pkcs1_oaep_params *params, uint8_t *out, size_t room, size_t *len) {
-    if (is_whole_oaep(params))
-        return pkcs1_c_oaep_params_encode(params, output(out, room), room, len);
-    return write_copied_oaep_params(params, out, room, len);
-}
-
-uint32_t pkcs1_oaep_algorithm_encode(const struct pkcs1_oaep_params *params, uint8_t *out, size_t room, size_t *len) {
-    if (is_whole_oaep(params))
-        return pkcs1_c_oaep_algorithm_encode(params, output(out, room), room, len);
-    return write_copied_oaep_algorithm(params, out, room, len);
-}
-
 void pkcs1_oaep_params_init(struct pkcs1_oaep_params *params, const struct pkcs1_bytes *hash, const uint8_t *label,
                             size_t label_len) {
     struct pkcs1_bytes given = {label, label_len};
-    struct pkcs1_oaep_params made = {with_null(hash), mgf1(hash), with_null(&pkcs1_oid_p_specified)};
-    made.p_source.tag = 0x04;
-    made.p_source.parameters = never_null(given);
+    struct pkcs1_algorithm source = {pkcs1_oid_p_specified, true, 0x04, never_null(given)};
+    struct pkcs1_oaep_params made = {with_null(*hash), mgf1(*hash), source};
     *params = made;
 }

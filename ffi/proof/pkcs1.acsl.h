@@ -435,19 +435,20 @@ static struct pkcs1_bytes never_null(struct pkcs1_bytes given);
     requires \valid_read(given) && given_##name(*given);                                                               \
     PURE; ensures whole: is_flag(\result) && (\result == 1 ==> ok_##name(*given) && made_##name(*given, *given))
 #define COPIES(name)                                                                                                   \
-    requires \valid(made) && \valid_read(given) && given_##name(*given) && \separated(made, given);                    \
-    ENDS; assigns *made; ensures ok: ok_##name(*made);                                                                 \
-    ensures made: made_##name(*made, \old(*given))
+    requires \valid_read(given) && given_##name(*given);                                                               \
+    PURE; ensures ok: ok_##name(\result); ensures made: made_##name(\result, *given);                                  \
+    ensures seen: name##_seen(\result) == name##_seen(*given)
 /*@ WHOLE(private_key); */ static bool is_whole_key(const struct pkcs1_private_key *given);
-/*@ COPIES(private_key); */ static void copy_key(struct pkcs1_private_key *made, const struct pkcs1_private_key *given);
+/*@ COPIES(private_key); */ static struct pkcs1_private_key copy_key(const struct pkcs1_private_key *given);
 /*@ WHOLE(algorithm); */ static bool is_whole_algorithm(const struct pkcs1_algorithm *given);
-/*@ COPIES(algorithm); */ static void copy_algorithm(struct pkcs1_algorithm *made, const struct pkcs1_algorithm *given);
+/*@ COPIES(algorithm); */
+static struct pkcs1_algorithm copy_algorithm(const struct pkcs1_algorithm *given);
 /*@ WHOLE(mask_gen); */ static bool is_whole_mask_gen(const struct pkcs1_mask_gen *given);
-/*@ COPIES(mask_gen); */ static void copy_mask_gen(struct pkcs1_mask_gen *made, const struct pkcs1_mask_gen *given);
-/*@ WHOLE(pss); */ static bool is_whole_pss(const struct pkcs1_pss_params *given);
-/*@ COPIES(pss); */ static void copy_pss(struct pkcs1_pss_params *made, const struct pkcs1_pss_params *given);
-/*@ WHOLE(oaep); */ static bool is_whole_oaep(const struct pkcs1_oaep_params *given);
-/*@ COPIES(oaep); */ static void copy_oaep(struct pkcs1_oaep_params *made, const struct pkcs1_oaep_params *given);
+/*@ COPIES(mask_gen); */ static struct pkcs1_mask_gen copy_mask_gen(const struct pkcs1_mask_gen *given);
+/*@ WHOLE(pss); */ static bool is_whole_pss_params(const struct pkcs1_pss_params *given);
+/*@ COPIES(pss); */ static struct pkcs1_pss_params copy_pss_params(const struct pkcs1_pss_params *given);
+/*@ WHOLE(oaep); */ static bool is_whole_oaep_params(const struct pkcs1_oaep_params *given);
+/*@ COPIES(oaep); */ static struct pkcs1_oaep_params copy_oaep_params(const struct pkcs1_oaep_params *given);
 /*@ requires given(der, der_len); ENDS; assigns \result \from der, der_len;
   @ ensures made: ok(\result, der_len) && (der_len != 0 ==> \result == der);
   @ ensures seen: octets_of(\result, der_len) == octets_of(der, der_len); */ static const uint8_t *input(DER_IN);
@@ -456,17 +457,9 @@ static struct pkcs1_bytes never_null(struct pkcs1_bytes given);
 static uint8_t *output(uint8_t *out, size_t room);
 /*@ requires \valid_read(flag); TELLS(*flag != 0); */ static bool is_set(const bool *flag);
 /*@ requires \valid_read(flag); TELLS(*flag == 1); */ static bool is_one(const bool *flag);
-/*@ requires \valid_read(oid); PURE; ensures hash: is_hash_with_null(\result, *oid); */
-static struct pkcs1_algorithm with_null(const struct pkcs1_bytes *oid);
-/*@ requires \valid_read(hash); PURE; ensures mask_gen: is_mgf1(\result, *hash); */
-static struct pkcs1_mask_gen mgf1(const struct pkcs1_bytes *hash);
-#define SETS                                                                                                           \
-    requires \valid(params) && \valid_read(read) && \separated(params, read);                                          \
-    ENDS; assigns *params;                                                                                             \
-    ensures ok: \result == status && (status == PKCS1_OK ==> *params == \old(*read));                                  \
-    ensures unchanged: status != PKCS1_OK ==> *params == \old(*params)
-/*@ SETS; */ static uint32_t set_pss(PSS, uint32_t status, const struct pkcs1_pss_params *read);
-/*@ SETS; */ static uint32_t set_oaep(OAEP, uint32_t status, const struct pkcs1_oaep_params *read);
+/*@ PURE; ensures hash: is_hash_with_null(\result, oid); */
+static struct pkcs1_algorithm with_null(struct pkcs1_bytes oid);
+/*@ PURE; ensures mask_gen: is_mgf1(\result, hash); */ static struct pkcs1_mask_gen mgf1(struct pkcs1_bytes hash);
 /*@ requires ok_bytes(listed) && other_primes == count_of(bytes_seen(listed)) && lists_primes(bytes_seen(listed));
   @ requires \valid(others + (0 .. others_room - 1)) &&
   @   \separated(others + (0 .. others_room - 1), listed.data + (0 .. listed.len - 1));
@@ -500,12 +493,12 @@ static bool copied_algorithm_is(const struct pkcs1_algorithm *algorithm, const s
 static bool both_copied_use(BOTH, const struct pkcs1_bytes *oid);
 /*@ requires \valid_read(hash) && \valid_read(mask_gen); BOTH_USE(*hash, *mask_gen, oid); */
 static bool both_use(BOTH, const struct pkcs1_bytes *oid);
-/*@ MEAN_SAME(given, algorithm, are_same_hash); */ static bool copied_are_same_hash(TWO_ALGORITHMS);
-/*@ MEAN_SAME(given, pss, are_same_pss); */ static bool copied_pss_mean_same(TWO_PSS);
-/*@ MEAN_SAME(given, oaep, are_same_oaep); */ static bool copied_oaep_mean_same(TWO_OAEP);
+/*@ MEAN_SAME(given, algorithm, are_same_hash); */ static bool copied_algorithm_is_same_hash(TWO_ALGORITHMS);
+/*@ MEAN_SAME(given, pss, are_same_pss); */ static bool copied_pss_means_same(TWO_PSS);
+/*@ MEAN_SAME(given, oaep, are_same_oaep); */ static bool copied_oaep_means_same(TWO_OAEP);
 /*@ requires ok_bytes(*label); LABELS(given, source, *source); */
 static bool label_of_copied(const struct pkcs1_algorithm *source, struct pkcs1_bytes *label);
-/*@ ENCODES(given, PSS_PARAMS, params, pss); */ static uint32_t write_copied_pss_params(const PSS, OUT);
-/*@ ENCODES(given, PSS_ALGORITHM, params, pss); */ static uint32_t write_copied_pss_algorithm(const PSS, OUT);
-/*@ ENCODES(given, OAEP_PARAMS, params, oaep); */ static uint32_t write_copied_oaep_params(const OAEP, OUT);
-/*@ ENCODES(given, OAEP_ALGORITHM, params, oaep); */ static uint32_t write_copied_oaep_algorithm(const OAEP, OUT);
+/*@ ENCODES(given, PSS_PARAMS, params, pss); */ static uint32_t copied_pss_params_encode(const PSS, OUT);
+/*@ ENCODES(given, PSS_ALGORITHM, params, pss); */ static uint32_t copied_pss_algorithm_encode(const PSS, OUT);
+/*@ ENCODES(given, OAEP_PARAMS, params, oaep); */ static uint32_t copied_oaep_params_encode(const OAEP, OUT);
+/*@ ENCODES(given, OAEP_ALGORITHM, params, oaep); */ static uint32_t copied_oaep_algorithm_encode(const OAEP, OUT);

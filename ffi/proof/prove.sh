@@ -9,7 +9,7 @@
 # It needs frama-c, why3, z3 and cvc4, which tools/install.sh installs on Debian. If they aren't there, the proof is left
 # out, which is a failure with --must or if CI is set.
 # AT_ONCE: how many provers run at a time. GIVE_UP: after how many steps, where it is known that goals are open. KEEP: a
-# folder for the names of the goals that are proved and open.
+# file for what Frama-C says of the goals of WORDs.
 set -eu
 cd "$(dirname "$0")/../.."
 must=${CI-}
@@ -43,14 +43,14 @@ fi
 export WHY3CONFIG=$room/why3.conf
 why3 config detect > "$room/detected" 2>&1
 
-# frama LOG WORD..: Frama-C on the file proof.c in the folder $source. A caller may pass the constants that are named:
-# they lie in the same memory as what callers pass.
-source=. machine=gcc_x86_64
+# frama LOG WORD..: Frama-C on proof.c. A caller may pass the constants that are named: they lie in the same memory as
+# what callers pass.
+machine=gcc_x86_64
 frama() {
     local log=$1
     shift
     frama-c -machdep "$machine" -no-frama-c-stdlib \
-        -cpp-extra-args="-nostdinc -I$source/ffi/proof/include -I$source/ffi/lib/include" "$source/ffi/proof/proof.c" \
+        -cpp-extra-args="-nostdinc -Iffi/proof/include -Iffi/lib/include" ffi/proof/proof.c \
         -wp -wp-rte -wp-par "$at_once" -wp-alias-vars pkcs1_oid_mgf1,pkcs1_oid_p_specified "$@" > "$log" 2>&1 || {
         cat "$log" >&2
         exit 1
@@ -99,7 +99,7 @@ else
     machine=gcc_x86_64
 fi
 sed 's/^/not proved: /' "$room/open"
-[ -z "${KEEP-}" ] || cp "$room/proved" "$room/open" "$KEEP"
+[ -z "${KEEP-}" ] || cp "$room/calls" "$KEEP"
 
 # The contracts contradict nothing: no prover finds that a place can't be reached.
 smoke() {
@@ -112,29 +112,15 @@ smoke() {
     sed -nE 's/^\[wp\] \[Passed\] Smoke-test //p' "$room/smoke" > "$room/passed"
     goals '.*' "$room/smoke" | comm -23 - <(sort -u "$room/passed") > "$room/doomed"
 }
-# Three false assertions are refused.
-refute() {
-    source=$room/false
-    mkdir -p "$source/ffi/lib"
-    cp -r ffi/lib/{pkcs1.c,include} "$source/ffi/lib"
-    cp -r ffi/proof "$source/ffi"
-    sed -i -e '/^    \*key = \*read;/a //@ check refused: key->modulus.len == 0;' \
-        -e '/^    if (has_empty(/i //@ check refused: others_len == 0;' \
-        -e '/^    return given;/i //@ check refused: given.len != 0;' "$source/ffi/lib/pkcs1.c"
-    frama "$room/refused" -wp-no-init-const -wp-prop=refused -wp-prover cvc4 -wp-timeout 4
-    source=.
-    refused=$(goals ' : (Timeout|Unknown|Stepout).*' "$room/refused" | wc -l)
-}
 # What WP assumes besides, or leaves out, it says in a warning.
 warned='Stronger|Degenerated|Missing assigns|[Nn]either code|Cast with incompatible|hypotheses'
 holds=true
 ! grep -hE "$warned" "${logs[@]}" || holds=false
 if [ $# = 0 ]; then
     smoke
-    refute
     sed 's/^/out of reach: /' "$room/doomed"
-    echo "$(wc -l < "$room/passed") places are within reach, $refused of 3 false assertions are refused"
-    [ ! -s "$room/doomed" ] && [ -s "$room/passed" ] && [ "$refused" = 3 ] || holds=false
+    echo "$(wc -l < "$room/passed") places are within reach"
+    [ ! -s "$room/doomed" ] && [ -s "$room/passed" ] || holds=false
 fi
 echo "$(wc -l < "$room/proved") proved, $(wc -l < "$room/open") not"
 [ -s "$room/proved" ] && [ ! -s "$room/open" ] && $holds

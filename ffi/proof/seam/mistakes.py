@@ -3,9 +3,7 @@
 that are watched by what is made of it, or else by check_contracts.py, which reads it. Prints by which, and at which
 clause. The status is 1 if one passed.
 
-    mistakes.py OUT     OUT: what `make` left there
-
-Where the variable SAMPLE is set, tools/verdicts.py draws those that are planted."""
+    mistakes.py OUT     OUT: what `make` left there"""
 import os
 import re
 import subprocess
@@ -14,34 +12,14 @@ import tempfile
 from concurrent.futures import ThreadPoolExecutor
 
 HERE = os.path.dirname(os.path.abspath(__file__))
-TOP = os.path.normpath(f"{HERE}/../../..")
+sys.path.insert(0, f"{HERE}/..")
+from planted import TOP, planted, put, read, tell  # noqa: E402
+
 OUT = os.path.abspath(sys.argv[1])
 FLAGS = ["-std=gnu11", "-w", "-DWATCHED", *(f"-I{TOP}/ffi/{it}" for it in (
     "lib/include", "tests", "tests/fuzz", "proof", "proof/seam"))]
 SOURCES = [*(f"{HERE}/{it}.c" for it in ("terms", "meaning", "writer")), *(f"{TOP}/ffi/tests/{it}.c" for it in (
     "fuzz/reference", "fuzz/elements", "fuzz/compare", "rows", "large", "test"))]
-
-
-def mistakes():
-    """What each says, the text there and what stands in its place."""
-    text = re.sub(r"^#.*\n", "", open(f"{HERE}/mistakes", encoding="utf-8").read(), flags=re.M)
-    for what, *lines in (block.split("\n") for block in text.strip().split("\n\n")):
-        yield what, *("\n".join(it[1:] for it in lines if it[0] == sign) for sign in "-+")
-
-
-def drawn(names):
-    """Those of these mistakes that are tried."""
-    if "SAMPLE" not in os.environ:
-        return names
-    said = subprocess.run([f"{TOP}/tools/verdicts.py", "drawn", "3"], input="\n".join(names), stdout=subprocess.PIPE,
-                          text=True, check=True)
-    return said.stdout.splitlines()
-
-
-def plant(whole, what, old, new):
-    if whole.count(old) != 1:
-        sys.exit(f"{what}: the text is there {whole.count(old)} times: {old}")
-    return whole.replace(old, new)
 
 
 def run(*words):
@@ -50,7 +28,6 @@ def run(*words):
 
 def refused_by(text, room, objects):
     """What refuses these contracts, or None."""
-    os.makedirs(room)
     acsl, made, test = f"{room}/pkcs1.acsl.h", f"{room}/seam.c", f"{room}/test"
     with open(acsl, "w", encoding="utf-8") as it:
         it.write(text)
@@ -75,21 +52,14 @@ def watched(acsl, made, test, objects):
 
 
 def main():
-    whole = open(f"{TOP}/ffi/proof/pkcs1.acsl.h", encoding="utf-8").read()
-    every = list(mistakes())
-    tried = drawn([it[0] for it in every])
-    planted = [(what, plant(whole, what, old, new)) for what, old, new in every if what in tried]
+    whole = read(f"{TOP}/ffi/proof/pkcs1.acsl.h")
+    mistakes = planted(f"{HERE}/mistakes", lambda *words: put(whole, *words))
     with tempfile.TemporaryDirectory() as room, ThreadPoolExecutor(os.cpu_count()) as pool:
         subprocess.run(["gcc", "-O1", *FLAGS, "-c", *SOURCES], cwd=room, check=True)
         objects = [f"{room}/{it}" for it in os.listdir(room)] + [f"{OUT}/calls.o", f"{OUT}/proved.o"]
-        if refused_by(whole, f"{room}/none", objects):
+        if refused_by(whole, tempfile.mkdtemp(dir=room), objects):
             sys.exit("without a mistake it is refused")
-        texts = [(text, f"{room}/{i}", objects) for i, (_, text) in enumerate(planted)]
-        refused = list(pool.map(lambda it: refused_by(*it), texts))
-    for (what, _), by in zip(planted, refused):
-        print(f"{'refused' if by else 'PASSED'}: {what}: {by}")
-    print(f"{len(planted)} mistakes planted, {refused.count(None)} passed")
-    sys.exit(None in refused)
+        tell(mistakes, pool.map(lambda it: refused_by(it[1], tempfile.mkdtemp(dir=room), objects), mistakes))
 
 
 main()
