@@ -38,30 +38,20 @@ static uint32_t status_of(const char *text) {
 }
 
 uint32_t read_row(const char *kind, const uint8_t *der, size_t len, union value *v) {
-    if (strcmp(kind, "pub") == 0) return pkcs1_public_key_decode(der, len, &v->key);
+#define READ(word, number, call, type, part) \
+    if (strcmp(kind, word) == 0) return pkcs1_##call(der, len, &v->part);
+    DECODERS(READ)
     if (strcmp(kind, "priv") == 0) return pkcs1_private_key_decode(der, len, &v->priv.key, v->priv.others, LISTED);
-    if (strcmp(kind, "info") == 0)
-        return pkcs1_private_key_info_decode(der, len, &v->priv.info, &v->priv.key, v->priv.others, LISTED);
-    if (strcmp(kind, "pss") == 0) return pkcs1_pss_params_decode(der, len, &v->pss);
-    if (strcmp(kind, "pss-strict") == 0) return pkcs1_pss_params_decode_strict(der, len, &v->pss);
-    if (strcmp(kind, "oaep") == 0) return pkcs1_oaep_params_decode(der, len, &v->oaep);
-    if (strcmp(kind, "pss-algorithm") == 0) return pkcs1_pss_algorithm_decode(der, len, &v->pss);
-    if (strcmp(kind, "pss-algorithm-strict") == 0) return pkcs1_pss_algorithm_decode_strict(der, len, &v->pss);
-    if (strcmp(kind, "oaep-algorithm") == 0) return pkcs1_oaep_algorithm_decode(der, len, &v->oaep);
-    if (strcmp(kind, "oaep-algorithm-strict") == 0) return pkcs1_oaep_algorithm_decode_strict(der, len, &v->oaep);
-    CHECK(strcmp(kind, "oaep-strict") == 0);
-    return pkcs1_oaep_params_decode_strict(der, len, &v->oaep);
+    CHECK(strcmp(kind, "info") == 0);
+    return pkcs1_private_key_info_decode(der, len, &v->priv.info, &v->priv.key, v->priv.others, LISTED);
 }
 
 uint32_t write_row(const char *kind, const union value *v, uint8_t *out, size_t room, size_t *len) {
-    if (strcmp(kind, "pub") == 0) return pkcs1_public_key_encode(&v->key, out, room, len);
-    if (strcmp(kind, "priv") == 0)
-        return pkcs1_private_key_encode(&v->priv.key, v->priv.others, v->priv.key.other_primes, out, room, len);
-    if (strcmp(kind, "info") == 0) return pkcs1_private_key_info_encode(&v->priv.info, out, room, len);
-    if (strncmp(kind, "pss-algorithm", 13) == 0) return pkcs1_pss_algorithm_encode(&v->pss, out, room, len);
-    if (strncmp(kind, "oaep-algorithm", 14) == 0) return pkcs1_oaep_algorithm_encode(&v->oaep, out, room, len);
-    if (strncmp(kind, "pss", 3) == 0) return pkcs1_pss_params_encode(&v->pss, out, room, len);
-    return pkcs1_oaep_params_encode(&v->oaep, out, room, len);
+#define WRITE(word, call, type, part) \
+    if (strncmp(kind, word, strlen(word)) == 0) return pkcs1_##call(&v->part, out, room, len);
+    ENCODERS(WRITE)
+    CHECK(strcmp(kind, "priv") == 0);
+    return pkcs1_private_key_encode(&v->priv.key, v->priv.others, v->priv.key.other_primes, out, room, len);
 }
 
 /* The fields of octets: the first letters of their kinds, where they stand, and the status if one that isn't empty is.
@@ -102,6 +92,12 @@ enum { FIELDS = sizeof fields / sizeof fields[0] };
 
 static bool has_field(const char *kind, size_t i) {
     return strncmp(kind, fields[i].kind, strlen(fields[i].kind)) == 0;
+}
+
+struct pkcs1_bytes *next_field(const char *kind, union value *value, size_t *i) {
+    while (*i < FIELDS && !has_field(kind, *i))
+        ++*i;
+    return *i < FIELDS ? (void *)((uint8_t *)value + fields[(*i)++].at) : NULL;
 }
 
 static struct pkcs1_bytes field_of(const union value *value, size_t i) {

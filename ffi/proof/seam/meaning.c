@@ -4,23 +4,15 @@
 #include "reference.h"
 #include "terms.h"
 
-#define READS(call, type) uint32_t __real_##call(const uint8_t *der, size_t der_len, struct type *filled)
-READS(pkcs1_c_public_key_decode, pkcs1_public_key);
-READS(pkcs1_c_pss_params_decode, pkcs1_pss_params);
-READS(pkcs1_c_pss_params_decode_strict, pkcs1_pss_params);
-READS(pkcs1_c_pss_algorithm_decode, pkcs1_pss_params);
-READS(pkcs1_c_pss_algorithm_decode_strict, pkcs1_pss_params);
-READS(pkcs1_c_oaep_params_decode, pkcs1_oaep_params);
-READS(pkcs1_c_oaep_params_decode_strict, pkcs1_oaep_params);
-READS(pkcs1_c_oaep_algorithm_decode, pkcs1_oaep_params);
-READS(pkcs1_c_oaep_algorithm_decode_strict, pkcs1_oaep_params);
+#define DECLARED(word, kind, call, type, part) \
+    uint32_t __real_pkcs1_c_##call(const uint8_t *der, size_t der_len, struct pkcs1_##type *filled);
+DECODERS(DECLARED)
 uint32_t __real_pkcs1_c_private_key_decode(const uint8_t *der, size_t der_len, struct pkcs1_private_key *key,
                                            struct pkcs1_bytes *listed);
 uint32_t __real_pkcs1_c_private_key_info_decode(const uint8_t *der, size_t der_len, struct pkcs1_private_key_info *info,
                                                 struct pkcs1_private_key *key, struct pkcs1_bytes *listed);
 void __real_pkcs1_c_status_text(uint32_t status, struct pkcs1_bytes *text);
 void __real_pkcs1_c_version(struct pkcs1_bytes *text);
-
 
 octets octets_of(const uint8_t *data, integer len) {
     size_t size = len > 0 ? (size_t)len : 0;
@@ -39,6 +31,26 @@ integer status_of(integer kind, octets encoding) {
     return reference(kinds[kind], encoding.data, encoding.len, &read);
 }
 
+#define READ(word, kind, call, type, part) \
+    case kind: return __real_pkcs1_c_##call(from.data, from.len, &read->part);
+static uint32_t read_by_call(integer kind, octets from, union value *read) {
+    switch (kind) {
+    DECODERS(READ)
+    case PRIVATE_KEY:
+        return __real_pkcs1_c_private_key_decode(from.data, from.len, &read->priv.key, &read->priv.listed);
+    default:
+        return __real_pkcs1_c_private_key_info_decode(from.data, from.len, &read->priv.info, &read->priv.key,
+                                                      &read->priv.listed);
+    }
+}
+
+typedef void change(struct pkcs1_bytes *bytes, octets from, const uint8_t *to);
+
+static void spoil(struct pkcs1_bytes *bytes, octets from, const uint8_t *to) {
+    (void)from, (void)to;
+    *bytes = another;
+}
+
 /* Where it is in the input, if it is in the copy. */
 static void move(struct pkcs1_bytes *bytes, octets from, const uint8_t *to) {
     uintptr_t before = (uintptr_t)bytes->data - (uintptr_t)from.data;
@@ -46,114 +58,44 @@ static void move(struct pkcs1_bytes *bytes, octets from, const uint8_t *to) {
         bytes->data = (const uint8_t *)((uintptr_t)to + before);
 }
 
-static void move_numbers(struct pkcs1_bytes *numbers, size_t count, octets from, const uint8_t *to) {
-    for (size_t i = 0; i < count; i++)
-        move(&numbers[i], from, to);
+static void each_field(integer kind, union value *value, change *change, octets from, const uint8_t *to) {
+    struct pkcs1_bytes *field;
+    for (size_t i = 0; (field = next_field(kinds[kind], value, &i)) != NULL;)
+        change(field, from, to);
+    if (kind == PRIVATE_KEY_INFO)
+        each_field(PRIVATE_KEY, value, change, from, to);
+    if (kind == PRIVATE_KEY)
+        change(&value->priv.listed, from, to);
 }
 
-static void move_algorithm(struct pkcs1_algorithm *algorithm, octets from, const uint8_t *to) {
-    move(&algorithm->oid, from, to);
-    move(&algorithm->parameters, from, to);
-}
-
-static void move_mask_gen(struct pkcs1_mask_gen *mask_gen, octets from, const uint8_t *to) {
-    move(&mask_gen->oid, from, to);
-    move_algorithm(&mask_gen->hash, from, to);
-}
-
-static void agree(integer kind, const union value *read, octets encoding) {
-    union value want;
+/* All that is filled. Before, each flag is set. */
+static union value read_of(integer kind, const uint8_t *der, octets encoding) {
     struct pkcs1_bytes input = {encoding.data, encoding.len};
-    memset(&want, 0, sizeof want);
-    HOLDS("the second reader", reference(kinds[kind], encoding.data, encoding.len, &want) == PKCS1_OK);
-    HOLDS("the second reader", same_value(kinds[kind], read, &want, input));
-}
-
-static struct pkcs1_algorithm another_algorithm(void) {
-    struct pkcs1_algorithm made = {another, true, 9, another};
-    return made;
-}
-
-static struct pkcs1_mask_gen another_mask_gen(void) {
-    struct pkcs1_mask_gen made = {another, true, another_algorithm()};
-    return made;
-}
-
-struct pkcs1_public_key public_key_of(integer kind, const uint8_t *der, octets encoding) {
-    union value read;
-    memset(&read, 0, sizeof read);
-    read.key.modulus = read.key.public_exponent = another;
-    if (__real_pkcs1_c_public_key_decode(encoding.data, encoding.len, &read.key) == PKCS1_OK)
-        agree(kind, &read, encoding);
-    move_numbers(&read.key.modulus, 2, encoding, der);
-    return read.key;
-}
-
-/* A key or a container, with all that is filled. */
-static union value private_of(integer kind, const uint8_t *der, octets encoding) {
-    union value read;
-    memset(&read, 0, sizeof read);
-    for (size_t i = 0; i < 8; i++)
-        (&read.priv.key.modulus)[i] = another;
-    read.priv.key.other_primes = 77;
-    read.priv.listed = read.priv.info.private_key = read.priv.info.attributes = another;
-    read.priv.info.has_attributes = true;
-    uint32_t status = kind == PRIVATE_KEY
-        ? __real_pkcs1_c_private_key_decode(encoding.data, encoding.len, &read.priv.key, &read.priv.listed)
-        : __real_pkcs1_c_private_key_info_decode(encoding.data, encoding.len, &read.priv.info, &read.priv.key,
-                                                 &read.priv.listed);
+    union value read, want;
     size_t count;
-    if (status == PKCS1_OK)
-        reads_primes(read.priv.listed.data, read.priv.listed.len, read.priv.others, LISTED, &count);
-    if (status == PKCS1_OK)
-        agree(kind, &read, encoding);
-    move_numbers(&read.priv.key.modulus, 8, encoding, der);
-    move(&read.priv.listed, encoding, der);
-    move(&read.priv.info.private_key, encoding, der);
-    move(&read.priv.info.attributes, encoding, der);
+    memset(&read, 1, sizeof read);
+    memset(&want, 0, sizeof want);
+    each_field(kind, &read, spoil, encoding, der);
+    if (read_by_call(kind, encoding, &read) == PKCS1_OK) {
+        if (kind == PRIVATE_KEY || kind == PRIVATE_KEY_INFO)
+            reads_primes(read.priv.listed.data, read.priv.listed.len, read.priv.others, LISTED, &count);
+        HOLDS("the second reader", reference(kinds[kind], encoding.data, encoding.len, &want) == PKCS1_OK);
+        HOLDS("the second reader", same_value(kinds[kind], &read, &want, input));
+    }
+    each_field(kind, &read, move, encoding, der);
     return read;
 }
 
-struct pkcs1_private_key private_key_of(integer kind, const uint8_t *der, octets encoding) {
-    return private_of(kind, der, encoding).priv.key;
-}
-
-struct pkcs1_private_key_info info_of(integer kind, const uint8_t *der, octets encoding) {
-    return private_of(kind, der, encoding).priv.info;
-}
-
-struct pkcs1_bytes listed_of(integer kind, const uint8_t *der, octets encoding) {
-    return private_of(kind, der, encoding).priv.listed;
-}
-
-struct pkcs1_pss_params pss_of(integer kind, const uint8_t *der, octets encoding) {
-    uint32_t (*read_as[])(const uint8_t *, size_t, struct pkcs1_pss_params *) = {
-        __real_pkcs1_c_pss_params_decode, __real_pkcs1_c_pss_params_decode_strict, __real_pkcs1_c_pss_algorithm_decode,
-        __real_pkcs1_c_pss_algorithm_decode_strict};
-    union value read;
-    memset(&read, 0, sizeof read);
-    read.pss = (struct pkcs1_pss_params){another_algorithm(), another_mask_gen(), 77, 77};
-    if (read_as[kind - PSS_PARAMS](encoding.data, encoding.len, &read.pss) == PKCS1_OK)
-        agree(kind, &read, encoding);
-    move_algorithm(&read.pss.hash, encoding, der);
-    move_mask_gen(&read.pss.mask_gen, encoding, der);
-    return read.pss;
-}
-
-struct pkcs1_oaep_params oaep_of(integer kind, const uint8_t *der, octets encoding) {
-    uint32_t (*read_as[])(const uint8_t *, size_t, struct pkcs1_oaep_params *) = {
-        __real_pkcs1_c_oaep_params_decode, __real_pkcs1_c_oaep_params_decode_strict,
-        __real_pkcs1_c_oaep_algorithm_decode, __real_pkcs1_c_oaep_algorithm_decode_strict};
-    union value read;
-    memset(&read, 0, sizeof read);
-    read.oaep = (struct pkcs1_oaep_params){another_algorithm(), another_mask_gen(), another_algorithm()};
-    if (read_as[kind - OAEP_PARAMS](encoding.data, encoding.len, &read.oaep) == PKCS1_OK)
-        agree(kind, &read, encoding);
-    move_algorithm(&read.oaep.hash, encoding, der);
-    move_mask_gen(&read.oaep.mask_gen, encoding, der);
-    move_algorithm(&read.oaep.p_source, encoding, der);
-    return read.oaep;
-}
+#define PART(name, type, part)                                                   \
+    struct type name##_of(integer kind, const uint8_t *der, octets encoding) {   \
+        return read_of(kind, der, encoding).part;                                \
+    }
+PART(public_key, pkcs1_public_key, key)
+PART(private_key, pkcs1_private_key, priv.key)
+PART(info, pkcs1_private_key_info, priv.info)
+PART(listed, pkcs1_bytes, priv.listed)
+PART(pss, pkcs1_pss_params, pss)
+PART(oaep, pkcs1_oaep_params, oaep)
 
 /* The primes that octets encode: those that were asked for last are kept until the call ends. */
 static const struct primes {
@@ -185,7 +127,8 @@ struct pkcs1_other_prime other_of(const uint8_t *listed, octets encodings, integ
     struct pkcs1_other_prime prime = {another, another, another};
     if (i < count_of(encodings))
         prime = primes_in(encodings)->primes[i];
-    move_numbers(&prime.prime, 3, encodings, listed);
+    for (size_t at = 0; at < 3; at++)
+        move(&prime.prime + at, encodings, listed);
     return prime;
 }
 
