@@ -1,10 +1,12 @@
 #!/usr/bin/env python3
 """Compares what ffi/proof/pkcs1.acsl.h says of each proved call with its Rattle function. What it requires is what the
 types of the Rattle signature require: the exports have no clause `requires`. Each clause that it promises is named as
-the Rattle clause that says the same, and that one has the words for what it says. What differs is printed; the status
-is 1 then.
+the Rattle clause that says the same, and that one has the words for what it says. And Rattle says what it said when
+somebody last read both: ffi/proof/clauses has the signature and the clauses of each function, and each definition of
+Structs.antt. So a clause that gets weaker, or stronger, is read again. What differs is printed; the status is 1 then.
 
-    check_contracts.py [ACSL]     ACSL: other contracts"""
+    check_contracts.py [--write] [ACSL]     ACSL: other contracts. --write: writes `clauses`, once both were read"""
+import difflib
 import glob
 import os
 import re
@@ -14,6 +16,9 @@ TOP = os.path.join(os.path.dirname(os.path.abspath(__file__)), "..", "..")
 sys.path.insert(0, f"{TOP}/ffi/proof/seam")
 import acsl  # noqa: E402
 
+CLAUSES = f"{TOP}/ffi/proof/clauses"
+CALL = r'#\[unsafe\(no_mangle\)\]\s*pub extern "C" fn (\w+)(.*?)\{\n'
+DEFINITION = r"^(?:abbrev pub|pub record|pub data) .*?(?=\n\n|\Z)"
 EXPORT = r'#\[unsafe\(no_mangle\)\]\s*pub extern "C" fn (\w+)(?:<[^>]*>)?\((.*?)\)(?: -> \w+)?\n(.*?)\n?\{\n'
 NAMES = {"PublicKey": "public_key", "PrivateKey": "private_key", "OtherPrime": "others", "PrivateKeyInfo": "info",
          "Algorithm": "algorithm", "MaskGen": "mask_gen", "PssParams": "pss", "OaepParams": "oaep", "Bytes": "bytes"}
@@ -40,6 +45,22 @@ SAYS = {
     "OAEP_ALGORITHM": "OaepAlgorithmEncoding|rsa_oaep_algorithm",
     "OAEP_ALGORITHM_STRICT": "IsShortest OaepAlgorithmEncoding|strict_oaep_algorithm",
 }
+
+
+def read(path):
+    with open(path, encoding="utf-8") as it:
+        return it.read()
+
+
+def one_line(text):
+    return " ".join(re.sub(r"^\s*--.*\n?", "", text, flags=re.M).split()) + "\n"
+
+
+def lines_of(source, structs):
+    """A line for the signature of each Rattle function, for each of its clauses, and for each definition."""
+    for name, said in re.findall(CALL, source, re.M | re.S):
+        yield from (f"{name}: {one_line(it)}" for it in re.split(r"^\s*(?=requires|ensures)", said, flags=re.M))
+    yield from map(one_line, re.findall(DEFINITION, structs, re.M | re.S))
 
 
 def split(text, by):
@@ -141,11 +162,11 @@ def promised(call, clauses, named):
 
 
 def main():
-    path = sys.argv[1] if len(sys.argv) > 1 else f"{TOP}/ffi/proof/pkcs1.acsl.h"
+    path = next((it for it in sys.argv[1:] if it != "--write"), f"{TOP}/ffi/proof/pkcs1.acsl.h")
     text, (named, calls) = acsl.expanded(path), acsl.read(path)
-    structs = open(f"{TOP}/crates/pkcs1_c/specs/Structs.antt", encoding="utf-8").read()
+    structs = read(f"{TOP}/crates/pkcs1_c/specs/Structs.antt")
     records = dict(re.findall(r"pub (\w+) : (.*)", re.search(r"record WritesOrTells .*? where\n(.*?)\n\n", structs, re.S)[1]))
-    source = "\n".join(open(it, encoding="utf-8").read() for it in sorted(glob.glob(f"{TOP}/crates/pkcs1_c/src/*.rt")))
+    source = "\n".join(map(read, sorted(glob.glob(f"{TOP}/crates/pkcs1_c/src/*.rt"))))
     exports, wrong = re.findall(EXPORT, source, re.S), []
     for name, words, clauses in exports:
         found = re.search(r"CONTRACT((?:(?!CONTRACT).)*?)OF \w+ " + name + r"\((.*?)\);", text)
@@ -159,7 +180,13 @@ def main():
         wrong += [f"{name}: {it}" for it in seen]
     more = {it for it in calls if it.startswith("pkcs1_c_")} - {name for name, _, _ in exports}
     wrong += [f"{name}: isn't in Rattle" for name in sorted(more)]
-    print("\n".join([*wrong, f"{len(exports)} calls, in which {len(wrong)} things differ"]))
+    now = [*lines_of(source, structs)]
+    if "--write" in sys.argv:
+        with open(CLAUSES, "w", encoding="utf-8") as it:
+            it.writelines(now)
+    wrong += [f"ffi/proof/clauses: {it.rstrip()}" for it in difflib.ndiff([*open(CLAUSES, encoding="utf-8")], now)
+              if it[0] in "-+"]
+    print("\n".join([*wrong, f"{len(exports)} calls of {len(now)} clauses, in which {len(wrong)} things differ"]))
     sys.exit(len(wrong) > 0)
 
 

@@ -123,7 +123,6 @@ ffi() {
     needs python3 ar "${CC:-gcc}"
     ffi/tests/check_layout.py
     ffi/proof/check_contracts.py
-    ffi/proof/check_clauses.py
     cp -r "$tree" "$room/exports"
     (cd "$room/exports" && "$tree/tools/unproved/exports.py" pkcs1_c && cd crates/pkcs1_c &&
         sed -i 's/^    text.octets = b"[0-9.]*/&-unproved/' src/status.rt && try_and_keep library --steps 1)
