@@ -10,7 +10,7 @@ nothing else is said of in ACSL has a body in meaning.c: it's computed by a seco
 import sys
 
 import acsl
-from spoil import length_of, spoils
+from spoil import length_of, parameters, spoils
 from to_c import Text, conjuncts, in_c, read_structs
 
 MANY = 40  # of how many calls of each function it's looked at what is forbidden
@@ -88,16 +88,14 @@ def wrapper(call, named, structs):
     requires, apart = (" && ".join(map(text.truth, of)) or "true"
                        for of in (required, [it for it in required if it[:2] == ("call", "\\separated")]))
     ensures = [(name, text.truth(it)) for kind, name, several in call.clauses if kind == "ensures" for it in several]
-    given = ", ".join(f"{'' if name in places else 'const '}{kind} {name}".replace("const size_t ", "size_t ")
-                      if kind.endswith("*") else f"{kind} {name}" for name, kind in params)
+    given = parameters(call, places)
     passed = ", ".join(name for name, _ in params)
     result = {"bool": "uint8_t"}.get(call.result, call.result)
-    taking = ", ".join(f"{in_raw(kind)} {name}" for name, kind in params)
-    lines = [f"static bool requires_{call.name}({taking}) {{", f"    return {requires};", "}",
-             f"static bool apart_{call.name}({taking}) {{", f"    return {apart};", "}",
-             f"{result} __real_{call.name}({given or 'void'});", f"{result} __wrap_{call.name}({given or 'void'});",
+    lines = [f"static bool requires_{call.name}({parameters(call)}) {{", f"    return {requires};", "}",
+             f"static bool apart_{call.name}({parameters(call)}) {{", f"    return {apart};", "}",
+             f"{result} __real_{call.name}({given});", f"{result} __wrap_{call.name}({given});",
              *spoils(call, structs, places),
-             f"{result} __wrap_{call.name}({given or 'void'}) {{",
+             f"{result} __wrap_{call.name}({given}) {{",
              f"    static int tried;\n    static bool spoils;\n    if (!spoils && tried++ < {MANY}) {{",
              f"        spoils = true;\n        begin_call(\"{call.name}\");\n        spoil_{call.name}({passed});",
              f"        spoils = false;\n    }}\n    begin_call(\"{call.name}\");",
@@ -110,10 +108,6 @@ def wrapper(call, named, structs):
     lines += [f"    HOLDS(\"{name}\", {it});" for name, it in ensures]
     lines += ["    end_call();", *(["    return result;"] if result != "void" else []), "}"]
     return "\n".join(lines) + "\n"
-
-
-def in_raw(kind):
-    return f"const {kind}" if kind.endswith("*") else kind
 
 
 def main():

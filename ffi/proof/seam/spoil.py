@@ -15,6 +15,12 @@ def length_of(name, params):
     return next((it for _, it in params if it in lengths), None)
 
 
+def parameters(call, places=()):
+    """As C declares them, where these places are filled."""
+    return ", ".join(f"{'const ' if kind.endswith('*') and name not in places else ''}{kind} {name}"
+                     for kind, name in call.params) or "void"
+
+
 def passed(params, changed):
     return ", ".join(changed.get(name, name) for _, name in params)
 
@@ -102,6 +108,4 @@ def spoils(call, structs, places):
         if kind.startswith("struct"):
             cases.of_struct(kind, name)
     cases.lines += again(call, structs, places)
-    params = ", ".join(f"{'' if name in places else 'const '}{kind} {name}" if kind.endswith("*") else f"{kind} {name}"
-                       for kind, name in call.params)
-    return [f"static void spoil_{call.name}({params or 'void'}) {{", *cases.lines, "}"]
+    return [f"static void spoil_{call.name}({parameters(call, places)}) {{", *cases.lines, "}"]

@@ -1,5 +1,6 @@
 """Says expressions of ACSL in C. An array that is read is touched, so that a sanitizer sees it. Arithmetic has no
 limits that are met. Old octets are those of a copy, other old values are computed before the call."""
+import contextlib
 import re
 
 ARITHMETIC = ("integer", "size_t", "uint8_t", "uint32_t", "uint64_t", "int", "bool")
@@ -116,26 +117,32 @@ class Text:
             return equal if sign == "==" else f"(!{equal})", "truth"
         return f"({a} {sign} {b})", kind if sign in ("+", "-", "*", "/", "%") else "truth"
 
+    @contextlib.contextmanager
+    def binding(self, kind, name):
+        """With a variable that a quantifier binds."""
+        self.variables[name] = kind
+        self.bound.add(name)
+        yield
+        self.bound.discard(name)
+        del self.variables[name]
+
     def _forall(self, variables, body):
-        return self.loop(variables, body, "true", lambda it: f"all = {it}")
+        (kind, name), = variables
+        given = conjuncts(body[2])
+        with self.binding(kind, name):
+            low = next(self.of(it[2])[0] for it in given if it[:2] == ("do", "<=") and it[3] == ("name", name))
+            high = next(self.of(it[3])[0] for it in given if it[:2] == ("do", "<") and it[2] == ("name", name))
+            return (f"__extension__ ({{ bool all = true; integer end = {high};"
+                    f" for (integer {name} = {low}; all && {name} < end; {name}++) all = {self.truth(body)}; all; }})"
+                    ), "truth"
 
     def _exists(self, variables, body):
         *guards, last = conjuncts(body)
         (kind, name), = variables
-        with Bound(self, kind, name):
+        with self.binding(kind, name):
             while_so = " && ".join(map(self.truth, guards))
             return (f"__extension__ ({{ bool any = false; for (integer {name} = 0; !any && {while_so}; {name}++)"
                     f" any = {self.truth(last)}; any; }})"), "truth"
-
-    def loop(self, variables, body, start, step):
-        (kind, name), = variables
-        given = conjuncts(body[2])
-        with Bound(self, kind, name):
-            low = next(self.of(it[2])[0] for it in given if it[:2] == ("do", "<=") and it[3] == ("name", name))
-            high = next(self.of(it[3])[0] for it in given if it[:2] == ("do", "<") and it[2] == ("name", name))
-            return (f"__extension__ ({{ bool all = {start}; integer end = {high};"
-                    f" for (integer {name} = {low}; all && {name} < end; {name}++) {step(self.truth(body))}; all; }})"
-                    ), "truth"
 
     def _call(self, name, labels, arguments):
         if name.startswith("\\"):
@@ -181,22 +188,6 @@ class Text:
         texts = [", ".join(self.place(it)) for it in places]
         pairs = [f"are_apart({a}, {b})" for i, a in enumerate(texts) for b in texts[i + 1:]]
         return f"({' && '.join(pairs)})", "truth"
-
-
-class Bound:
-    """A variable that a quantifier binds."""
-
-    def __init__(self, text, kind, name):
-        self.text, self.kind, self.name = text, kind, name
-
-    def __enter__(self):
-        self.kept = self.text.variables.get(self.name)
-        self.text.variables[self.name] = self.kind
-        self.text.bound.add(self.name)
-
-    def __exit__(self, *_):
-        self.text.bound.discard(self.name)
-        del self.text.variables[self.name]
 
 
 def at_state(label, name, texts):
