@@ -140,7 +140,7 @@ impl<'a> RsaPrivateKeyRef<'a> {
     }
 
     /// The key of a view, with a list of its other primes.
-    #[inline]
+    #[inline(always)]
     pub(crate) fn of_view(view: &RsaPrivateKeyView<'a>) -> der::Result<RsaPrivateKeyRef<'a>> {
         let others = view.other_primes();
         Ok(RsaPrivateKey {
@@ -236,7 +236,7 @@ pub(crate) fn asn1<T>(read: Result<T>) -> der::Result<T> {
 
 decoded! {
     {} OtherPrimeInfo<UintRef<'a>>, bytes => read_borrowed(bytes);
-    {} RsaPrivateKey<UintRef<'a>>, bytes => RsaPrivateKey::of_view(&RsaPrivateKeyView::from_der(bytes)?);
+    {} RsaPrivateKey<UintRef<'a>>, bytes => RsaPrivateKey::of_view(&RsaPrivateKeyView::read(bytes)?);
     {} RsaPrivateKey<Uint>, bytes => RsaPrivateKeyRef::from_der(bytes)?.try_into();
 }
 from_slices! { RsaPrivateKey<UintRef<'a>>; RsaPrivateKey<Uint>; }

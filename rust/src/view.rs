@@ -1,7 +1,7 @@
 //! RSA private keys over the input.
 
 use crate::der::asn1::UintRef;
-use crate::der::{decoded, from_slices};
+use crate::der::{self, decoded, from_slices};
 use crate::keys::asn1;
 use crate::proved::pkcs1::{self as proved, OtherPrimes, Version};
 use crate::public_key::{RsaPublicKey, RsaPublicKeyRef};
@@ -45,6 +45,12 @@ numbers! {
 }
 
 impl<'a> RsaPrivateKeyView<'a> {
+    /// What `from_der` gives, in line: a struct of it is then made without a copy in memory.
+    #[inline(always)]
+    pub(crate) fn read(bytes: &'a [u8]) -> der::Result<RsaPrivateKeyView<'a>> {
+        asn1(proved::RsaPrivateKeyView::try_from(bytes)).map(RsaPrivateKeyView)
+    }
+
     /// The version: `Multi` if there are other primes.
     #[inline]
     #[must_use]
@@ -86,6 +92,6 @@ impl fmt::Debug for RsaPrivateKeyView<'_> {
 }
 
 decoded! {
-    {} RsaPrivateKeyView<'a>, bytes => asn1(proved::RsaPrivateKeyView::try_from(bytes)).map(RsaPrivateKeyView);
+    {} RsaPrivateKeyView<'a>, bytes => RsaPrivateKeyView::read(bytes);
 }
 from_slices! { RsaPrivateKeyView<'a>; }
