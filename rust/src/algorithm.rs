@@ -38,12 +38,32 @@ pub(crate) type MaskGen<P, O = ObjectIdentifier> = AlgorithmIdentifier<Algorithm
 type View<'a> = AlgorithmView<'a, crate::proved::spki_core::AnyRef<'a>>;
 
 impl<P, O> AlgorithmIdentifier<P, O> {
+    /// The algorithm of a proved crate, with its parameters held otherwise.
+    #[inline(always)]
+    pub(crate) fn of<'a, V>(view: AlgorithmView<'a, V>, held: impl FnOnce(V) -> P) -> AlgorithmIdentifier<P, O>
+    where
+        O: OfIdentifier<'a>,
+    {
+        AlgorithmIdentifier {
+            oid: O::of_identifier(ObjectIdentifierRef(view.oid)),
+            parameters: view.parameters.map(held),
+        }
+    }
+}
+
+impl<P, O: Identifier> AlgorithmIdentifier<P, O> {
+    /// The algorithm of a proved crate, with its parameters held otherwise.
+    #[inline]
+    pub(crate) fn lent<'s, V>(&'s self, held: impl FnOnce(&'s P) -> V) -> AlgorithmView<'s, V> {
+        AlgorithmView { oid: self.oid.as_identifier().0, parameters: self.parameters.as_ref().map(held) }
+    }
+
     /// The algorithm with its parameters held otherwise.
     #[inline]
-    pub(crate) fn map<'s, Q, E>(&'s self, held: impl FnOnce(&'s P) -> Result<Q, E>) -> Result<AlgorithmIdentifier<Q>, E>
-    where
-        O: Identifier,
-    {
+    pub(crate) fn map<'s, Q, E>(
+        &'s self,
+        held: impl FnOnce(&'s P) -> Result<Q, E>,
+    ) -> Result<AlgorithmIdentifier<Q>, E> {
         Ok(AlgorithmIdentifier {
             oid: OfIdentifier::of_identifier(self.oid.as_identifier()),
             parameters: self.parameters.as_ref().map(held).transpose()?,
@@ -53,32 +73,17 @@ impl<P, O> AlgorithmIdentifier<P, O> {
 
 impl<P> AlgorithmIdentifier<P> {
     /// The identifier, if it is the expected one.
-    ///
     /// # Errors
-    ///
     /// `OidUnknown`.
     pub fn assert_algorithm_oid(&self, expected: ObjectIdentifier) -> der::Result<ObjectIdentifier> {
         if self.oid == expected { Ok(self.oid) } else { Err(der::Error::new(ErrorKind::OidUnknown)) }
     }
 }
 
-impl<'a, O: OfIdentifier<'a>> AlgorithmIdentifier<AnyRef<'a>, O> {
-    #[inline(always)]
-    pub(crate) fn of_view(view: View<'a>) -> AlgorithmIdentifier<AnyRef<'a>, O> {
-        AlgorithmIdentifier {
-            oid: O::of_identifier(ObjectIdentifierRef(view.oid)),
-            parameters: view.parameters.map(AnyRef),
-        }
-    }
-}
-
 impl<P: Held, O: Identifier> AlgorithmIdentifier<P, O> {
     #[inline]
     pub(crate) fn as_view(&self) -> View<'_> {
-        AlgorithmView {
-            oid: self.oid.as_identifier().0,
-            parameters: self.parameters.as_ref().map(|parameters| parameters.as_any().0),
-        }
+        self.lent(|parameters| parameters.as_any().0)
     }
 
     /// Whether the parameters are NULL.
@@ -110,23 +115,10 @@ impl<P: Held, O: Identifier> AlgorithmIdentifier<P, O> {
     }
 
     /// The parameters.
-    ///
     /// # Errors
-    ///
     /// `ParametersMissing`.
     pub fn parameters_any(&self) -> der::Result<AnyRef<'_>> {
         self.parameters.as_ref().map(Held::as_any).ok_or(der::Error::new(ErrorKind::ParametersMissing))
-    }
-}
-
-impl AlgorithmIdentifierOwned {
-    /// The same algorithm.
-    ///
-    /// # Errors
-    ///
-    /// `OutOfMemory`.
-    pub fn try_clone(&self) -> der::Result<AlgorithmIdentifierOwned> {
-        self.map(Any::try_clone)
     }
 }
 
@@ -141,7 +133,7 @@ decoded! {
     {} Version, bytes => proved::Decode::from_der(proved::NoMemory, bytes);
     {} TrailerField, bytes => proved::Decode::from_der(proved::NoMemory, bytes);
     {O: OfIdentifier<'a>} AlgorithmIdentifier<AnyRef<'a>, O>, bytes => {
-        Ok(AlgorithmIdentifier::of_view(read_borrowed(bytes)?))
+        Ok(AlgorithmIdentifier::of(read_borrowed(bytes)?, AnyRef))
     };
     {} AlgorithmIdentifier<Any>, bytes => AlgorithmIdentifierRef::from_der(bytes)?.map(|any| Any::try_from(*any));
 }

@@ -10,66 +10,93 @@ use crate::{
     der::{Document, SecretDocument},
 };
 use crate::{
-    RsaOaepParamsOwned, RsaOaepParamsRef, RsaOaepParamsView, RsaPrivateKeyOwned, RsaPrivateKeyRef, RsaPrivateKeyView,
-    RsaPssParamsOwned, RsaPssParamsRef, RsaPssParamsView, RsaPublicKeyOwned, RsaPublicKeyRef,
+    RsaOaepParamsOwned, RsaOaepParamsRef, RsaPrivateKeyOwned, RsaPrivateKeyRef, RsaPrivateKeyView, RsaPssParamsOwned,
+    RsaPssParamsRef, RsaPublicKeyOwned, RsaPublicKeyRef,
 };
 use core::convert::Infallible;
 
-/// What owns its octets, of what borrows them, by value and by reference: a copy, or `OutOfMemory`.
-macro_rules! copied {
-    ($($borrowed:ty => $owned:ty, $value:ident => $copy:expr;)*) => { $(
-        impl TryFrom<&$borrowed> for $owned {
-            type Error = der::Error;
+/// `TryFrom` by reference and by value.
+macro_rules! made {
+    ($doc:literal, $error:ty; $({$($generics:tt)*} $from:ty => $to:ty, $value:ident => $made:expr;)*) => { $(
+        impl<$($generics)*> TryFrom<&$from> for $to {
+            type Error = $error;
 
-            /// Copies the octets.
-            fn try_from($value: &$borrowed) -> der::Result<$owned> {
-                $copy
+            #[doc = $doc]
+            fn try_from($value: &$from) -> Result<$to, $error> {
+                Ok($made?)
             }
         }
 
-        impl TryFrom<$borrowed> for $owned {
-            type Error = der::Error;
+        impl<$($generics)*> TryFrom<$from> for $to {
+            type Error = $error;
 
-            /// Copies the octets.
-            fn try_from(value: $borrowed) -> der::Result<$owned> {
-                <$owned>::try_from(&value)
+            #[doc = $doc]
+            fn try_from(value: $from) -> Result<$to, $error> {
+                <$to>::try_from(&value)
             }
         }
     )* };
 }
-copied! {
-    UintRef<'_> => Uint, number => Uint::new(number.as_bytes());
-    AnyRef<'_> => Any, any => Any::new(any.tag(), any.value());
-    AlgorithmIdentifierRef<'_> => AlgorithmIdentifierOwned, algorithm => algorithm.map(Any::try_from);
-    RsaPublicKeyRef<'_> => RsaPublicKeyOwned, key => key.map(Uint::try_from);
-    RsaPrivateKeyRef<'_> => RsaPrivateKeyOwned, key => key.map(Uint::try_from);
-    RsaPssParamsRef<'_> => RsaPssParamsOwned, params => params.map(Any::try_from);
-    RsaOaepParamsRef<'_> => RsaOaepParamsOwned, params => params.map(Any::try_from);
-}
 
-/// What borrows its octets, of what owns them.
-macro_rules! borrowed {
-    ($($owned:ty => $borrowed:ty, $value:ident => $made:expr;)*) => { $(
-        impl<'a> From<&'a $owned> for $borrowed {
-            fn from($value: &'a $owned) -> $borrowed {
-                let Ok(made) = $made;
+/// Both ways between what borrows its octets and what owns them, of which one is copied and the other lent.
+macro_rules! both_ways {
+    ($($borrowed:ident $owned:ident, $value:ident => $copied:expr, $lent:expr;)*) => { $(
+        made! { "Copies the octets.", der::Error; {} $borrowed<'_> => $owned, $value => $copied; }
+
+        impl $owned {
+            /// The same value.
+            /// # Errors
+            /// `OutOfMemory`.
+            pub fn try_clone(&self) -> der::Result<$owned> {
+                let $value = self;
+                $copied
+            }
+        }
+
+        impl<'a> From<&'a $owned> for $borrowed<'a> {
+            fn from($value: &'a $owned) -> $borrowed<'a> {
+                let Ok(made) = $lent;
                 made
             }
         }
     )* };
 }
-/// What never fails.
-fn always<T>(value: T) -> Result<T, Infallible> {
-    Ok(value)
+
+fn copied_number<U: Number>(number: &U) -> der::Result<Uint> {
+    Uint::new(number.as_number().as_bytes())
 }
-borrowed! {
-    Uint => UintRef<'a>, number => always(number.as_number());
-    Any => AnyRef<'a>, any => always(any.as_any());
-    AlgorithmIdentifierOwned => AlgorithmIdentifierRef<'a>, algorithm => algorithm.map(|any| always(any.as_any()));
-    RsaPublicKeyOwned => RsaPublicKeyRef<'a>, key => key.map(|number| always(number.as_number()));
-    RsaPrivateKeyOwned => RsaPublicKeyRef<'a>, key => always(key.public_key());
-    RsaPssParamsOwned => RsaPssParamsRef<'a>, params => params.map(|any| always(any.as_any()));
-    RsaOaepParamsOwned => RsaOaepParamsRef<'a>, params => params.map(|any| always(any.as_any()));
+
+fn copied_any<P: Held>(any: &P) -> der::Result<Any> {
+    let any = any.as_any();
+    Any::new(any.tag(), any.value())
+}
+
+fn lent_number<U: Number>(number: &U) -> Result<UintRef<'_>, Infallible> {
+    Ok(number.as_number())
+}
+
+fn lent_any<P: Held>(any: &P) -> Result<AnyRef<'_>, Infallible> {
+    Ok(any.as_any())
+}
+
+both_ways! {
+    UintRef Uint, number => copied_number(number), lent_number(number);
+    AnyRef Any, any => copied_any(any), lent_any(any);
+    AlgorithmIdentifierRef AlgorithmIdentifierOwned, algorithm => algorithm.map(copied_any), algorithm.map(lent_any);
+    RsaPublicKeyRef RsaPublicKeyOwned, key => key.map(copied_number), key.map(lent_number);
+    RsaPssParamsRef RsaPssParamsOwned, params => params.map(copied_any), params.map(lent_any);
+    RsaOaepParamsRef RsaOaepParamsOwned, params => params.map(copied_any), params.map(lent_any);
+}
+
+made! {
+    "Copies the octets.", der::Error;
+    {} RsaPrivateKeyRef<'_> => RsaPrivateKeyOwned, key => key.map(copied_number);
+}
+#[cfg(feature = "alloc")]
+made! {
+    "Encodes the key.", Error;
+    {U: Number} RsaPublicKey<U> => Document, key => Document::written(&key.written());
+    {U: Number} RsaPrivateKey<U> => SecretDocument, key => SecretDocument::written(&key.written()?);
 }
 
 impl<'a> TryFrom<&'a RsaPrivateKeyOwned> for RsaPrivateKeyRef<'a> {
@@ -78,18 +105,6 @@ impl<'a> TryFrom<&'a RsaPrivateKeyOwned> for RsaPrivateKeyRef<'a> {
     /// `OutOfMemory`, if there are other primes, and no memory for a list of them.
     fn try_from(key: &'a RsaPrivateKeyOwned) -> der::Result<RsaPrivateKeyRef<'a>> {
         key.map(|number| Ok(number.as_number()))
-    }
-}
-
-impl<'a> From<&RsaPrivateKeyRef<'a>> for RsaPublicKeyRef<'a> {
-    fn from(key: &RsaPrivateKeyRef<'a>) -> RsaPublicKeyRef<'a> {
-        key.public_key()
-    }
-}
-
-impl<'a> From<RsaPrivateKeyRef<'a>> for RsaPublicKeyRef<'a> {
-    fn from(key: RsaPrivateKeyRef<'a>) -> RsaPublicKeyRef<'a> {
-        key.public_key()
     }
 }
 
@@ -102,61 +117,16 @@ impl<'a> TryFrom<RsaPrivateKeyView<'a>> for RsaPrivateKeyRef<'a> {
     }
 }
 
-impl<'a> From<RsaPssParamsView<'a>> for RsaPssParamsRef<'a> {
-    /// Copies the identifiers.
-    fn from(view: RsaPssParamsView<'a>) -> RsaPssParamsRef<'a> {
-        let Ok(params) = view.map(|any| always(*any));
-        params
-    }
+macro_rules! public_keys {
+    ($($private:ty;)*) => { $(
+        impl<'a> From<$private> for RsaPublicKeyRef<'a> {
+            fn from(key: $private) -> RsaPublicKeyRef<'a> {
+                key.public_key()
+            }
+        }
+    )* };
 }
-
-impl<'a> From<RsaOaepParamsView<'a>> for RsaOaepParamsRef<'a> {
-    /// Copies the identifiers.
-    fn from(view: RsaOaepParamsView<'a>) -> RsaOaepParamsRef<'a> {
-        let Ok(params) = view.map(|any| always(*any));
-        params
-    }
-}
-
-#[cfg(feature = "alloc")]
-impl<U: Number> TryFrom<&RsaPublicKey<U>> for Document {
-    type Error = Error;
-
-    /// Encodes the key.
-    fn try_from(key: &RsaPublicKey<U>) -> Result<Document, Error> {
-        Ok(Document::written(&key.written())?)
-    }
-}
-
-#[cfg(feature = "alloc")]
-impl<U: Number> TryFrom<RsaPublicKey<U>> for Document {
-    type Error = Error;
-
-    /// Encodes the key.
-    fn try_from(key: RsaPublicKey<U>) -> Result<Document, Error> {
-        Document::try_from(&key)
-    }
-}
-
-#[cfg(feature = "alloc")]
-impl<U: Number> TryFrom<&RsaPrivateKey<U>> for SecretDocument {
-    type Error = Error;
-
-    /// Encodes the key.
-    fn try_from(key: &RsaPrivateKey<U>) -> Result<SecretDocument, Error> {
-        Ok(SecretDocument::written(&key.written()?)?)
-    }
-}
-
-#[cfg(feature = "alloc")]
-impl<U: Number> TryFrom<RsaPrivateKey<U>> for SecretDocument {
-    type Error = Error;
-
-    /// Encodes the key.
-    fn try_from(key: RsaPrivateKey<U>) -> Result<SecretDocument, Error> {
-        SecretDocument::try_from(&key)
-    }
-}
+public_keys! { &RsaPrivateKeyRef<'a>; RsaPrivateKeyRef<'a>; &'a RsaPrivateKeyOwned; }
 
 macro_rules! octets {
     ($($name:ty)*) => { $(

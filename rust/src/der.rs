@@ -23,9 +23,7 @@ pub mod oid {
 /// A type that is read from its encoding.
 pub trait Decode<'a>: Sized {
     /// Reads the whole slice.
-    ///
     /// # Errors
-    ///
     /// The slice isn't one whole encoding of such a value, or there is no memory for the value.
     fn from_der(bytes: &'a [u8]) -> Result<Self>;
 }
@@ -33,23 +31,17 @@ pub trait Decode<'a>: Sized {
 /// A type that is written as its encoding.
 pub trait Encode {
     /// How many octets the encoding has.
-    ///
     /// # Errors
-    ///
     /// The value has no encoding of at most `Length::MAX` octets.
     fn encoded_len(&self) -> Result<Length>;
 
     /// Writes the encoding to the front of the slice, and returns that part. On an error the slice is as it was.
-    ///
     /// # Errors
-    ///
     /// As `encoded_len`, and `NoRoom` if the slice is too short.
     fn encode_to_slice<'o>(&self, out: &'o mut [u8]) -> Result<&'o [u8]>;
 
     /// Returns the encoding.
-    ///
     /// # Errors
-    ///
     /// As `encoded_len`, and `OutOfMemory`.
     #[cfg(feature = "alloc")]
     fn to_der(&self) -> Result<alloc::vec::Vec<u8>> {
@@ -74,6 +66,20 @@ pub(crate) fn to_der<T: proved::Encode>(message: &T) -> Result<alloc::vec::Vec<u
 pub(crate) fn copied(octets: &[u8]) -> Result<alloc::vec::Vec<u8>> {
     Ok(Vec::from_slice(Global, octets)?.into())
 }
+
+/// `Clone` of a type with `try_clone`.
+macro_rules! cloned {
+    ($({$($generics:tt)*} $name:ty;)*) => { $(
+        impl<$($generics)*> Clone for $name {
+            /// # Panics
+            /// There is no memory: see `try_clone`.
+            fn clone(&self) -> $name {
+                self.try_clone().expect("no memory was found")
+            }
+        }
+    )* };
+}
+pub(crate) use cloned;
 
 /// `Decode` of a type.
 macro_rules! decoded {

@@ -1,6 +1,6 @@
 //! Documents: one whole SEQUENCE each, in memory.
 
-use crate::der::{Decode, Encode, Error, Length, Result, copied};
+use crate::der::{Decode, Encode, Error, Length, Result, cloned, copied};
 #[cfg(feature = "std")]
 use crate::files::{FileError, Host};
 use crate::proved::der_core as proved;
@@ -12,7 +12,7 @@ use core::fmt;
 
 pub use proved::{Open, Secret};
 
-/// One whole SEQUENCE. `S` says whether it is secret: see `Document` and `SecretDocument`.
+/// One whole SEQUENCE. `S` says whether it is secret: see [`Document`] and [`SecretDocument`].
 #[derive(PartialEq, Eq)]
 pub struct DocumentOf<S>(proved::DocumentOf<S>);
 
@@ -42,18 +42,14 @@ impl<S> DocumentOf<S> {
     }
 
     /// Decodes a message.
-    ///
     /// # Errors
-    ///
     /// The document is none.
     pub fn decode_msg<'a, T: Decode<'a>>(&'a self) -> Result<T> {
         T::from_der(self.as_bytes())
     }
 
     /// Encodes a message.
-    ///
     /// # Errors
-    ///
     /// It has no encoding, this is no SEQUENCE, or there is no memory.
     pub fn encode_msg<T: Encode + ?Sized>(message: &T) -> Result<DocumentOf<S>> {
         DocumentOf::from_der(&message.to_der()?)
@@ -65,27 +61,21 @@ impl<S> DocumentOf<S> {
     }
 
     /// The same document.
-    ///
     /// # Errors
-    ///
     /// `OutOfMemory`.
     pub fn try_clone(&self) -> Result<DocumentOf<S>> {
         DocumentOf::from_der(self.as_bytes())
     }
 
     /// Copies the bytes into a document.
-    ///
     /// # Errors
-    ///
     /// They aren't one SEQUENCE, or there is no memory.
     pub fn from_der(bytes: &[u8]) -> Result<DocumentOf<S>> {
         Ok(DocumentOf(proved::DocumentOf::from_der(Global, bytes)?))
     }
 
     /// Reads the document in a file.
-    ///
     /// # Errors
-    ///
     /// The file can't be read, or isn't one SEQUENCE.
     #[cfg(feature = "std")]
     pub fn read_der_file(path: impl AsRef<std::path::Path>) -> core::result::Result<DocumentOf<S>, FileError> {
@@ -101,9 +91,7 @@ impl<S> DocumentOf<S> {
 
 impl Document {
     /// A copy of the encoding.
-    ///
     /// # Panics
-    ///
     /// There is no memory.
     #[must_use]
     pub fn to_vec(&self) -> Vec<u8> {
@@ -111,9 +99,7 @@ impl Document {
     }
 
     /// Writes the document to a file, which is created or truncated.
-    ///
     /// # Errors
-    ///
     /// The file can't be written.
     #[cfg(feature = "std")]
     pub fn write_der_file(&self, path: impl AsRef<std::path::Path>) -> core::result::Result<(), FileError> {
@@ -124,9 +110,7 @@ impl Document {
 impl SecretDocument {
     /// Writes the document to a file, which is created or truncated. On Unix only the owner may read and write a file
     /// that is created, as its mode is 600. That of an old file stays.
-    ///
     /// # Errors
-    ///
     /// The file can't be written.
     #[cfg(feature = "std")]
     pub fn write_der_file(&self, path: impl AsRef<std::path::Path>) -> core::result::Result<(), FileError> {
@@ -157,14 +141,7 @@ impl<S> TryFrom<Vec<u8>> for DocumentOf<S> {
     }
 }
 
-impl<S> Clone for DocumentOf<S> {
-    /// # Panics
-    ///
-    /// There is no memory: see `try_clone`.
-    fn clone(&self) -> DocumentOf<S> {
-        self.try_clone().expect("no memory was found")
-    }
-}
+cloned! { {S} DocumentOf<S>; }
 
 impl fmt::Debug for Document {
     fn fmt(&self, f: &mut fmt::Formatter<'_>) -> fmt::Result {

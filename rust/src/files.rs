@@ -18,21 +18,24 @@ pub enum FileError {
     Value(Error),
 }
 
+impl FileError {
+    fn held(&self) -> &(dyn core::error::Error + 'static) {
+        match self {
+            FileError::Io(error) => error,
+            FileError::Value(error) => error,
+        }
+    }
+}
+
 impl fmt::Display for FileError {
     fn fmt(&self, f: &mut fmt::Formatter<'_>) -> fmt::Result {
-        match self {
-            FileError::Io(error) => error.fmt(f),
-            FileError::Value(error) => error.fmt(f),
-        }
+        fmt::Display::fmt(self.held(), f)
     }
 }
 
 impl core::error::Error for FileError {
     fn source(&self) -> Option<&(dyn core::error::Error + 'static)> {
-        match self {
-            FileError::Io(error) => error.source(),
-            FileError::Value(error) => error.source(),
-        }
+        self.held().source()
     }
 }
 
@@ -125,27 +128,15 @@ impl io::Write for OpenFile<'_> {
 }
 
 #[cfg(test)]
-mod tests {
-    use super::*;
-
-    #[test]
-    fn what_a_signal_interrupts_begins_again() {
-        for (interrupted, last) in [(0, None), (3, None), (3, Some(io::ErrorKind::NotFound))] {
-            let mut calls = 0;
-            let answer = Host::run(false, |host| {
-                let answer = host.again(|| {
-                    calls += 1;
-                    let error = if calls <= interrupted { Some(io::ErrorKind::Interrupted) } else { last };
-                    error.map_or(Ok(calls), |kind| Err(kind.into()))
-                });
-                answer.map_err(|_| der::ErrorKind::File.into())
-            });
-            assert_eq!(calls, interrupted + 1);
-            match (answer, last) {
-                (Ok(number), None) => assert_eq!(number, calls),
-                (Err(FileError::Io(error)), Some(kind)) => assert_eq!(error.kind(), kind),
-                (answer, _) => panic!("{answer:?}"),
-            }
-        }
-    }
+#[test]
+fn what_a_signal_interrupts_begins_again() {
+    let host = Host { is_secret: false, fault: Cell::new(None) };
+    let mut calls = 0;
+    let counted = host.again(|| {
+        calls += 1;
+        if calls < 4 { Err(io::ErrorKind::Interrupted.into()) } else { Ok(calls) }
+    });
+    assert!(counted.is_ok_and(|calls| calls == 4) && host.fault.take().is_none());
+    let failed = host.again(|| Err::<(), _>(io::ErrorKind::NotFound.into())).unwrap_err();
+    assert_eq!((failed.kind(), host.fault.take().unwrap().kind()), (io::ErrorKind::NotFound, io::ErrorKind::NotFound));
 }

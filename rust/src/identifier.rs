@@ -26,9 +26,7 @@ impl ObjectIdentifier {
     pub const MAX_SIZE: usize = 39;
 
     /// The identifier with this text: numbers in decimal digits, with dots between them.
-    ///
     /// # Errors
-    ///
     /// `OidMalformed` if the text is none, a number has more than 128 bits, or the contents have more than 39 octets.
     pub const fn new(text: &str) -> Result<ObjectIdentifier> {
         match ObjectIdentifier::of_text(text.as_bytes()) {
@@ -38,9 +36,7 @@ impl ObjectIdentifier {
     }
 
     /// As `new`, for a `const`.
-    ///
     /// # Panics
-    ///
     /// Where `new` returns an error. In a `const` this is an error of the compiler.
     #[must_use]
     pub const fn new_unwrap(text: &str) -> ObjectIdentifier {
@@ -48,9 +44,7 @@ impl ObjectIdentifier {
     }
 
     /// The identifier with these contents octets.
-    ///
     /// # Errors
-    ///
     /// `OidMalformed`.
     pub fn from_bytes(octets: &[u8]) -> Result<ObjectIdentifier> {
         Ok(ObjectIdentifierRef(proved::IdentifierView::from_bytes(octets)?).into())
@@ -138,7 +132,7 @@ impl From<ObjectIdentifierRef<'_>> for ObjectIdentifier {
     }
 }
 
-/// What holds an object identifier: `ObjectIdentifier`, or `ObjectIdentifierRef`.
+/// What holds an object identifier: [`ObjectIdentifier`], or [`ObjectIdentifierRef`].
 pub trait Identifier: Sealed {
     /// The identifier, borrowed.
     fn as_identifier(&self) -> ObjectIdentifierRef<'_>;

@@ -3,7 +3,7 @@
 use crate::der::asn1::{OctetStringRef, Uint, UintRef};
 use crate::der::{self, decoded, encoded, from_slices};
 use crate::proved::der_core::read_borrowed;
-use crate::proved::pkcs1::{OtherPrimeInfo, PrivateKeyOf, Version};
+use crate::proved::pkcs1::{OtherPrimeInfo, OtherPrimes, PrivateKeyOf, Version};
 use crate::public_key::{RsaPublicKey, RsaPublicKeyRef};
 use crate::rattle_std::{alloc::Global, prelude::Vec};
 use crate::values::{Hex, Number};
@@ -44,7 +44,7 @@ impl<U> OtherPrimeInfos<U> {
     }
 }
 
-/// An RSA private key (RFC 8017 A.1.2). A `U` holds a number: see `RsaPrivateKeyRef` and `RsaPrivateKeyOwned`. No
+/// An RSA private key (RFC 8017 A.1.2). A `U` holds a number: see [`RsaPrivateKeyRef`] and [`RsaPrivateKeyOwned`]. No
 /// relation between the numbers is checked. A key whose list of other primes is there but empty isn't written.
 ///
 /// ```text
@@ -92,6 +92,23 @@ pub type RsaPrivateKeyOwned = RsaPrivateKey<Uint>;
 /// A private key that is written.
 type Written<'k> = PrivateKeyOf<UintRef<'k>, Vec<OtherPrimeInfo<UintRef<'k>>>>;
 
+/// A key of this type. A macro gives each number, by its name.
+macro_rules! private_key {
+    ($key:ident, $number:ident, $others:expr) => {
+        $key {
+            modulus: $number!(modulus),
+            public_exponent: $number!(public_exponent),
+            private_exponent: $number!(private_exponent),
+            prime1: $number!(prime1),
+            prime2: $number!(prime2),
+            exponent1: $number!(exponent1),
+            exponent2: $number!(exponent2),
+            coefficient: $number!(coefficient),
+            other_prime_infos: $others,
+        }
+    };
+}
+
 impl<U> RsaPrivateKey<U> {
     /// The version: `Multi` if there are other primes.
     #[must_use]
@@ -102,21 +119,17 @@ impl<U> RsaPrivateKey<U> {
     /// The key with each number held otherwise. A list of other primes takes memory.
     #[inline]
     pub(crate) fn map<'k, V>(&'k self, held: impl Fn(&'k U) -> der::Result<V>) -> der::Result<RsaPrivateKey<V>> {
+        #[rustfmt::skip]
+        macro_rules! number { ($name:ident) => { held(&self.$name)? }; }
         let map_other = |other| map_other(other, &held);
-        Ok(RsaPrivateKey {
-            modulus: held(&self.modulus)?,
-            public_exponent: held(&self.public_exponent)?,
-            private_exponent: held(&self.private_exponent)?,
-            prime1: held(&self.prime1)?,
-            prime2: held(&self.prime2)?,
-            exponent1: held(&self.exponent1)?,
-            exponent2: held(&self.exponent2)?,
-            coefficient: held(&self.coefficient)?,
-            other_prime_infos: match &self.other_prime_infos {
+        Ok(private_key!(
+            RsaPrivateKey,
+            number,
+            match &self.other_prime_infos {
                 Some(others) => Some(OtherPrimeInfos::listed(others.len(), others.iter().map(map_other))?),
                 None => None,
-            },
-        })
+            }
+        ))
     }
 }
 
@@ -142,22 +155,11 @@ impl<'a> RsaPrivateKeyRef<'a> {
     /// The key of a view, with a list of its other primes.
     #[inline(always)]
     pub(crate) fn of_view(view: &RsaPrivateKeyView<'a>) -> der::Result<RsaPrivateKeyRef<'a>> {
-        let others = view.other_primes();
-        Ok(RsaPrivateKey {
-            modulus: view.modulus(),
-            public_exponent: view.public_exponent(),
-            private_exponent: view.private_exponent(),
-            prime1: view.prime1(),
-            prime2: view.prime2(),
-            exponent1: view.exponent1(),
-            exponent2: view.exponent2(),
-            coefficient: view.coefficient(),
-            other_prime_infos: if view.version().is_multi() {
-                Some(OtherPrimeInfos::listed(others.remaining(), others.map(Ok))?)
-            } else {
-                None
-            },
-        })
+        #[rustfmt::skip]
+        macro_rules! number { ($name:ident) => { view.$name() }; }
+        let others = view.version().is_multi().then(|| view.other_primes());
+        let listed = |others: OtherPrimes<'a>| OtherPrimeInfos::listed(others.remaining(), others.map(Ok));
+        Ok(private_key!(RsaPrivateKey, number, others.map(listed).transpose()?))
     }
 }
 
@@ -166,17 +168,9 @@ impl<U: Number> RsaPrivateKey<U> {
     #[inline]
     pub(crate) fn written(&self) -> der::Result<Written<'_>> {
         let key = self.map(|number| Ok(number.as_number()))?;
-        Ok(PrivateKeyOf {
-            modulus: key.modulus,
-            public_exponent: key.public_exponent,
-            private_exponent: key.private_exponent,
-            prime1: key.prime1,
-            prime2: key.prime2,
-            exponent1: key.exponent1,
-            exponent2: key.exponent2,
-            coefficient: key.coefficient,
-            other_prime_infos: key.other_prime_infos.map(|others| others.0),
-        })
+        #[rustfmt::skip]
+        macro_rules! number { ($name:ident) => { key.$name }; }
+        Ok(private_key!(PrivateKeyOf, number, key.other_prime_infos.map(|others| others.0)))
     }
 }
 
@@ -188,9 +182,7 @@ impl RsaPrivateKeyOwned {
     }
 
     /// The same key.
-    ///
     /// # Errors
-    ///
     /// `OutOfMemory`.
     pub fn try_clone(&self) -> der::Result<RsaPrivateKeyOwned> {
         self.map(Uint::try_clone)
@@ -199,9 +191,7 @@ impl RsaPrivateKeyOwned {
 
 impl OtherPrimeInfo<Uint> {
     /// The same numbers.
-    ///
     /// # Errors
-    ///
     /// `OutOfMemory`.
     pub fn try_clone(&self) -> der::Result<OtherPrimeInfo<Uint>> {
         map_other(self, Uint::try_clone)
@@ -213,8 +203,8 @@ impl<U: Number> fmt::Debug for RsaPrivateKey<U> {
     fn fmt(&self, f: &mut fmt::Formatter<'_>) -> fmt::Result {
         f.debug_struct("RsaPrivateKey")
             .field("version", &self.version())
-            .field("modulus", &Hex(self.modulus.as_number().as_bytes()))
-            .field("public_exponent", &Hex(self.public_exponent.as_number().as_bytes()))
+            .field("modulus", &Hex(self.modulus.as_number()))
+            .field("public_exponent", &Hex(self.public_exponent.as_number()))
             .finish_non_exhaustive()
     }
 }

@@ -19,7 +19,10 @@ use crate::{Error, Result};
 const LONGEST_KNOWN: usize = 2 + 127;
 
 macro_rules! parameters {
-    ($($name:ident, $view:ident, $reference:ident, $owned:ident, $algorithm:ident, $number:ident;)*) => { $(
+    ($(
+        $name:ident, $view:ident, $reference:ident, $owned:ident, $algorithm:ident, $number:ident,
+        [$($sub:ident)?], [$($plain:ident)*];
+    )*) => { $(
         #[doc = concat!("`", stringify!($name), "` whose algorithms have borrowed parameters.")]
         pub type $reference<'a> = $name<AnyRef<'a>>;
 
@@ -30,19 +33,25 @@ macro_rules! parameters {
         pub type $view<'a> = $name<AnyRef<'a>, ObjectIdentifierRef<'a>>;
 
         impl<'a, O: OfIdentifier<'a>> $name<AnyRef<'a>, O> {
+            #[inline(always)]
+            fn of_view(view: proved::$view<'a>) -> Self {
+                $name {
+                    hash: AlgorithmIdentifier::of(view.hash, AnyRef),
+                    mask_gen: AlgorithmIdentifier::of(view.mask_gen, |hash| AlgorithmIdentifier::of(hash, AnyRef)),
+                    $($sub: AlgorithmIdentifier::of(view.$sub, AnyRef),)?
+                    $($plain: view.$plain,)*
+                }
+            }
+
             /// Like `try_from`, but accepts the shortest encoding only, in which no default is written.
-            ///
             /// # Errors
-            ///
             /// As of `try_from`, and `Noncanonical` with the tag of the first default that is written.
             pub fn from_der_strict(bytes: &'a [u8]) -> Result<Self> {
                 proved::$view::from_der_strict(bytes).map(Self::of_view)
             }
 
             /// The parameters in an algorithm identifier.
-            ///
             /// # Errors
-            ///
             /// `OidUnknown` if it is of another algorithm, `ParametersMissing`, or as of `try_from`.
             pub fn from_algorithm(algorithm: &AlgorithmIdentifier<AnyRef<'a>>) -> Result<Self> {
                 algorithm.assert_algorithm_oid($algorithm::OID)?;
@@ -53,18 +62,14 @@ macro_rules! parameters {
             }
 
             /// The parameters in the encoding of an algorithm identifier, such as a certificate's signatureAlgorithm.
-            ///
             /// # Errors
-            ///
             /// As of `from_algorithm`, or the slice is no algorithm identifier.
             pub fn from_algorithm_der(bytes: &'a [u8]) -> Result<Self> {
                 proved::$view::from_algorithm_der(bytes).map(Self::of_view)
             }
 
             /// Like `from_algorithm_der`, but accepts the shortest encoding only.
-            ///
             /// # Errors
-            ///
             /// As of `from_algorithm_der`, and `Noncanonical` with the tag of the first default that is written.
             pub fn from_algorithm_der_strict(bytes: &'a [u8]) -> Result<Self> {
                 proved::$view::from_algorithm_der_strict(bytes).map(Self::of_view)
@@ -72,6 +77,29 @@ macro_rules! parameters {
         }
 
         impl<P: Held, O: Identifier> $name<P, O> {
+            #[inline]
+            fn view(&self) -> proved::$view<'_> {
+                proved::$view {
+                    hash: self.hash.as_view(),
+                    mask_gen: self.mask_gen.lent(AlgorithmIdentifier::as_view),
+                    $($sub: self.$sub.as_view(),)?
+                    $($plain: self.$plain,)*
+                }
+            }
+
+            /// The parameters with those of their algorithms held otherwise.
+            pub(crate) fn map<'p, Q, E>(
+                &'p self,
+                held: impl Fn(&'p P) -> core::result::Result<Q, E>,
+            ) -> core::result::Result<$name<Q>, E> {
+                Ok($name {
+                    hash: self.hash.map(&held)?,
+                    mask_gen: self.mask_gen.map(|hash| hash.map(&held))?,
+                    $($sub: self.$sub.map(&held)?,)?
+                    $($plain: self.$plain,)*
+                })
+            }
+
             /// Whether the hash function is D, and the mask generation function is MGF1 with D: each of them with NULL
             /// or without parameters.
             #[must_use]
@@ -103,18 +131,14 @@ macro_rules! parameters {
 
             /// Writes one spelling to the front of the slice, and returns that part. Bit j of the mask says whether the
             /// j-th of the fields that equal their defaults is written. Mask 0 gives the shortest encoding.
-            ///
             /// # Errors
-            ///
             /// `Overflow`, or `NoRoom` if the slice is too short.
             pub fn encode_spelling<'o>(&self, mask: u8, out: &'o mut [u8]) -> Result<&'o [u8]> {
                 (&self.view()).encode_spelling_to_slice(mask, out)
             }
 
             /// All spellings, each at the index that is its mask: two to the number of default fields.
-            ///
             /// # Errors
-            ///
             /// `Overflow` or `OutOfMemory`.
             #[cfg(feature = "alloc")]
             pub fn spellings(&self) -> Result<alloc::vec::Vec<alloc::vec::Vec<u8>>> {
@@ -128,9 +152,7 @@ macro_rules! parameters {
 
             /// Writes the shortest encoding of the algorithm identifier with these parameters to the front of the
             /// slice, and returns that part.
-            ///
             /// # Errors
-            ///
             /// `Overflow`, or `NoRoom` if the slice is too short.
             pub fn encode_algorithm<'o>(&self, out: &'o mut [u8]) -> Result<&'o [u8]> {
                 let length = match self.write_known(Some(proved::$number), out) {
@@ -141,9 +163,7 @@ macro_rules! parameters {
             }
 
             /// Returns the shortest encoding of the algorithm identifier with these parameters.
-            ///
             /// # Errors
-            ///
             /// `Overflow` or `OutOfMemory`.
             #[cfg(feature = "alloc")]
             pub fn to_algorithm_der(&self) -> Result<alloc::vec::Vec<u8>> {
@@ -155,14 +175,11 @@ macro_rules! parameters {
             }
         }
 
-        impl $owned {
-            /// The same parameters.
-            ///
-            /// # Errors
-            ///
-            /// `OutOfMemory`.
-            pub fn try_clone(&self) -> der::Result<$owned> {
-                self.map(Any::try_clone)
+        impl<'a> From<$view<'a>> for $reference<'a> {
+            /// Copies the identifiers.
+            fn from(view: $view<'a>) -> $reference<'a> {
+                let Ok(params) = view.map(|any| Ok::<_, core::convert::Infallible>(*any));
+                params
             }
         }
 
@@ -236,6 +253,7 @@ macro_rules! parameters {
     )* };
 }
 parameters! {
-    RsaPssParams, RsaPssParamsView, RsaPssParamsRef, RsaPssParamsOwned, RsassaPss, RSASSA_PSS;
-    RsaOaepParams, RsaOaepParamsView, RsaOaepParamsRef, RsaOaepParamsOwned, RsaesOaep, RSAES_OAEP;
+    RsaPssParams, RsaPssParamsView, RsaPssParamsRef, RsaPssParamsOwned, RsassaPss, RSASSA_PSS, [],
+    [salt_len trailer_field];
+    RsaOaepParams, RsaOaepParamsView, RsaOaepParamsRef, RsaOaepParamsOwned, RsaesOaep, RSAES_OAEP, [p_source], [];
 }

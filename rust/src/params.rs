@@ -3,9 +3,10 @@
 use crate::algorithm::{AlgorithmIdentifier, MaskGen};
 use crate::der::Tag;
 use crate::der::asn1::{AnyRef, ObjectIdentifier};
-use crate::identifier::{AssociatedOid, Identifier, ObjectIdentifierRef, OfIdentifier};
+use crate::identifier::{AssociatedOid, Identifier};
 use crate::named::{Mgf1, PSpecified};
 use crate::proved::pkcs1_params::{self as proved, TrailerField};
+use crate::proved::spki_core::AlgorithmView;
 use crate::values::Held;
 
 /// Parameters of RSASSA-PSS. A `P` holds the parameters of a hash function, an `O` each object identifier: see
@@ -77,18 +78,6 @@ impl<'a> RsaPssParams<AnyRef<'a>> {
     }
 }
 
-impl<'a, O: OfIdentifier<'a>> RsaPssParams<AnyRef<'a>, O> {
-    #[inline(always)]
-    pub(crate) fn of_view(view: proved::RsaPssParamsView<'a>) -> RsaPssParams<AnyRef<'a>, O> {
-        RsaPssParams {
-            hash: AlgorithmIdentifier::of_view(view.hash),
-            mask_gen: mask_gen_of(view.mask_gen),
-            salt_len: view.salt_len,
-            trailer_field: view.trailer_field,
-        }
-    }
-}
-
 impl<'a> RsaOaepParams<AnyRef<'a>> {
     /// The hash function D with NULL, MGF1 with the same hash function, and the empty label.
     #[must_use]
@@ -97,26 +86,13 @@ impl<'a> RsaOaepParams<AnyRef<'a>> {
     }
 
     /// The hash function D with NULL, MGF1 with the same hash function, and this label.
-    ///
     /// # Panics
-    ///
     /// The label is longer than `Length::MAX`.
     #[must_use]
     pub fn new_with_label<D: AssociatedOid>(label: &'a (impl AsRef<[u8]> + ?Sized)) -> RsaOaepParams<AnyRef<'a>> {
         let label = AnyRef::new(Tag::OCTET_STRING, label.as_ref()).expect("the label is too long");
         let p_source = AlgorithmIdentifier { oid: PSpecified::OID, parameters: Some(label) };
         RsaOaepParams { hash: plain::<D>(), mask_gen: mgf1::<D>(), p_source }
-    }
-}
-
-impl<'a, O: OfIdentifier<'a>> RsaOaepParams<AnyRef<'a>, O> {
-    #[inline(always)]
-    pub(crate) fn of_view(view: proved::RsaOaepParamsView<'a>) -> RsaOaepParams<AnyRef<'a>, O> {
-        RsaOaepParams {
-            hash: AlgorithmIdentifier::of_view(view.hash),
-            mask_gen: mask_gen_of(view.mask_gen),
-            p_source: AlgorithmIdentifier::of_view(view.p_source),
-        }
     }
 }
 
@@ -128,26 +104,6 @@ const fn plain<'a, D: AssociatedOid>() -> AlgorithmIdentifier<AnyRef<'a>> {
 /// MGF1 with the hash function D with NULL.
 const fn mgf1<'a, D: AssociatedOid>() -> MaskGen<AnyRef<'a>> {
     AlgorithmIdentifier { oid: Mgf1::OID, parameters: Some(plain::<D>()) }
-}
-
-/// A mask generation function of the proved crates, and its hash function.
-type MaskGenView<'a> = crate::proved::spki_core::AlgorithmView<'a, HashView<'a>>;
-type HashView<'a> = crate::proved::spki_core::AlgorithmView<'a, crate::proved::spki_core::AnyRef<'a>>;
-
-#[inline(always)]
-fn mask_gen_of<'a, O: OfIdentifier<'a>>(view: MaskGenView<'a>) -> MaskGen<AnyRef<'a>, O> {
-    AlgorithmIdentifier {
-        oid: O::of_identifier(ObjectIdentifierRef(view.oid)),
-        parameters: view.parameters.map(AlgorithmIdentifier::of_view),
-    }
-}
-
-#[inline]
-fn mask_gen_view<P: Held, O: Identifier>(mask_gen: &MaskGen<P, O>) -> MaskGenView<'_> {
-    MaskGenView {
-        oid: mask_gen.oid.as_identifier().0,
-        parameters: mask_gen.parameters.as_ref().map(AlgorithmIdentifier::as_view),
-    }
 }
 
 /// The hash function under a mask generation function, if that and the other hash function have NULL.
@@ -170,32 +126,12 @@ pub(crate) fn uses_hash<D: AssociatedOid, P: Held, O: Identifier>(
 }
 
 impl<P: Held, O: Identifier> RsaPssParams<P, O> {
-    #[inline]
-    pub(crate) fn view(&self) -> proved::RsaPssParamsView<'_> {
-        proved::RsaPssParamsView {
-            hash: self.hash.as_view(),
-            mask_gen: mask_gen_view(&self.mask_gen),
-            salt_len: self.salt_len,
-            trailer_field: self.trailer_field,
-        }
-    }
-
     /// Writes the encoding, alone or in an algorithm identifier, if it is known.
     #[inline]
     pub(crate) fn write_known(&self, place: proved::Place, out: &mut [u8]) -> Option<proved::Written> {
         let under = under(&self.hash, &self.mask_gen)?;
         let (hash, mask_gen) = (self.hash.oid.as_identifier().0, self.mask_gen.oid.as_identifier().0);
         proved::encode_known_pss(hash.as_bytes(), mask_gen.as_bytes(), under, self.salt_len, place, out)
-    }
-
-    /// The parameters with those of their algorithms held otherwise.
-    pub(crate) fn map<'p, Q, E>(&'p self, held: impl Fn(&'p P) -> Result<Q, E>) -> Result<RsaPssParams<Q>, E> {
-        Ok(RsaPssParams {
-            hash: self.hash.map(&held)?,
-            mask_gen: self.mask_gen.map(|hash| hash.map(&held))?,
-            salt_len: self.salt_len,
-            trailer_field: self.trailer_field,
-        })
     }
 }
 
@@ -206,17 +142,8 @@ impl<P: Held, O: Identifier> RsaOaepParams<P, O> {
     pub fn label(&self) -> Option<&[u8]> {
         // Of the other fields, which `label` doesn't look at, nothing is copied.
         let p_source = self.p_source.as_view();
-        let mask_gen = MaskGenView { oid: p_source.oid, parameters: None };
+        let mask_gen = AlgorithmView { oid: p_source.oid, parameters: None };
         proved::RsaOaepParamsView { hash: p_source, mask_gen, p_source }.label()
-    }
-
-    #[inline]
-    pub(crate) fn view(&self) -> proved::RsaOaepParamsView<'_> {
-        proved::RsaOaepParamsView {
-            hash: self.hash.as_view(),
-            mask_gen: mask_gen_view(&self.mask_gen),
-            p_source: self.p_source.as_view(),
-        }
     }
 
     /// Writes the encoding, alone or in an algorithm identifier, if it is known.
@@ -230,14 +157,5 @@ impl<P: Held, O: Identifier> RsaOaepParams<P, O> {
         let (hash, mask_gen) = (self.hash.oid.as_identifier().0, self.mask_gen.oid.as_identifier().0);
         let (hash, mask_gen, named) = (hash.as_bytes(), mask_gen.as_bytes(), self.p_source.oid.as_identifier().0);
         proved::encode_known_oaep(hash, mask_gen, under, named.as_bytes(), source.value(), place, out)
-    }
-
-    /// The parameters with those of their algorithms held otherwise.
-    pub(crate) fn map<'p, Q, E>(&'p self, held: impl Fn(&'p P) -> Result<Q, E>) -> Result<RsaOaepParams<Q>, E> {
-        Ok(RsaOaepParams {
-            hash: self.hash.map(&held)?,
-            mask_gen: self.mask_gen.map(|hash| hash.map(&held))?,
-            p_source: self.p_source.map(&held)?,
-        })
     }
 }

@@ -3,7 +3,7 @@
 use crate::algorithm::{AlgorithmIdentifier, AlgorithmIdentifierRef};
 #[cfg(feature = "alloc")]
 use crate::der::SecretDocument;
-use crate::der::asn1::OctetStringRef;
+use crate::der::asn1::{AnyRef, OctetStringRef};
 use crate::der::{decoded, encoded, from_slices};
 use crate::identifier::Identifier;
 use crate::proved::pkcs8_core::{self as proved, PrivateKeyInfoView};
@@ -42,9 +42,7 @@ impl<'a> PrivateKeyInfoRef<'a> {
     }
 
     /// The RSA key in the container.
-    ///
     /// # Errors
-    ///
     /// `OidUnknown` if the algorithm isn't rsaEncryption, `ParametersMissing`, `Value` if they aren't NULL, or the
     /// octets are no key.
     pub fn rsa_view(&self) -> Result<RsaPrivateKeyView<'a>> {
@@ -67,7 +65,7 @@ impl core::fmt::Debug for PrivateKeyInfoRef<'_> {
 decoded! {
     {} PrivateKeyInfoRef<'a>, bytes => {
         let view = PrivateKeyInfoView::try_from(bytes)?;
-        let algorithm = AlgorithmIdentifier::of_view(view.algorithm);
+        let algorithm = AlgorithmIdentifier::of(view.algorithm, AnyRef);
         Ok(PrivateKeyInfoRef { algorithm, private_key: view.private_key, attributes: view.attributes })
     };
 }
@@ -86,9 +84,7 @@ impl<'a> TryFrom<PrivateKeyInfoRef<'a>> for RsaPrivateKeyRef<'a> {
 
 impl<'a> RsaPrivateKeyRef<'a> {
     /// The RSA key in the encoding of a container.
-    ///
     /// # Errors
-    ///
     /// The slice is no container, or as of `PrivateKeyInfoRef::rsa_view`.
     pub fn from_pkcs8_der(bytes: &'a [u8]) -> Result<RsaPrivateKeyRef<'a>> {
         Ok(RsaPrivateKeyRef::of_view(&RsaPrivateKeyView(proved::rsa_from_pkcs8_der(bytes)?))?)
@@ -97,9 +93,7 @@ impl<'a> RsaPrivateKeyRef<'a> {
 
 impl RsaPrivateKeyOwned {
     /// The RSA key in the encoding of a container.
-    ///
     /// # Errors
-    ///
     /// As of `RsaPrivateKeyRef::from_pkcs8_der`.
     pub fn from_pkcs8_der(bytes: &[u8]) -> Result<RsaPrivateKeyOwned> {
         Ok(RsaPrivateKeyOwned::try_from(&RsaPrivateKeyRef::from_pkcs8_der(bytes)?)?)
@@ -109,9 +103,7 @@ impl RsaPrivateKeyOwned {
 #[cfg(feature = "alloc")]
 impl<U: Number> RsaPrivateKey<U> {
     /// Returns the container of the key, without attributes.
-    ///
     /// # Errors
-    ///
     /// The key has no encoding, or there is no memory for it.
     pub fn to_pkcs8_der(&self) -> Result<SecretDocument> {
         let key = crate::der::to_der(&self.written()?)?;

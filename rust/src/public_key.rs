@@ -1,13 +1,12 @@
 //! RSA public keys.
 
 use crate::der::asn1::{Uint, UintRef};
-use crate::der::{self, decoded, encoded, from_slices};
-use crate::proved::der_core::{Decode, NoMemory};
-use crate::proved::pkcs1 as proved;
+use crate::der::{decoded, encoded, from_slices};
+use crate::proved::{der_core::read_borrowed, pkcs1 as proved};
 use crate::values::{Hex, Number};
 use core::fmt;
 
-/// An RSA public key (RFC 8017 A.1.1). A `U` holds a number: see `RsaPublicKeyRef` and `RsaPublicKeyOwned`. No relation
+/// An RSA public key (RFC 8017 A.1.1). A `U` holds a number: see [`RsaPublicKeyRef`] and [`RsaPublicKeyOwned`]. No relation
 /// between the numbers is checked.
 ///
 /// ```text
@@ -32,18 +31,8 @@ pub type RsaPublicKeyOwned = RsaPublicKey<Uint>;
 
 impl<U> RsaPublicKey<U> {
     /// The key with each number held otherwise.
-    pub(crate) fn map<'k, V, E>(
-        &'k self,
-        held: impl Fn(&'k U) -> core::result::Result<V, E>,
-    ) -> core::result::Result<RsaPublicKey<V>, E> {
+    pub(crate) fn map<'k, V, E>(&'k self, held: impl Fn(&'k U) -> Result<V, E>) -> Result<RsaPublicKey<V>, E> {
         Ok(RsaPublicKey { modulus: held(&self.modulus)?, public_exponent: held(&self.public_exponent)? })
-    }
-}
-
-impl<'a> RsaPublicKeyRef<'a> {
-    #[inline]
-    fn of_proved(key: proved::RsaPublicKeyRef<'a>) -> RsaPublicKeyRef<'a> {
-        RsaPublicKey { modulus: key.modulus, public_exponent: key.public_exponent }
     }
 }
 
@@ -56,30 +45,20 @@ impl<U: Number> RsaPublicKey<U> {
     }
 }
 
-impl RsaPublicKeyOwned {
-    /// The same key.
-    ///
-    /// # Errors
-    ///
-    /// `OutOfMemory`.
-    pub fn try_clone(&self) -> der::Result<RsaPublicKeyOwned> {
-        self.map(Uint::try_clone)
-    }
-}
-
 impl<U: Number> fmt::Debug for RsaPublicKey<U> {
     /// Prints the numbers in hexadecimal.
     fn fmt(&self, f: &mut fmt::Formatter<'_>) -> fmt::Result {
         f.debug_struct("RsaPublicKey")
-            .field("modulus", &Hex(self.modulus.as_number().as_bytes()))
-            .field("public_exponent", &Hex(self.public_exponent.as_number().as_bytes()))
+            .field("modulus", &Hex(self.modulus.as_number()))
+            .field("public_exponent", &Hex(self.public_exponent.as_number()))
             .finish()
     }
 }
 
 decoded! {
     {} RsaPublicKey<UintRef<'a>>, bytes => {
-        Ok(RsaPublicKeyRef::of_proved(proved::RsaPublicKeyRef::from_der(NoMemory, bytes)?))
+        let proved::RsaPublicKey { modulus, public_exponent } = read_borrowed(bytes)?;
+        Ok(RsaPublicKey { modulus, public_exponent })
     };
     {} RsaPublicKey<Uint>, bytes => RsaPublicKeyRef::from_der(bytes)?.try_into();
 }

@@ -11,16 +11,12 @@ use crate::{RsaPrivateKey, RsaPublicKey, values::Number};
 /// A private key that can be decoded from PKCS #1.
 pub trait DecodeRsaPrivateKey: Sized {
     /// Decodes a key from the whole slice.
-    ///
     /// # Errors
-    ///
     /// The slice isn't one whole encoding of a key, or there is no memory.
     fn from_pkcs1_der(bytes: &[u8]) -> Result<Self>;
 
     /// Decodes the key in a file.
-    ///
     /// # Errors
-    ///
     /// The file can't be read, or `from_pkcs1_der` rejects it.
     #[cfg(feature = "std")]
     fn read_pkcs1_der_file(path: impl AsRef<std::path::Path>) -> core::result::Result<Self, FileError> {
@@ -45,16 +41,12 @@ pub trait DecodeRsaPrivateKey: Sized {
 /// ```
 pub trait DecodeRsaPublicKey: Sized {
     /// Decodes a key from the whole slice.
-    ///
     /// # Errors
-    ///
     /// The slice isn't one whole encoding of a key, or there is no memory.
     fn from_pkcs1_der(bytes: &[u8]) -> Result<Self>;
 
     /// Decodes the key in a file.
-    ///
     /// # Errors
-    ///
     /// The file can't be read, or `from_pkcs1_der` rejects it.
     #[cfg(feature = "std")]
     fn read_pkcs1_der_file(path: impl AsRef<std::path::Path>) -> core::result::Result<Self, FileError> {
@@ -66,16 +58,13 @@ pub trait DecodeRsaPublicKey: Sized {
 #[cfg(feature = "alloc")]
 pub trait EncodeRsaPrivateKey {
     /// Returns the encoding of the key.
-    ///
     /// # Errors
-    ///
     /// The key has no encoding, or there is no memory for it.
     fn to_pkcs1_der(&self) -> Result<SecretDocument>;
 
-    /// Writes the encoding of the key to a file, which is created or truncated: see `SecretDocument::write_der_file`.
-    ///
+    /// Writes the encoding of the key to a file, which is created or truncated: see
+    /// [`SecretDocument::write_der_file`].
     /// # Errors
-    ///
     /// As `to_pkcs1_der`, or the file can't be written.
     #[cfg(feature = "std")]
     fn write_pkcs1_der_file(&self, path: impl AsRef<std::path::Path>) -> core::result::Result<(), FileError> {
@@ -87,16 +76,12 @@ pub trait EncodeRsaPrivateKey {
 #[cfg(feature = "alloc")]
 pub trait EncodeRsaPublicKey {
     /// Returns the encoding of the key.
-    ///
     /// # Errors
-    ///
     /// The key has no encoding, or there is no memory for it.
     fn to_pkcs1_der(&self) -> Result<Document>;
 
     /// Writes the encoding of the key to a file, which is created or truncated.
-    ///
     /// # Errors
-    ///
     /// As `to_pkcs1_der`, or the file can't be written.
     #[cfg(feature = "std")]
     fn write_pkcs1_der_file(&self, path: impl AsRef<std::path::Path>) -> core::result::Result<(), FileError> {

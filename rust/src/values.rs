@@ -1,6 +1,6 @@
 //! Numbers that own their octets, and encodings of any tag.
 
-use crate::der::{self, Length, Result, Tag};
+use crate::der::{self, Length, Result, Tag, cloned};
 use crate::proved::der_core::{self as proved, AsUintRef, UintRef};
 use crate::proved::pkcs1::TrailerField;
 use crate::proved::spki_core::{self, AnyParams, AnyValue};
@@ -21,31 +21,13 @@ macro_rules! seal {
 }
 seal! { UintRef<'_> Uint AnyRef<'_> Any }
 
-/// Octets that are printed in hexadecimal.
-pub(crate) struct Hex<'o>(pub(crate) &'o [u8]);
-
-impl fmt::Debug for Hex<'_> {
-    fn fmt(&self, f: &mut fmt::Formatter<'_>) -> fmt::Result {
-        self.0.iter().try_for_each(|octet| write!(f, "{octet:02x}"))
-    }
-}
-
-impl fmt::Debug for Uint {
-    /// Prints the number in hexadecimal.
-    fn fmt(&self, f: &mut fmt::Formatter<'_>) -> fmt::Result {
-        write!(f, "Uint({:?})", Hex(self.as_bytes()))
-    }
-}
-
 /// An unsigned number as big-endian bytes: no leading zeros, and one zero byte for 0. It owns them.
-#[derive(Clone, PartialEq, Eq)]
+#[derive(PartialEq, Eq)]
 pub struct Uint(pub(crate) proved::Uint);
 
 impl Uint {
     /// The number with these big-endian bytes, which may have leading zeros.
-    ///
     /// # Errors
-    ///
     /// `Length` of INTEGER if there is no byte, `Overflow` if more than `Length::MAX` bytes remain without leading
     /// zeros, else `OutOfMemory`.
     pub fn new(bytes: &[u8]) -> Result<Uint> {
@@ -64,18 +46,9 @@ impl Uint {
     pub fn bit_len(&self) -> u64 {
         self.0.as_uint_ref().bit_len()
     }
-
-    /// The same number.
-    ///
-    /// # Errors
-    ///
-    /// `OutOfMemory`.
-    pub fn try_clone(&self) -> Result<Uint> {
-        Uint::new(self.as_bytes())
-    }
 }
 
-/// What holds an unsigned number: `UintRef` or `Uint`.
+/// What holds an unsigned number: [`UintRef`] or [`Uint`].
 pub trait Number: Sealed {
     /// The number, borrowed.
     fn as_number(&self) -> UintRef<'_>;
@@ -104,9 +77,7 @@ impl<'a> AnyRef<'a> {
     pub const NULL: AnyRef<'static> = AnyRef(spki_core::AnyRef::null());
 
     /// These contents octets under this tag.
-    ///
     /// # Errors
-    ///
     /// `Overflow` if there are more than `Length::MAX`.
     pub fn new(tag: Tag, contents: &'a [u8]) -> Result<AnyRef<'a>> {
         Ok(AnyRef(readable(spki_core::AnyRef::new(tag, contents)?)))
@@ -134,9 +105,7 @@ impl<'a> AnyRef<'a> {
     }
 
     /// Decodes the contents octets as those of a `T`.
-    ///
     /// # Errors
-    ///
     /// `TagUnexpected`, or what reading a `T` returns.
     pub fn decode_as<T: TryFrom<AnyRef<'a>>>(self) -> core::result::Result<T, T::Error> {
         T::try_from(self)
@@ -144,14 +113,12 @@ impl<'a> AnyRef<'a> {
 }
 
 /// A tag and contents octets, which are opaque. It owns them.
-#[derive(Clone, Debug, Eq)]
+#[derive(Debug, Eq)]
 pub struct Any(pub(crate) spki_core::Any);
 
 impl Any {
     /// A copy of these contents octets under this tag.
-    ///
     /// # Errors
-    ///
     /// `Overflow` if there are more than `Length::MAX`, else `OutOfMemory`.
     pub fn new(tag: Tag, contents: &[u8]) -> Result<Any> {
         Ok(Any(spki_core::Any::new(Global, tag, contents)?))
@@ -170,18 +137,9 @@ impl Any {
     pub fn value(&self) -> &[u8] {
         self.as_any().value()
     }
-
-    /// The same tag and contents.
-    ///
-    /// # Errors
-    ///
-    /// `OutOfMemory`.
-    pub fn try_clone(&self) -> Result<Any> {
-        self.as_any().try_into()
-    }
 }
 
-/// What holds a tag and contents octets: `AnyRef` or `Any`.
+/// What holds a tag and contents octets: [`AnyRef`] or [`Any`].
 pub trait Held: Sealed {
     /// The tag and contents, borrowed.
     fn as_any(&self) -> AnyRef<'_>;
@@ -206,6 +164,25 @@ impl Held for Any {
 #[inline]
 fn readable(any: spki_core::AnyRef<'_>) -> spki_core::AnyRef<'_> {
     if any.value().is_empty() { AnyParams::empty(proved::NoMemory, any.tag()) } else { any }
+}
+
+cloned! { {} Uint; {} Any; }
+
+impl fmt::Debug for Uint {
+    /// Prints the number in hexadecimal.
+    fn fmt(&self, f: &mut fmt::Formatter<'_>) -> fmt::Result {
+        Hex(self.as_number()).fmt(f)
+    }
+}
+
+/// A number that is printed in hexadecimal.
+pub(crate) struct Hex<'n>(pub(crate) UintRef<'n>);
+
+impl fmt::Debug for Hex<'_> {
+    fn fmt(&self, f: &mut fmt::Formatter<'_>) -> fmt::Result {
+        f.write_str("0x")?;
+        self.0.as_bytes().iter().try_for_each(|octet| write!(f, "{octet:02x}"))
+    }
 }
 
 impl PartialEq for Any {

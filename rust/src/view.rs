@@ -1,7 +1,7 @@
 //! RSA private keys over the input.
 
 use crate::der::asn1::UintRef;
-use crate::der::{self, decoded, from_slices};
+use crate::der::{decoded, from_slices};
 use crate::keys::asn1;
 use crate::proved::pkcs1::{self as proved, OtherPrimes, Version};
 use crate::public_key::{RsaPublicKey, RsaPublicKeyRef};
@@ -13,51 +13,35 @@ use core::fmt;
 #[derive(Clone, Copy)]
 pub struct RsaPrivateKeyView<'a>(pub(crate) proved::RsaPrivateKeyView<'a>);
 
-macro_rules! numbers {
-    ($($(#[doc = $doc:literal])* $name:ident;)*) => {
+macro_rules! parts {
+    ($($doc:literal $name:ident: $type:ty;)*) => {
         impl<'a> RsaPrivateKeyView<'a> { $(
-            $(#[doc = $doc])*
+            #[doc = $doc]
             #[inline]
             #[must_use]
-            pub fn $name(&self) -> UintRef<'a> {
+            pub fn $name(&self) -> $type {
                 self.0.$name()
             }
         )* }
     };
 }
-numbers! {
-    /// The modulus n.
-    modulus;
-    /// The public exponent e.
-    public_exponent;
-    /// The private exponent d.
-    private_exponent;
-    /// The first prime p.
-    prime1;
-    /// The second prime q.
-    prime2;
-    /// The exponent of the first prime: d modulo p - 1.
-    exponent1;
-    /// The exponent of the second prime: d modulo q - 1.
-    exponent2;
-    /// The coefficient: the inverse of q modulo p.
-    coefficient;
+parts! {
+    "The version: `Multi` if there are other primes." version: Version;
+    "The modulus n." modulus: UintRef<'a>;
+    "The public exponent e." public_exponent: UintRef<'a>;
+    "The private exponent d." private_exponent: UintRef<'a>;
+    "The first prime p." prime1: UintRef<'a>;
+    "The second prime q." prime2: UintRef<'a>;
+    "The exponent of the first prime: d modulo p - 1." exponent1: UintRef<'a>;
+    "The exponent of the second prime: d modulo q - 1." exponent2: UintRef<'a>;
+    "The coefficient: the inverse of q modulo p." coefficient: UintRef<'a>;
+    "The primes after the first two, in order. There are none if the version is `TwoPrime`."
+    other_primes: OtherPrimes<'a>;
+    "The encoding of the key: the slice that was read, or the octets in the container's privateKey."
+    as_bytes: &'a [u8];
 }
 
 impl<'a> RsaPrivateKeyView<'a> {
-    /// What `from_der` gives, in line: a struct of it is then made without a copy in memory.
-    #[inline(always)]
-    pub(crate) fn read(bytes: &'a [u8]) -> der::Result<RsaPrivateKeyView<'a>> {
-        asn1(proved::RsaPrivateKeyView::try_from(bytes)).map(RsaPrivateKeyView)
-    }
-
-    /// The version: `Multi` if there are other primes.
-    #[inline]
-    #[must_use]
-    pub fn version(&self) -> Version {
-        self.0.version()
-    }
-
     /// The public key.
     #[inline]
     #[must_use]
@@ -65,18 +49,10 @@ impl<'a> RsaPrivateKeyView<'a> {
         RsaPublicKey { modulus: self.modulus(), public_exponent: self.public_exponent() }
     }
 
-    /// The primes after the first two, in order. There are none if the version is `TwoPrime`.
-    #[inline]
-    #[must_use]
-    pub fn other_primes(&self) -> OtherPrimes<'a> {
-        self.0.other_primes()
-    }
-
-    /// The encoding of the key: the slice that was read, or the octets in the container's privateKey.
-    #[inline]
-    #[must_use]
-    pub fn as_bytes(&self) -> &'a [u8] {
-        self.0.as_bytes()
+    /// What `from_der` gives, in line: a struct of it is then made without a copy in memory.
+    #[inline(always)]
+    pub(crate) fn read(bytes: &'a [u8]) -> crate::der::Result<RsaPrivateKeyView<'a>> {
+        asn1(proved::RsaPrivateKeyView::try_from(bytes)).map(RsaPrivateKeyView)
     }
 }
 
@@ -85,13 +61,11 @@ impl fmt::Debug for RsaPrivateKeyView<'_> {
     fn fmt(&self, f: &mut fmt::Formatter<'_>) -> fmt::Result {
         f.debug_struct("RsaPrivateKeyView")
             .field("version", &self.version())
-            .field("modulus", &Hex(self.modulus().as_bytes()))
-            .field("public_exponent", &Hex(self.public_exponent().as_bytes()))
+            .field("modulus", &Hex(self.modulus()))
+            .field("public_exponent", &Hex(self.public_exponent()))
             .finish_non_exhaustive()
     }
 }
 
-decoded! {
-    {} RsaPrivateKeyView<'a>, bytes => RsaPrivateKeyView::read(bytes);
-}
+decoded! { {} RsaPrivateKeyView<'a>, bytes => RsaPrivateKeyView::read(bytes); }
 from_slices! { RsaPrivateKeyView<'a>; }

@@ -3,7 +3,7 @@
 //! All octets of them but the first are undefined, so memcheck tells each branch and each address that depends on them.
 //! `secrets --leak KEY..` has such a branch, which must be told.
 
-use check::proved::der_core::{Encode, Uint, UintRef};
+use check::proved::der_core::{Encode, TryClone, Uint, UintRef};
 use check::proved::pkcs1::{EncodeRsaPrivateKey, OtherPrimeInfo, RsaPrivateKey, RsaPrivateKeyRef, RsaPrivateKeyView};
 use check::proved::pkcs8_core::{PrivateKeyInfoRef, PrivateKeyInfoView, rsa_from_pkcs8_der};
 use check::rattle_std::alloc::Global;
@@ -37,7 +37,7 @@ fn use_key(der: &[u8], out: &mut [u8]) {
     let key = RsaPrivateKeyRef::decode_key(Global, der).unwrap();
     let owned = RsaPrivateKey::<Uint>::decode_owned_key(Global, der).unwrap();
     black_box(format!("{key:?} {view:?} {owned:?} {:?}", owned.public_key()));
-    black_box((key.version(), owned.clone()));
+    black_box((key.version(), TryClone::try_clone(&owned, Global).unwrap()));
     assert!(key.encode_key(out).unwrap() == der.len() && owned.encode_key(out).unwrap() == der.len());
     assert!(owned.encode_key(&mut out[..der.len() - 1]).is_err());
     let document = owned.to_pkcs1_der(Global).unwrap();
