@@ -133,6 +133,11 @@ class Source:
         of_tool = self.crate in MADE["src/bin/pkcs1_tool/tool"]
         return None if of_tool or not self.says(at, "& [ ]") else (3, "crate :: rattle_std :: NO_OCTETS")
 
+    def errors(self, at):
+        """More errors may come."""
+        named = self.says(at, "pub enum Error {") or self.says(at, "pub enum ErrorKind {")
+        return (1, "# [ non_exhaustive ] pub") if named and self.crate in MADE["src/proved"] else None
+
     def call(self, at):
         """A slice that C passes is an address and a length, of which the body of the call makes one."""
         if self.says(at, 'extern "C" fn') and self.around[at] < 0:
@@ -182,8 +187,8 @@ class Source:
 
     def formed(self, at):
         """The first form that stands here: its name, how many tokens it has, and what must stand in its place."""
-        for form in (self.ghost, self.clause, self.tactic, self.final, self.drop, self.clone, self.formatter,
-                     self.path, self.empty, self.call, self.entry, self.narrowed):
+        for form in (self.ghost, self.clause, self.tactic, self.final, self.drop, self.clone,
+                     self.formatter, self.path, self.errors, self.empty, self.call, self.entry, self.narrowed):
             found = form(at)
             if found:
                 return form.__name__, found[0], found[1].split()

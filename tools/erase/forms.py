@@ -208,6 +208,13 @@ def field_with_invariant(code, at):
     return Edit(code.tokens[at].begin, code.tokens[at].end, "pub(crate)")
 
 
+def enum_of_errors(code, at):
+    """The enums `Error` and `ErrorKind` are `non_exhaustive`: more may come."""
+    if code.crate not in LIBRARY or not (code.reads(at, "pub enum Error {") or code.reads(at, "pub enum ErrorKind {")):
+        return None
+    return Edit(code.tokens[at].begin, code.tokens[at].end, "#[non_exhaustive]\npub")
+
+
 def empty_slice(code, at):
     """An empty slice `&[]` is one with an address of its own, `NO_OCTETS`."""
     if code.crate not in LIBRARY + CALLS or not code.reads(at, "& [ ]"):
@@ -288,6 +295,5 @@ def refused(code, at):
 
 
 FORMS = (ghost_item, clauses, tactic, derive_of_drop, bound_of_drop, final, clone_that_may_fail, writer_of_fmt,
-         formatter, path, method_with_requires, method_of_the_inside, field_with_invariant, empty_slice, slice_of_call,
-         body_of_call, main_of_program,
-         runtime_of_test, refused)
+         formatter, path, method_with_requires, method_of_the_inside, field_with_invariant,
+         enum_of_errors, empty_slice, slice_of_call, body_of_call, main_of_program, runtime_of_test, refused)

@@ -7,6 +7,7 @@ use crate::rattle_std::fmt;
 
 /// What went wrong.
 #[derive(Clone, Copy, Debug, PartialEq, Eq)]
+#[non_exhaustive]
 pub enum ErrorKind {
     /// An earlier call on the reader returned an error.
     Failed,

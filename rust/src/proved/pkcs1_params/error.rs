@@ -6,6 +6,7 @@ use crate::rattle_std::fmt;
 
 /// What went wrong.
 #[derive(Clone, Copy, Debug, PartialEq, Eq)]
+#[non_exhaustive]
 pub enum Error {
     /// An error of `der_core`.
     Asn1(crate::proved::der_core::Error),

@@ -29,10 +29,12 @@ fn status(error: rsa::Error) -> u8 {
             K::NoRoom => 15,
             K::File => 16,
             K::OutOfMemory => 17,
+            other => panic!("{other:?} has no status"),
         },
         rsa::Error::Crypto => 18,
         rsa::Error::KeyMalformed => 19,
         rsa::Error::Version => 20,
+        other => panic!("{other:?} has no status"),
     }
 }
 
