@@ -1,6 +1,6 @@
 //! DER: reading and writing of whole encodings, and documents.
 
-use crate::proved::der_core as proved;
+use crate::proved::{der_core as proved, spki_core::AnyRef};
 #[cfg(feature = "alloc")]
 use crate::rattle_std::{alloc::Global, prelude::Vec};
 
@@ -20,12 +20,42 @@ pub mod oid {
     pub use crate::identifier::{AssociatedOid, ObjectIdentifier, ObjectIdentifierRef};
 }
 
-/// A type that is read from its encoding.
+/// A type that is read from its encoding. A type of one's own may be one, such as SubjectPublicKeyInfo:
+///
+/// ```
+/// use pkcs1_proved::der::{Decode, ErrorKind, Result, Tag, asn1::AnyRef};
+/// use pkcs1_proved::{ALGORITHM_ID, RsaPublicKeyRef, spki::AlgorithmIdentifierRef};
+///
+/// struct Subject<'a>(RsaPublicKeyRef<'a>);
+///
+/// impl<'a> Decode<'a> for Subject<'a> {
+///     fn from_der(bytes: &'a [u8]) -> Result<Subject<'a>> {
+///         let info = AnyRef::from_der(bytes)?;
+///         let (algorithm, rest) = AlgorithmIdentifierRef::from_der_partial(info.value())?;
+///         let bits = AnyRef::from_der(rest)?;
+///         match (info.tag(), bits.tag(), bits.value()) {
+///             (Tag::SEQUENCE, Tag::BIT_STRING, [0, key @ ..]) if algorithm == ALGORITHM_ID => {
+///                 Ok(Subject(RsaPublicKeyRef::from_der(key)?))
+///             }
+///             (_, tag, _) => Err(ErrorKind::Value { tag }.into()),
+///         }
+///     }
+/// }
+/// ```
 pub trait Decode<'a>: Sized {
     /// Reads the whole slice.
     /// # Errors
     /// The slice isn't one whole encoding of such a value, or there is no memory for the value.
     fn from_der(bytes: &'a [u8]) -> Result<Self>;
+
+    /// Reads the encoding in front, of any tag, by `from_der`, and returns what follows it too.
+    /// # Errors
+    /// The slice begins with no encoding, or as of `from_der`.
+    fn from_der_partial(bytes: &'a [u8]) -> Result<(Self, &'a [u8])> {
+        let (_, behind) = proved::read_front::<AnyRef<'_>, _>(proved::NoMemory, bytes)?;
+        let (front, behind) = bytes.split_at(bytes.len() - behind.len());
+        Ok((Self::from_der(front)?, behind))
+    }
 }
 
 /// A type that is written as its encoding.

@@ -4,7 +4,7 @@
 mod made;
 
 use pkcs1_proved::der::asn1::{Any, AnyRef, ObjectIdentifier, OctetStringRef, Uint, UintRef};
-use pkcs1_proved::der::{Decode, Document, Encode, Length, SecretDocument, Tag};
+use pkcs1_proved::der::{Decode, Document, Encode, ErrorKind, Length, SecretDocument, Tag};
 use pkcs1_proved::spki::{AlgorithmIdentifier, AlgorithmIdentifierRef};
 use pkcs1_proved::{
     ALGORITHM_ID, DecodeRsaPrivateKey, DecodeRsaPublicKey, EncodeRsaPrivateKey, EncodeRsaPublicKey, OtherPrimeInfo,
@@ -90,6 +90,18 @@ impl Encode for Counter {
     fn encode_to_slice<'o>(&self, out: &'o mut [u8]) -> pkcs1_proved::der::Result<&'o [u8]> {
         UintRef::new(&[self.0])?.encode_to_slice(out)
     }
+}
+
+#[test]
+fn parts_are_read_one_by_one() -> Tested {
+    let der = [&[2, 2, 0, 200][..], &[5, 0], &[4, 1]].concat();
+    let (counter, rest) = Counter::from_der_partial(&der)?;
+    let (null, rest) = AnyRef::from_der_partial(rest)?;
+    assert_eq!((counter.0, null, rest), (200, AnyRef::NULL, &[4, 1][..]));
+    assert_eq!(OctetStringRef::from_der_partial(rest).unwrap_err().kind(), ErrorKind::Incomplete);
+    assert_eq!(Counter::from_der_partial(&[]).map(|_| ()).unwrap_err().kind(), ErrorKind::Incomplete);
+    assert!(UintRef::from_der_partial(&der[4..]).is_err());
+    Ok(())
 }
 
 #[test]
