@@ -1,58 +1,64 @@
-//! The traits for keys that are read from containers of `pkcs8` and `spki`, and written into them.
+//! Keys that types of others hold in PKCS #8 (RFC 5208) or SubjectPublicKeyInfo (RFC 5280), from PKCS #1 and to it.
 
 use crate::release::containers::{PrivateKeyInfo, container};
 use crate::{ALGORITHM_ID, DecodeRsaPrivateKey, DecodeRsaPublicKey, Result};
 use der::asn1::BitStringRef;
 use spki::SubjectPublicKeyInfoRef;
 
+/// The key is put into a container of version 0 for rsaEncryption, of which the type is made.
 impl<T> DecodeRsaPrivateKey for T
 where
     T: for<'a> TryFrom<PrivateKeyInfo<'a>, Error = pkcs8::Error>,
 {
-    /// Puts the key into a container, from which it is read.
-    fn from_pkcs1_der(bytes: &[u8]) -> Result<T> {
-        Ok(T::try_from(container(bytes)?)?)
+    fn from_pkcs1_der(key: &[u8]) -> Result<T> {
+        Ok(T::try_from(container(key)?)?)
     }
 }
 
+/// The key is put behind the identifier of rsaEncryption.
 impl<T> DecodeRsaPublicKey for T
 where
     T: for<'a> TryFrom<SubjectPublicKeyInfoRef<'a>, Error = spki::Error>,
 {
-    /// Puts the key into SubjectPublicKeyInfo, from which it is read.
-    fn from_pkcs1_der(bytes: &[u8]) -> Result<T> {
-        let subject_public_key = BitStringRef::from_bytes(bytes)?;
+    fn from_pkcs1_der(key: &[u8]) -> Result<T> {
+        let subject_public_key = BitStringRef::from_bytes(key)?;
         Ok(T::try_from(SubjectPublicKeyInfoRef { algorithm: ALGORITHM_ID, subject_public_key })?)
     }
 }
 
 #[cfg(feature = "alloc")]
-mod encoding {
-    use super::{PrivateKeyInfo, Result, SubjectPublicKeyInfoRef};
-    use crate::keys::{RsaPrivateKey, RsaPublicKey};
-    use crate::release::containers::contained;
-    use crate::{ALGORITHM_OID, EncodeRsaPrivateKey, EncodeRsaPublicKey};
-    use der::{Decode, Document, ErrorKind, SecretDocument, Tag, asn1::UintRef};
+mod written {
+    use crate::release::containers::{PrivateKeyInfo, contained};
+    use crate::{ALGORITHM_OID, EncodeRsaPrivateKey, EncodeRsaPublicKey, Result, keys};
+    use der::asn1::{Null, UintRef};
+    use der::{Document, SecretDocument};
+    use spki::{AlgorithmIdentifierRef, SubjectPublicKeyInfoRef};
 
+    /// Refuses another algorithm than rsaEncryption, and other parameters than NULL (RFC 8017 A.1).
+    fn rsa_alone(algorithm: &AlgorithmIdentifierRef<'_>) -> Result<()> {
+        algorithm.assert_algorithm_oid(ALGORITHM_OID)?;
+        algorithm.parameters_any()?.decode_as::<Null>()?;
+        Ok(())
+    }
+
+    /// The key in the type's container, whatever its version and attributes.
     impl<T: pkcs8::EncodePrivateKey> EncodeRsaPrivateKey for T {
-        /// Takes the key out of its container.
         fn to_pkcs1_der(&self) -> Result<SecretDocument> {
             let document = self.to_pkcs8_der()?;
-            let info = PrivateKeyInfo::from_der(document.as_bytes())?;
-            info.algorithm.assert_algorithm_oid(ALGORITHM_OID)?;
-            RsaPrivateKey::<UintRef<'_>>::try_from(contained(&info))?.try_into()
+            let container = PrivateKeyInfo::try_from(document.as_bytes())?;
+            rsa_alone(&container.algorithm)?;
+            keys::RsaPrivateKey::<UintRef<'_>>::try_from(contained(&container))?.try_into()
         }
     }
 
-    impl<T: pkcs8::EncodePublicKey> EncodeRsaPublicKey for T {
-        /// Takes the key out of its SubjectPublicKeyInfo.
+    /// The key in the type's SubjectPublicKeyInfo.
+    impl<T: spki::EncodePublicKey> EncodeRsaPublicKey for T {
         fn to_pkcs1_der(&self) -> Result<Document> {
             let document = self.to_public_key_der()?;
-            let info = SubjectPublicKeyInfoRef::from_der(document.as_bytes())?;
-            info.algorithm.assert_algorithm_oid(ALGORITHM_OID)?;
-            let octets = info.subject_public_key.as_bytes();
-            let octets = octets.ok_or_else(|| der::Error::from(ErrorKind::Value { tag: Tag::BitString }))?;
-            RsaPublicKey::<UintRef<'_>>::try_from(octets)?.try_into()
+            let info = SubjectPublicKeyInfoRef::try_from(document.as_bytes())?;
+            rsa_alone(&info.algorithm)?;
+            let key = info.subject_public_key.as_bytes().ok_or(spki::Error::KeyMalformed)?;
+            keys::RsaPublicKey::<UintRef<'_>>::try_from(key)?.try_into()
         }
     }
 }

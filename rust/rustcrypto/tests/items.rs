@@ -1,5 +1,6 @@
 //! What the crate promises, by the names of 0.8, and what owns its octets.
 use pkcs1::{RsaOaepParamsRef, RsaPrivateKeyRef, RsaPssParamsRef, RsaPublicKeyRef};
+use pkcs8::PrivateKeyInfoRef as PrivateKeyInfo;
 
 include!("shared/items.rs");
 

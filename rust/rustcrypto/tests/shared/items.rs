@@ -2,6 +2,7 @@ use der::asn1::{ObjectIdentifier, UintRef};
 use der::oid::AssociatedOid;
 use der::{Decode, Document, Encode, ErrorKind, Reader, SecretDocument, SliceReader, Tag};
 use pkcs1::{Error, OtherPrimeInfo, Result, TrailerField, Version};
+use spki::SubjectPublicKeyInfoRef;
 
 const PUBLIC: &[u8] = include_bytes!("../../../../ffi/tests/keys/pub2.der");
 const PRIVATE: &[u8] = include_bytes!("../../../../ffi/tests/keys/priv2.der");
@@ -183,4 +184,60 @@ fn files() {
     let text = key.to_pkcs1_pem(LineEnding::LF).unwrap();
     assert_eq!(Key::from_pkcs1_pem(&text).unwrap().0, PRIVATE_3);
     assert!(Key::from_pkcs1_pem(&text.replace("RSA PRIVATE", "RSA PUBLIC")).is_err());
+}
+
+/// What a type of others is written as in a container.
+struct Contained(Vec<u8>);
+impl TryFrom<PrivateKeyInfo<'_>> for Contained {
+    type Error = pkcs8::Error;
+    fn try_from(info: PrivateKeyInfo<'_>) -> pkcs8::Result<Contained> {
+        Ok(Contained(info.to_der()?))
+    }
+}
+impl TryFrom<SubjectPublicKeyInfoRef<'_>> for Contained {
+    type Error = spki::Error;
+    fn try_from(info: SubjectPublicKeyInfoRef<'_>) -> spki::Result<Contained> {
+        Ok(Contained(info.to_der()?))
+    }
+}
+impl pkcs8::EncodePrivateKey for Contained {
+    fn to_pkcs8_der(&self) -> pkcs8::Result<SecretDocument> {
+        Ok(SecretDocument::try_from(&self.0[..])?)
+    }
+}
+impl pkcs8::EncodePublicKey for Contained {
+    fn to_public_key_der(&self) -> spki::Result<Document> {
+        Ok(Document::try_from(&self.0[..])?)
+    }
+}
+
+/// Keys are put into containers for rsaEncryption with NULL, and taken out of them. Of others they aren't.
+#[test]
+fn containers() {
+    let of = |tag: u8, parts: &[&[u8]]| [&[tag, parts.concat().len() as u8][..], &parts.concat()].concat();
+    let private = |algorithm: &[u8]| of(0x30, &[&[2, 1, 0], algorithm, &of(4, &[&SMALL_3])]);
+    let public = |algorithm: &[u8]| of(0x30, &[algorithm, &of(3, &[&[0], &SMALL])]);
+    let algorithm = |last, parameters| of(0x30, &[&[6, 9, 0x2a, 0x86, 0x48, 0x86, 0xf7, 0x0d, 1, 1, last], parameters]);
+    for (last, parameters, said) in [
+        (1, &[5, 0][..], ""),
+        (1, &[4, 0], "TagUnexpected"),
+        (1, &[], "AlgorithmParametersMissing"),
+        (10, &[5, 0], "OidUnknown"),
+    ] {
+        let (private, public) = (private(&algorithm(last, parameters)), public(&algorithm(last, parameters)));
+        let held = pkcs1::EncodeRsaPrivateKey::to_pkcs1_der(&Contained(private.clone()));
+        let shown = pkcs1::EncodeRsaPublicKey::to_pkcs1_der(&Contained(public.clone()));
+        if said.is_empty() {
+            assert_eq!(held.unwrap().as_bytes(), SMALL_3);
+            assert_eq!(shown.unwrap().as_bytes(), SMALL);
+            assert_eq!(<Contained as pkcs1::DecodeRsaPrivateKey>::from_pkcs1_der(&SMALL_3).unwrap().0, private);
+            assert_eq!(<Contained as pkcs1::DecodeRsaPublicKey>::from_pkcs1_der(&SMALL).unwrap().0, public);
+        } else {
+            let errors = [held.unwrap_err(), shown.unwrap_err()];
+            assert!(errors.iter().all(|error| format!("{error:?}").contains(said)), "{errors:?}");
+        }
+    }
+    let mut damaged = private(&algorithm(1, &[5, 0]));
+    damaged[22] = 0x31;
+    assert!(pkcs1::EncodeRsaPrivateKey::to_pkcs1_der(&Contained(damaged)).is_err());
 }
