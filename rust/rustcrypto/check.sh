@@ -18,7 +18,7 @@ cd "$(dirname "$0")/../.."
 . tools/debian_rust.sh
 OUT=$(realpath -m "${OUT:-out/rust}")/rustcrypto
 here=$OUT/tree/rust/rustcrypto
-export CARGO_TERM_QUIET=true CARGO_NET_OFFLINE=true
+export CARGO_TERM_QUIET=true CARGO_NET_OFFLINE=true KEYS=$OUT/tree/ffi/tests/keys
 
 trixie=(arbitrary autocfg base64ct bitflags block-buffer byteorder cfg-if const-oid cpufeatures crypto-common der
     der-derive derive-arbitrary digest errno fastrand flagset generic-array getrandom hex-literal lazy-static libc libm
@@ -42,9 +42,13 @@ crates() {
         > "$CARGO_HOME/config.toml"
 }
 
-# quietly WHAT COMMAND..: what the command prints is shown if it fails.
-quietly() {
-    "${@:2}" > "$OUT/log" 2>&1 || { cat "$OUT/log" >&2 && stop "$1 fails"; }
+# tested WHAT WORD..: cargo test by these words passes, and has a test. What it prints is shown if not.
+tested() {
+    local count
+    cargo test "${@:2}" > "$OUT/log" 2>&1 || { cat "$OUT/log" >&2 && stop "cargo test of $1 fails"; }
+    count=$(awk '/^test result: ok/ { all += $4 } END { print all + 0 }' "$OUT/log")
+    [ "$count" -gt 0 ] || stop "$1 has no test"
+    echo "rustcrypto: $1: $count tests passed"
 }
 
 # itself FOLDER: the crate of the folder.
@@ -53,23 +57,19 @@ itself() {
     for features in "" zeroize alloc std pem pkcs8 alloc,pkcs8 std,pem,pkcs8; do
         cargo clippy --manifest-path "$manifest" --features "$features" -- -D warnings
     done
-    cargo fmt --manifest-path "$manifest" --check
+    rustfmt --check --edition 2024 --config-path "$here/.." "$here/src/lib.rs" "$1"/{release.rs,tests/*.rs}
     RUSTDOCFLAGS="-D warnings" cargo doc --manifest-path "$manifest" --features std,pem,pkcs8 --no-deps
-    quietly "cargo test of $1" cargo test --manifest-path "$manifest" --features std,pem,pkcs8
-    grep -q '^test result: ok. [1-9]' "$OUT/log" || stop "$1 has no test"
+    tested "${1##*/}, bare" --manifest-path "$manifest" --test bare
+    tested "${1##*/}" --manifest-path "$manifest" --features std,pem,pkcs8 --test items
 }
 
-# of_debian NAME: cargo test of check/NAME, over the crates that `crates` chose.
+# of_debian NAME TEST..: these tests, with check/NAME.toml, over the crates that `crates` chose.
 of_debian() {
-    local room=$OUT/check
-    rm -rf "$room"
-    cp -r "$here/check" "$room"
-    sed -i "s|REGISTRY|$registry|; s|HERE|$here|" "$room"/*.rs "$room"/*/Cargo.toml
-    # Tests of RustCrypto's pkcs1 read files of this folder.
-    [ ! -d "$registry/pkcs1-0.7.5" ] || cp -r "$registry/pkcs1-0.7.5/tests" "$room/$1/tests"
-    quietly "cargo test of $1" cargo test --manifest-path "$room/$1/Cargo.toml" --tests
-    awk -v of="$1" '/^test result: ok/ { all += $4 } END { print "rustcrypto: " of ": " all " tests passed"; exit !all }' \
-        "$OUT/log" || stop "$1 has no test"
+    rm -rf "$OUT/check"
+    mkdir -p "$OUT/check/tests"
+    cp -r "${@:2}" "$OUT/check/tests"
+    sed "s|HERE|$here|" "$here/check/$1.toml" > "$OUT/check/Cargo.toml"
+    tested "$1" --manifest-path "$OUT/check/Cargo.toml"
 }
 
 # In a copy of what it reads, as cargo writes Cargo.lock.
@@ -79,11 +79,12 @@ cp -r rust/{Cargo.toml,README.md,rustfmt.toml,src,examples,rustcrypto} "$OUT/tre
 cp -r ffi/tests/keys "$OUT/tree/ffi/tests"
 crates trixie "${trixie[@]}" || stop "crates of Debian 13 aren't there"
 itself "$here/older"
-of_debian trixie
-of_debian beside
+of_debian trixie "$registry"/rsa-0.9.*/tests/{pkcs1.rs,pkcs8.rs,examples} "$registry"/pkcs1-0.7.*/tests/* \
+    "$here/check/sha2.rs"
+of_debian beside "$here/check/beside.rs"
 if crates forky "${forky[@]}" && compgen -G "$registry/der-0.8.*" > "$OUT/log"; then
     itself "$here"
-    of_debian forky
+    of_debian forky "$here"/check/{sha2,x509}.rs
 else
     echo "rustcrypto: Debian's forky has no der 0.8, so pkcs1 0.8 isn't tried"
 fi

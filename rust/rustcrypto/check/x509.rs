@@ -4,7 +4,7 @@ use x509_cert::der::{Decode, Encode};
 
 #[test]
 fn certificate() {
-    let der = include_bytes!("HERE/../../ffi/tests/keys/certificate.der");
+    let der = include_bytes!(concat!(env!("KEYS"), "/certificate.der"));
     let certificate = x509_cert::Certificate::from_der(der).unwrap();
     let key = certificate.tbs_certificate.subject_public_key_info.subject_public_key;
     assert!(RsaPublicKey::try_from(key.as_bytes().unwrap()).unwrap().modulus.as_bytes().len() >= 128);

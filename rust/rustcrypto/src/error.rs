@@ -37,50 +37,33 @@ impl fmt::Display for Error {
 
 impl core::error::Error for Error {}
 
-impl From<der::Error> for Error {
-    fn from(error: der::Error) -> Error {
-        Error::Asn1(error)
-    }
-}
-
-#[cfg(feature = "pem")]
-impl From<der::pem::Error> for Error {
-    fn from(error: der::pem::Error) -> Error {
-        Error::Asn1(error.into())
-    }
-}
-
-#[cfg(feature = "pkcs8")]
-impl From<pkcs8::Error> for Error {
-    fn from(error: pkcs8::Error) -> Error {
-        Error::Pkcs8(error)
-    }
-}
-
-#[cfg(feature = "pkcs8")]
-impl From<Error> for pkcs8::Error {
-    fn from(error: Error) -> pkcs8::Error {
-        match error {
-            Error::Asn1(error) => pkcs8::Error::Asn1(error),
-            Error::Pkcs8(error) => error,
-            _ => crate::release::containers::MALFORMED,
+macro_rules! made_of {
+    ($($(#[$if:meta])? $to:ty, $error:ident: $from:ty => $made:expr;)*) => { $(
+        $(#[$if])?
+        impl From<$from> for $to {
+            fn from($error: $from) -> $to {
+                $made
+            }
         }
-    }
+    )* };
 }
-
-#[cfg(feature = "pkcs8")]
-impl From<pkcs8::spki::Error> for Error {
-    fn from(error: pkcs8::spki::Error) -> Error {
-        Error::Pkcs8(error.into())
-    }
-}
-
-#[cfg(feature = "pkcs8")]
-impl From<Error> for pkcs8::spki::Error {
-    fn from(error: Error) -> pkcs8::spki::Error {
-        match error {
-            Error::Asn1(error) => pkcs8::spki::Error::Asn1(error),
-            _ => pkcs8::spki::Error::KeyMalformed,
-        }
-    }
+made_of! {
+    Error, error: der::Error => Error::Asn1(error);
+    #[cfg(feature = "pem")]
+    Error, error: der::pem::Error => Error::Asn1(error.into());
+    #[cfg(feature = "pkcs8")]
+    Error, error: pkcs8::Error => Error::Pkcs8(error);
+    #[cfg(feature = "pkcs8")]
+    Error, error: spki::Error => Error::Pkcs8(error.into());
+    #[cfg(feature = "pkcs8")]
+    pkcs8::Error, error: Error => match error {
+        Error::Asn1(error) => error.into(),
+        Error::Pkcs8(error) => error,
+        _ => crate::release::MALFORMED,
+    };
+    #[cfg(feature = "pkcs8")]
+    spki::Error, error: Error => match error {
+        Error::Asn1(error) => error.into(),
+        _ => spki::Error::KeyMalformed,
+    };
 }

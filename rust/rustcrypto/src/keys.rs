@@ -1,17 +1,52 @@
 //! Keys. They are read and written by the proved functions.
 
-#[cfg(feature = "alloc")]
-use crate::key_coding::Number;
-use crate::small::Version;
+use crate::{Error, Result};
 use core::fmt;
-use der::asn1::UintRef;
-
-/// The primes of a private key after the first two: a list, or without the feature `alloc` none.
 #[cfg(feature = "alloc")]
-pub type OtherPrimeInfos<U> = alloc::vec::Vec<OtherPrimeInfo<U>>;
-/// The primes of a private key after the first two: a list, or without the feature `alloc` none.
-#[cfg(not(feature = "alloc"))]
-pub type OtherPrimeInfos<U> = [OtherPrimeInfo<U>; 0];
+use der::asn1::Uint;
+use der::asn1::{AnyRef, ObjectIdentifier, UintRef};
+#[cfg(feature = "alloc")]
+use der::referenced::OwnedToRef;
+use spki::AlgorithmIdentifierRef;
+
+/// The object identifier of RSA keys, rsaEncryption.
+pub const ALGORITHM_OID: ObjectIdentifier = ObjectIdentifier::new_unwrap("1.2.840.113549.1.1.1");
+
+/// The algorithm identifier of RSA keys: rsaEncryption with NULL.
+pub const ALGORITHM_ID: AlgorithmIdentifierRef<'static> =
+    AlgorithmIdentifierRef { oid: ALGORITHM_OID, parameters: Some(AnyRef::NULL) };
+
+/// The version of a private key (RFC 8017 A.1.2).
+#[derive(Clone, Copy, Debug, PartialEq, Eq, PartialOrd, Ord)]
+#[repr(u8)]
+pub enum Version {
+    /// Two primes.
+    TwoPrime = 0,
+    /// More than two primes.
+    Multi = 1,
+}
+
+impl Version {
+    /// Whether it is that of keys with more than two primes.
+    #[must_use]
+    pub fn is_multi(self) -> bool {
+        self == Version::Multi
+    }
+}
+
+impl From<Version> for u8 {
+    fn from(version: Version) -> u8 {
+        version as u8
+    }
+}
+
+impl TryFrom<u8> for Version {
+    type Error = Error;
+
+    fn try_from(number: u8) -> Result<Version> {
+        [Version::TwoPrime, Version::Multi].into_iter().find(|version| *version as u8 == number).ok_or(Error::Version)
+    }
+}
 
 /// An RSA public key (RFC 8017 A.1.1).
 #[derive(Clone, Copy, Debug, PartialEq, Eq)]
@@ -32,6 +67,13 @@ pub struct OtherPrimeInfo<U> {
     /// Its coefficient: the inverse modulo r of the product of the primes before it.
     pub coefficient: U,
 }
+
+/// The primes of a private key after the first two: a list, or without the feature `alloc` none.
+#[cfg(feature = "alloc")]
+pub type OtherPrimeInfos<U> = alloc::vec::Vec<OtherPrimeInfo<U>>;
+/// The primes of a private key after the first two: a list, or without the feature `alloc` none.
+#[cfg(not(feature = "alloc"))]
+pub type OtherPrimeInfos<U> = [OtherPrimeInfo<U>; 0];
 
 /// An RSA private key (RFC 8017 A.1.2). No relation between the numbers is checked. A key whose list of other primes is
 /// there but empty isn't written.
@@ -57,31 +99,22 @@ pub struct RsaPrivateKey<U> {
     pub other_prime_infos: Option<OtherPrimeInfos<U>>,
 }
 
+/// A public key that borrows its numbers.
+pub type RsaPublicKeyRef<'a> = RsaPublicKey<UintRef<'a>>;
+/// A private key that borrows its numbers.
+pub type RsaPrivateKeyRef<'a> = RsaPrivateKey<UintRef<'a>>;
+/// A public key that owns its numbers.
+#[cfg(feature = "alloc")]
+pub type RsaPublicKeyOwned = RsaPublicKey<Uint>;
+/// A private key that owns its numbers. They aren't wiped when it is dropped.
+#[cfg(feature = "alloc")]
+pub type RsaPrivateKeyOwned = RsaPrivateKey<Uint>;
+
 impl<U> RsaPrivateKey<U> {
     /// The version: `Multi` if there are other primes.
     #[must_use]
     pub fn version(&self) -> Version {
         if self.other_prime_infos.is_some() { Version::Multi } else { Version::TwoPrime }
-    }
-}
-
-impl<'a> RsaPrivateKey<UintRef<'a>> {
-    /// The public key.
-    #[must_use]
-    pub fn public_key(&self) -> RsaPublicKey<UintRef<'a>> {
-        RsaPublicKey { modulus: self.modulus, public_exponent: self.public_exponent }
-    }
-}
-
-impl<'a> From<RsaPrivateKey<UintRef<'a>>> for RsaPublicKey<UintRef<'a>> {
-    fn from(key: RsaPrivateKey<UintRef<'a>>) -> Self {
-        key.public_key()
-    }
-}
-
-impl<'a> From<&RsaPrivateKey<UintRef<'a>>> for RsaPublicKey<UintRef<'a>> {
-    fn from(key: &RsaPrivateKey<UintRef<'a>>) -> Self {
-        key.public_key()
     }
 }
 
@@ -96,39 +129,36 @@ impl<U: fmt::Debug> fmt::Debug for RsaPrivateKey<U> {
     }
 }
 
-#[cfg(feature = "pem")]
-impl<U> der::pem::PemLabel for RsaPublicKey<U> {
-    const PEM_LABEL: &'static str = "RSA PUBLIC KEY";
+impl<'a> RsaPrivateKeyRef<'a> {
+    /// The public key.
+    #[must_use]
+    pub fn public_key(&self) -> RsaPublicKeyRef<'a> {
+        RsaPublicKey { modulus: self.modulus, public_exponent: self.public_exponent }
+    }
 }
 
-#[cfg(feature = "pem")]
-impl<U> der::pem::PemLabel for RsaPrivateKey<U> {
-    const PEM_LABEL: &'static str = "RSA PRIVATE KEY";
-}
-
-/// The document of a key, which a proved function writes.
 #[cfg(feature = "alloc")]
-macro_rules! documents {
-    ($($key:ident $document:ident;)*) => { $(
-        impl<U: Number> TryFrom<&$key<U>> for der::$document {
-            type Error = crate::Error;
+impl RsaPrivateKeyOwned {
+    /// The public key.
+    #[must_use]
+    pub fn public_key(&self) -> RsaPublicKeyRef<'_> {
+        RsaPublicKey { modulus: self.modulus.owned_to_ref(), public_exponent: self.public_exponent.owned_to_ref() }
+    }
+}
 
-            fn try_from(key: &$key<U>) -> crate::Result<Self> {
-                Ok(der::$document::try_from(crate::whole::Whole::written(key)?.octets())?)
-            }
-        }
-
-        impl<U: Number> TryFrom<$key<U>> for der::$document {
-            type Error = crate::Error;
-
-            fn try_from(key: $key<U>) -> crate::Result<Self> {
-                der::$document::try_from(&key)
+macro_rules! public_keys {
+    ($($(#[$if:meta])? $private:ty;)*) => { $(
+        $(#[$if])?
+        impl<'a> From<$private> for RsaPublicKeyRef<'a> {
+            fn from(key: $private) -> Self {
+                key.public_key()
             }
         }
     )* };
 }
-#[cfg(feature = "alloc")]
-documents! {
-    RsaPublicKey Document;
-    RsaPrivateKey SecretDocument;
+public_keys! {
+    RsaPrivateKeyRef<'a>;
+    &RsaPrivateKeyRef<'a>;
+    #[cfg(feature = "alloc")]
+    &'a RsaPrivateKeyOwned;
 }

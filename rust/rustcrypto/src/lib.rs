@@ -1,5 +1,5 @@
-//! The names of RustCrypto's `pkcs1` 0.8, over the crates `der` 0.8, `spki` 0.8 and `pkcs8` 0.11. The README says what is
-//! proved of it.
+//! The names of RustCrypto's `pkcs1` 0.8, and in `older` those of 0.7, over the crates `der`, `spki` and `pkcs8`. The
+//! README says what is proved of it.
 #![no_std]
 #![forbid(unsafe_code)]
 #![warn(missing_docs)]
@@ -9,32 +9,31 @@ extern crate alloc;
 #[cfg(feature = "std")]
 extern crate std;
 
+mod coding;
 #[cfg(feature = "pkcs8")]
 mod containers;
 mod error;
-mod key_coding;
 mod keys;
+mod mirror;
 mod params;
-mod release;
-mod small;
 mod traits;
-mod whole;
+/// What is otherwise from release to release of `der`, `spki` and `pkcs8`.
+mod release {
+    include!(concat!(env!("CARGO_MANIFEST_DIR"), "/release.rs"));
+}
 
+pub use der;
 #[cfg(feature = "alloc")]
 pub use der::asn1::Uint;
+pub use der::asn1::{ObjectIdentifier, UintRef};
 #[cfg(feature = "pem")]
 pub use der::pem::{self, LineEnding};
-pub use der::{
-    self,
-    asn1::{ObjectIdentifier, UintRef},
-};
 pub use error::{Error, Result};
+pub use keys::{ALGORITHM_ID, ALGORITHM_OID, RsaPrivateKeyRef, RsaPublicKeyRef, Version};
 #[cfg(feature = "alloc")]
-pub use keys::{OtherPrimeInfo, OtherPrimeInfos};
-pub use keys::{RsaPrivateKey, RsaPublicKey};
-pub use params::{RsaOaepParams, RsaPssParams};
+pub use keys::{RsaPrivateKeyOwned, RsaPublicKeyOwned};
+#[cfg(feature = "alloc")]
+pub use params::{RsaOaepParamsOwned, RsaPssParamsOwned};
+pub use params::{RsaOaepParamsRef, RsaPssParamsRef, TrailerField};
 pub use release::*;
-pub use small::{ALGORITHM_ID, ALGORITHM_OID, TrailerField, Version};
-pub use traits::{DecodeRsaPrivateKey, DecodeRsaPublicKey};
-#[cfg(feature = "alloc")]
-pub use traits::{EncodeRsaPrivateKey, EncodeRsaPublicKey};
+pub use traits::*;

@@ -1,8 +1,4 @@
-//! What the crate promises, by the names of 0.7.
-use pkcs1::{
-    RsaOaepParams as RsaOaepParamsRef, RsaPrivateKey as RsaPrivateKeyRef, RsaPssParams as RsaPssParamsRef,
-    RsaPublicKey as RsaPublicKeyRef,
-};
+//! What the crate promises, by the names of 0.7 and those that it has of 0.8.
 use pkcs8::PrivateKeyInfo;
 
 include!("../../tests/shared/items.rs");

@@ -1,7 +1,5 @@
 //! Each octet of small encodings is changed in each way, and each is cut off at each octet. Where RustCrypto's pkcs1 0.7
 //! and this crate read otherwise, it is one of the differences that the page lists.
-#![cfg(test)]
-
 use der::{Decode, Encode, ErrorKind};
 
 const ROWS: &[&str] = &[
@@ -31,28 +29,25 @@ fn alike<T: Encode, U: Encode>(ours: der::Result<T>, theirs: der::Result<U>, der
     false
 }
 
-fn read(der: &[u8]) -> [bool; 4] {
-    [
-        alike(ours::RsaPublicKey::from_der(der), theirs::RsaPublicKey::from_der(der), der),
-        alike(ours::RsaPrivateKey::from_der(der), theirs::RsaPrivateKey::from_der(der), der),
-        alike(ours::RsaPssParams::from_der(der), theirs::RsaPssParams::from_der(der), der),
-        alike(ours::RsaOaepParams::from_der(der), theirs::RsaOaepParams::from_der(der), der),
-    ]
-}
-
 #[test]
 fn damaged() {
     let mut refused = [0; 4];
+    let mut read = |der: &[u8]| {
+        for (count, only) in refused.iter_mut().zip([
+            alike(ours::RsaPublicKey::from_der(der), theirs::RsaPublicKey::from_der(der), der),
+            alike(ours::RsaPrivateKey::from_der(der), theirs::RsaPrivateKey::from_der(der), der),
+            alike(ours::RsaPssParams::from_der(der), theirs::RsaPssParams::from_der(der), der),
+            alike(ours::RsaOaepParams::from_der(der), theirs::RsaOaepParams::from_der(der), der),
+        ]) {
+            *count += u32::from(only);
+        }
+    };
     for row in ROWS {
         let octets = (0..row.len()).step_by(2).map(|at| u8::from_str_radix(&row[at..at + 2], 16).unwrap());
         let whole: Vec<u8> = octets.collect();
         for at in 0..whole.len() {
             read(&whole[..at]);
-            for octet in 0..=255 {
-                let mut other = whole.clone();
-                other[at] = octet;
-                read(&other).into_iter().enumerate().for_each(|(of, only)| refused[of] += u32::from(only));
-            }
+            (0..=255).for_each(|octet| read(&[&whole[..at], &[octet], &whole[at + 1..]].concat()));
         }
     }
     // An empty list of other primes; fields in another order; malformed identifiers.
