@@ -7,7 +7,7 @@
 #     each feature, without a warning of clippy; layout; documentation; its own tests
 #     over 0.7, each with not a line changed: the tests of keys of rsa 0.9, and those of RustCrypto's pkcs1
 #     inputs by damage, beside RustCrypto's pkcs1 0.7
-#     programs with sha2, and with x509-cert
+#     programs with the types of other crates, and with x509-cert
 #
 # What is made stands in out/rust, or below OUT. It needs cargo with clippy and rustfmt, apt-get, and Debian's packages
 # from the network or the folder DEBIAN, ~/.cache/pkcs1-gate/debian unless said, into which they were unpacked. Nothing
@@ -80,11 +80,11 @@ cp -r ffi/tests/keys "$OUT/tree/ffi/tests"
 crates trixie "${trixie[@]}" || stop "crates of Debian 13 aren't there"
 itself "$here/older"
 of_debian trixie "$registry"/rsa-0.9.*/tests/{pkcs1.rs,pkcs8.rs,examples} "$registry"/pkcs1-0.7.*/tests/* \
-    "$here/check/sha2.rs"
+    "$here/check/programs.rs"
 of_debian beside "$here/check/beside.rs"
 if crates forky "${forky[@]}" && compgen -G "$registry/der-0.8.*" > "$OUT/log"; then
     itself "$here"
-    of_debian forky "$here"/check/{sha2,x509}.rs
+    of_debian forky "$here"/check/{programs,x509}.rs
 else
     echo "rustcrypto: Debian's forky has no der 0.8, so pkcs1 0.8 isn't tried"
 fi
