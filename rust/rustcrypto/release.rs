@@ -3,7 +3,7 @@
 pub use crate::keys::{OtherPrimeInfo, OtherPrimeInfos, RsaPrivateKey, RsaPublicKey};
 pub use crate::params::{RsaOaepParams, RsaPssParams};
 use der::asn1::OctetStringRef;
-use der::{Header, Length, Tag, TagNumber};
+use der::{Header, Length, TagNumber};
 
 /// The error of `DecodeValue`.
 macro_rules! error {
@@ -12,11 +12,6 @@ macro_rules! error {
     };
 }
 pub(crate) use error;
-
-#[expect(clippy::unnecessary_wraps, reason = "of der 0.7 it returns a Result")]
-pub(crate) fn header(tag: Tag, length: Length) -> der::Result<Header> {
-    Ok(Header::new(tag, length))
-}
 
 pub(crate) fn length(header: &Header) -> Length {
     header.length()

@@ -4,6 +4,7 @@ use crate::proved::{der_core as proved, spki_core::AnyRef};
 #[cfg(feature = "alloc")]
 use crate::rattle_std::{alloc::Global, prelude::Vec};
 
+pub use crate::contents::DecodeContents;
 #[cfg(feature = "alloc")]
 pub use crate::documents::{Document, DocumentOf, Open, Secret, SecretDocument};
 pub use proved::{Error, ErrorKind, Length, Result, Tag, TagNumber};

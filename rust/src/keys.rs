@@ -13,7 +13,7 @@ use core::fmt;
 
 /// The primes of a private key after the first two, as a slice. Without the feature `alloc` there are none.
 #[derive(Clone, Debug)]
-pub struct OtherPrimeInfos<U>(Vec<OtherPrimeInfo<U>>);
+pub struct OtherPrimeInfos<U>(pub(crate) Vec<OtherPrimeInfo<U>>);
 
 impl<U> core::ops::Deref for OtherPrimeInfos<U> {
     type Target = [OtherPrimeInfo<U>];

@@ -48,6 +48,7 @@ extern crate std;
 
 mod algorithm;
 mod clones;
+mod contents;
 mod conversions;
 pub mod der;
 #[cfg(feature = "alloc")]

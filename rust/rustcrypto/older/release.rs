@@ -1,7 +1,7 @@
 // What is otherwise in the releases 0.7 of `der` and `spki`, and 0.10 of `pkcs8`: the names of types too.
 
 use der::asn1::UintRef;
-use der::{Header, Length, Tag, TagNumber};
+use der::{Header, Length, TagNumber};
 
 /// An RSA public key.
 pub type RsaPublicKey<'a> = crate::RsaPublicKeyRef<'a>;
@@ -21,10 +21,6 @@ macro_rules! error {
     () => {};
 }
 pub(crate) use error;
-
-pub(crate) fn header(tag: Tag, length: Length) -> der::Result<Header> {
-    Header::new(tag, length)
-}
 
 pub(crate) fn length(header: &Header) -> Length {
     header.length

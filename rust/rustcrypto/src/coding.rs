@@ -1,8 +1,8 @@
-//! Types are read and written by the proved functions, which have whole encodings. The traits of `der` have contents
+//! Types are read and written by the proved functions. These write whole encodings, and the traits of `der` contents
 //! without a header.
 
 use crate::keys::{OtherPrimeInfo, RsaPrivateKey, RsaPublicKey, Version};
-use crate::mirror::{Kept, Mirror};
+use crate::mirror::Mirror;
 use crate::params::{RsaOaepParams, RsaPssParams, TrailerField};
 use crate::release::{self, length, number};
 #[cfg(feature = "alloc")]
@@ -10,6 +10,7 @@ use der::asn1::{Any, Uint};
 use der::asn1::{AnyRef, ContextSpecific, UintRef};
 use der::{Decode, DecodeValue, Encode, EncodeValue, Error, ErrorKind, FixedTag};
 use der::{Header, Length, Reader, SliceReader, Tag, Writer};
+use proved::der::DecodeContents;
 use spki::{AlgorithmIdentifier, AlgorithmIdentifierRef as Hash};
 
 #[cfg(feature = "alloc")]
@@ -31,9 +32,9 @@ fn refused<T: FixedTag>() -> Error {
     ErrorKind::Value { tag: T::TAG }.into()
 }
 
-/// Reads contents as `der` does, for the error alone: it has a kind of `der` and a position.
+/// Reads a whole encoding as `der` does, for the error alone: it has a kind of `der` and a position.
 trait Fault: FixedTag {
-    fn fault<'r>(contents: &mut impl Reader<'r>) -> der::Result<()>;
+    fn fault(whole: &[u8]) -> der::Result<()>;
 }
 
 /// A whole encoding in memory of its own.
@@ -46,19 +47,17 @@ pub struct Whole {
 impl Whole {
     /// These contents behind the tag's header.
     fn around(tag: Tag, contents: &[u8]) -> der::Result<Whole> {
-        let front = release::header(tag, contents.len().try_into()?)?;
-        let header = usize::try_from(front.encoded_len()?)?;
-        let end = header.checked_add(contents.len()).ok_or(ErrorKind::Overflow)?;
+        let any = AnyRef::new(tag, contents)?;
+        let end = usize::try_from(any.encoded_len()?)?;
         let mut memory = room(end)?;
-        front.encode_to_slice(&mut memory[..header])?;
-        memory[header..end].copy_from_slice(contents);
-        Ok(Whole { memory, header, end })
+        any.encode_to_slice(&mut memory[..end])?;
+        Ok(Whole { memory, header: end - contents.len(), end })
     }
 
     /// What a proved function writes.
-    pub fn written<'w, 'a, T>(value: &'w T) -> der::Result<Whole>
+    pub fn written<'a, T>(value: &'a T) -> der::Result<Whole>
     where
-        T: Mirror<'w, 'a, Proved: proved::der::Encode> + FixedTag,
+        T: Mirror<'a, Proved: proved::der::Encode> + FixedTag,
     {
         use proved::der::Encode;
         let proved = value.lent().ok_or_else(refused::<T>)?;
@@ -76,33 +75,14 @@ impl Whole {
         &self.memory[self.header..self.end]
     }
 
-    /// The part of the original that was copied to this part of the contents. An empty part may stand elsewhere.
-    fn original<'a>(&self, part: &[u8], original: &'a [u8]) -> Option<&'a [u8]> {
-        if part.is_empty() {
-            return Some(&[]);
+    /// The fault that `der` finds, where the contents began at this position.
+    fn fault<T: Fault>(&self, start: Length) -> Error {
+        let error = T::fault(self.octets()).err().unwrap_or_else(refused::<T>);
+        let front = Length::try_from(self.header).unwrap_or(Length::ZERO);
+        match error.position().map(|position| start.saturating_sub(front) + position) {
+            Some(Ok(position)) => error.kind().at(position),
+            _ => error,
         }
-        let start = (part.as_ptr() as usize).checked_sub(self.contents().as_ptr() as usize)?;
-        original.get(start..start.checked_add(part.len())?)
-    }
-
-    /// Its value, or the fault that `der` finds, where the contents began at this position.
-    fn read<'w, 'a, T>(&'w self, kept: Kept<'_, 'w, 'a>, start: Length) -> der::Result<T>
-    where
-        T: Mirror<'w, 'a, Proved: proved::der::Decode<'w>> + Fault,
-    {
-        use proved::der::Decode;
-        T::Proved::from_der(self.octets()).ok().and_then(|read| T::of(&read, kept)).ok_or_else(|| {
-            let told = SliceReader::new(self.octets()).and_then(|mut reader| {
-                let length = length(&Header::decode(&mut reader)?);
-                reader.read_nested(length, |contents| T::fault(contents))
-            });
-            let error = told.err().unwrap_or_else(refused::<T>);
-            let front = Length::try_from(self.header).unwrap_or(Length::ZERO);
-            match error.position().map(|position| start.saturating_sub(front) + position) {
-                Some(Ok(position)) => error.kind().at(position),
-                _ => error,
-            }
-        })
     }
 }
 
@@ -117,37 +97,44 @@ fn contents_len(end: usize) -> Option<usize> {
     (2..=6).filter_map(|header| end.checked_sub(header)).find(fits)
 }
 
+/// The value of contents that began at a position. Only if there is none, they are copied, for `der` to find the fault.
+fn value<'a, T>(contents: &'a [u8], start: Length) -> der::Result<T>
+where
+    T: Mirror<'a, Proved: DecodeContents<'a>> + Fault,
+{
+    let read = T::Proved::from_contents(contents).ok().and_then(|read| T::of(&read));
+    read.ok_or_else(|| Whole::around(T::TAG, contents).map_or_else(|_| refused::<T>(), |whole| whole.fault::<T>(start)))
+}
+
 /// `DecodeValue` of a type that borrows from the contents.
 fn borrowed<'a, T, R: Reader<'a>>(reader: &mut R, length: Length) -> der::Result<T>
 where
-    T: for<'w> Mirror<'w, 'a, Proved: proved::der::Decode<'w>> + Fault,
+    T: Mirror<'a, Proved: DecodeContents<'a>> + Fault,
 {
     let start = reader.position();
-    let contents = reader.read_slice(length)?;
-    let whole = Whole::around(T::TAG, contents)?;
-    whole.read(&|part| whole.original(part, contents), start)
+    value(reader.read_slice(length)?, start)
 }
 
 /// `DecodeValue` of a type that owns what it holds.
 fn owned<'a, T, R: Reader<'a>>(reader: &mut R, length: Length) -> der::Result<T>
 where
-    T: for<'w> Mirror<'w, 'w, Proved: proved::der::Decode<'w>> + Fault,
+    T: for<'w> Mirror<'w, Proved: DecodeContents<'w>> + Fault,
 {
     let start = reader.position();
     if length > reader.remaining_len() {
         return Err(Error::incomplete(reader.input_len()));
     }
     let size = usize::try_from(length)?;
-    Whole::around(T::TAG, reader.read_into(&mut room(size)?[..size])?)?.read(&Some, start)
+    value(reader.read_into(&mut room(size)?[..size])?, start)
 }
 
 /// The value of a whole encoding.
-fn whole<'a, T: Mirror<'a, 'a, Proved: proved::der::Decode<'a>>>(bytes: &'a [u8]) -> Option<T> {
+fn whole<'a, T: Mirror<'a, Proved: proved::der::Decode<'a>>>(bytes: &'a [u8]) -> Option<T> {
     use proved::der::Decode;
-    T::of(&T::Proved::from_der(bytes).ok()?, &Some)
+    T::of(&T::Proved::from_der(bytes).ok()?)
 }
 
-fn value_len<'w, 'a, T: Mirror<'w, 'a, Proved: proved::der::Encode> + FixedTag>(value: &'w T) -> der::Result<Length> {
+fn value_len<'a, T: Mirror<'a, Proved: proved::der::Encode> + FixedTag>(value: &'a T) -> der::Result<Length> {
     use proved::der::Encode;
     let end = value.lent().and_then(|proved| Some(proved.encoded_len().ok()?.to_usize()));
     end.and_then(contents_len).ok_or_else(refused::<T>)?.try_into()
@@ -184,9 +171,8 @@ macro_rules! integers {
         }
 
         impl Fault for $name {
-            fn fault<'r>(contents: &mut impl Reader<'r>) -> der::Result<()> {
-                let header = release::header(Tag::Integer, contents.remaining_len())?;
-                u8::decode_value(contents, header).map(|_| ())
+            fn fault(whole: &[u8]) -> der::Result<()> {
+                u8::from_der(whole).map(|_| ())
             }
         }
 
@@ -228,8 +214,10 @@ macro_rules! sequences {
         sequence! { $name<$owned>, owned }
 
         impl<T> Fault for $name<T> where $name<T>: FixedTag {
-            fn fault<'r>($contents: &mut impl Reader<'r>) -> der::Result<()> {
-                $fault
+            fn fault(whole: &[u8]) -> der::Result<()> {
+                let mut reader = SliceReader::new(whole)?;
+                let length = length(&Header::decode(&mut reader)?);
+                reader.read_nested(length, |$contents| $fault)
             }
         }
     )* };
@@ -238,8 +226,8 @@ sequences! {
     RsaPublicKey, UintRef Uint, contents => numbers(contents, 2);
     OtherPrimeInfo, UintRef Uint, contents => numbers(contents, 3);
     RsaPrivateKey, UintRef Uint, contents => private_key(contents);
-    RsaPssParams, AnyRef Any, contents => explicit!(contents, 0 Hash<'r>, 1 MaskGen<'r>, 2 u8, 3 TrailerField);
-    RsaOaepParams, AnyRef Any, contents => explicit!(contents, 0 Hash<'r>, 1 MaskGen<'r>, 2 Hash<'r>);
+    RsaPssParams, AnyRef Any, contents => explicit!(contents, 0 Hash<'_>, 1 MaskGen<'_>, 2 u8, 3 TrailerField);
+    RsaOaepParams, AnyRef Any, contents => explicit!(contents, 0 Hash<'_>, 1 MaskGen<'_>, 2 Hash<'_>);
 }
 
 fn numbers<'r>(contents: &mut impl Reader<'r>, count: usize) -> der::Result<()> {

@@ -11,34 +11,31 @@ use der::{Decode, Encode, Tag, Tagged};
 use proved::der::asn1;
 use spki::AlgorithmIdentifier;
 
-/// Where a caller keeps what was copied to these octets.
-pub type Kept<'k, 'w, 'a> = &'k dyn Fn(&'w [u8]) -> Option<&'a [u8]>;
-
 /// A type beside a proved one.
-pub trait Mirror<'w, 'a>: Sized {
+pub trait Mirror<'a>: Sized {
     /// The proved type.
     type Proved;
 
     /// What a proved function read, if this type can hold it.
-    fn of(proved: &Self::Proved, kept: Kept<'_, 'w, 'a>) -> Option<Self>;
+    fn of(proved: &Self::Proved) -> Option<Self>;
 
     /// What a proved function writes, if it is one of its values.
-    fn lent(&'w self) -> Option<Self::Proved>;
+    fn lent(&'a self) -> Option<Self::Proved>;
 }
 
 /// `Mirror` of types, by two expressions each.
 macro_rules! mirrors {
     ($($(#[$if:meta])? {$($generics:tt)*} $name:ty, $proved:ty:
-        |$read:ident, $kept:ident| $of:expr, |$value:ident| $lent:expr;)*) => { $(
+        |$read:ident| $of:expr, |$value:ident| $lent:expr;)*) => { $(
         $(#[$if])?
-        impl<'w, 'a, $($generics)*> Mirror<'w, 'a> for $name {
+        impl<'a, $($generics)*> Mirror<'a> for $name {
             type Proved = $proved;
 
-            fn of($read: &$proved, $kept: Kept<'_, 'w, 'a>) -> Option<Self> {
+            fn of($read: &$proved) -> Option<Self> {
                 $of
             }
 
-            fn lent(&'w self) -> Option<$proved> {
+            fn lent(&'a self) -> Option<$proved> {
                 let $value = self;
                 $lent
             }
@@ -46,27 +43,27 @@ macro_rules! mirrors {
     )* };
 }
 mirrors! {
-    {} UintRef<'a>, proved::UintRef<'w>:
-        |read, kept| UintRef::new(kept(read.as_bytes())?).ok(), |value| proved::UintRef::new(value.as_bytes()).ok();
+    {} UintRef<'a>, proved::UintRef<'a>:
+        |read| UintRef::new(read.as_bytes()).ok(), |value| proved::UintRef::new(value.as_bytes()).ok();
     #[cfg(feature = "alloc")]
-    {} Uint, proved::UintRef<'w>:
-        |read, _kept| Uint::new(read.as_bytes()).ok(), |value| proved::UintRef::new(value.as_bytes()).ok();
-    {} AnyRef<'a>, asn1::AnyRef<'w>:
-        |read, kept| AnyRef::new(tag(read)?, kept(read.value())?).ok(), |value| any(value.tag(), value.value());
+    {} Uint, proved::UintRef<'a>:
+        |read| Uint::new(read.as_bytes()).ok(), |value| proved::UintRef::new(value.as_bytes()).ok();
+    {} AnyRef<'a>, asn1::AnyRef<'a>:
+        |read| AnyRef::new(tag(read)?, read.value()).ok(), |value| any(value.tag(), value.value());
     #[cfg(feature = "alloc")]
-    {} Any, asn1::AnyRef<'w>:
-        |read, _kept| Any::new(tag(read)?, read.value()).ok(), |value| any(value.tag(), value.value());
+    {} Any, asn1::AnyRef<'a>:
+        |read| Any::new(tag(read)?, read.value()).ok(), |value| any(value.tag(), value.value());
     {} ObjectIdentifier, asn1::ObjectIdentifier:
-        |read, _kept| ObjectIdentifier::from_bytes(read.as_bytes()).ok(),
+        |read| ObjectIdentifier::from_bytes(read.as_bytes()).ok(),
         |value| asn1::ObjectIdentifier::from_bytes(value.as_bytes()).ok();
-    {} u8, u8: |read, _kept| Some(*read), |value| Some(*value);
+    {} u8, u8: |read| Some(*read), |value| Some(*value);
     {} Version, proved::Version:
-        |read, _kept| Some(if read.is_multi() { Version::Multi } else { Version::TwoPrime }),
+        |read| Some(if read.is_multi() { Version::Multi } else { Version::TwoPrime }),
         |value| Some(if value.is_multi() { proved::Version::Multi } else { proved::Version::TwoPrime });
-    {} TrailerField, proved::TrailerField: |_read, _kept| Some(TrailerField::BC), |_value| Some(proved::TrailerField::BC);
-    {T: Mirror<'w, 'a>} Option<T>, Option<T::Proved>:
-        |read, kept| match read {
-            Some(read) => T::of(read, kept).map(Some),
+    {} TrailerField, proved::TrailerField: |_read| Some(TrailerField::BC), |_value| Some(proved::TrailerField::BC);
+    {T: Mirror<'a>} Option<T>, Option<T::Proved>:
+        |read| match read {
+            Some(read) => T::of(read).map(Some),
             None => Some(None),
         },
         |value| match value {
@@ -74,25 +71,25 @@ mirrors! {
             None => Some(None),
         };
     #[cfg(feature = "alloc")]
-    {U: Mirror<'w, 'a>} OtherPrimeInfos<U>, proved::OtherPrimeInfos<U::Proved>:
-        |read, kept| read.iter().map(|prime| Mirror::of(prime, kept)).collect(),
+    {U: Mirror<'a>} OtherPrimeInfos<U>, proved::OtherPrimeInfos<U::Proved>:
+        |read| read.iter().map(Mirror::of).collect(),
         |value| Some(value.iter().map(Mirror::lent).collect::<Option<alloc::vec::Vec<_>>>()?.into());
     #[cfg(not(feature = "alloc"))]
-    {U: Mirror<'w, 'a>} [OtherPrimeInfo<U>; 0], proved::OtherPrimeInfos<U::Proved>:
-        |_read, _kept| None, |_value| None;
+    {U: Mirror<'a>} [OtherPrimeInfo<U>; 0], proved::OtherPrimeInfos<U::Proved>:
+        |_read| None, |_value| None;
 }
 
 /// `Mirror` of structs, field by field.
 macro_rules! structs {
     ($($name:ident, $($proved:ident)::*: $($field:ident)*;)*) => { $(
-        impl<'w, 'a, T: Mirror<'w, 'a>> Mirror<'w, 'a> for $name<T> {
+        impl<'a, T: Mirror<'a>> Mirror<'a> for $name<T> {
             type Proved = $($proved)::*<T::Proved>;
 
-            fn of(proved: &Self::Proved, kept: Kept<'_, 'w, 'a>) -> Option<Self> {
-                Some($name { $($field: Mirror::of(&proved.$field, kept)?,)* })
+            fn of(proved: &Self::Proved) -> Option<Self> {
+                Some($name { $($field: Mirror::of(&proved.$field)?,)* })
             }
 
-            fn lent(&'w self) -> Option<Self::Proved> {
+            fn lent(&'a self) -> Option<Self::Proved> {
                 Some($($proved)::* { $($field: self.$field.lent()?,)* })
             }
         }

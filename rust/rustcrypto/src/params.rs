@@ -93,12 +93,12 @@ impl<'a> RsaOaepParamsRef<'a> {
 
 impl Default for RsaPssParamsRef<'_> {
     fn default() -> Self {
-        Mirror::of(&proved::RsaPssParamsRef::default(), &Some).expect("the defaults are held here too")
+        Mirror::of(&proved::RsaPssParamsRef::default()).expect("the defaults are held here too")
     }
 }
 
 impl Default for RsaOaepParamsRef<'_> {
     fn default() -> Self {
-        Mirror::of(&proved::RsaOaepParamsRef::default(), &Some).expect("the defaults are held here too")
+        Mirror::of(&proved::RsaOaepParamsRef::default()).expect("the defaults are held here too")
     }
 }
