@@ -12,8 +12,6 @@ usage="usage: ffi/proof/build.sh                    builds libpkcs1 into ffi/out
        ffi/proof/build.sh install PREFIX     builds it, and installs it below PREFIX; pkcs1_tool with its man page too,
                                              if rt run built it in crates/pkcs1_tool
        ffi/proof/build.sh uninstall PREFIX   removes what install put there
-       UNPROVED=FOLDER ffi/proof/build.sh install-unproved PREFIX
-                                             installs the library in FOLDER, whose libpkcs1_c.a isn't proved
    CRATES: another folder of the same crates, with the libraries that rt ci proved, for --library
    DESTDIR, LIBDIR: a folder to install below, and the libraries' folder in place of PREFIX/lib
    CC, CFLAGS, LDFLAGS: the compiler, its options, and those for linking libpkcs1.so"
@@ -21,8 +19,8 @@ here=$(realpath "$(dirname "$0")")
 ffi=$here/..
 . "$here/../../tools/shell.sh"
 crate=$ffi/../crates/pkcs1_c
-out=${UNPROVED:-$ffi/out} # UNPROVED: a folder with a libpkcs1_c.a that is only to be tested
-library=${UNPROVED:-$crate/out}/libpkcs1_c.a
+out=$ffi/out
+library=$crate/out/libpkcs1_c.a
 export CC=${CC:-gcc} CXX=${CXX:-g++}
 
 action='test'
@@ -36,7 +34,7 @@ case "$#:${1-}" in
         printf '%s\n' "$usage"
         exit 0
         ;;
-    2:install | 2:uninstall | 2:install-unproved)
+    2:install | 2:uninstall)
         action=$1
         prefix=$2
         ;;
@@ -52,11 +50,7 @@ say() {
 
 version=$(sed -n 's/^#define PKCS1_VERSION_[A-Z]* //p' "$ffi/lib/include/pkcs1.h" | paste -s -d .)
 case $action:$prefix in *install*:) stop "PREFIX is empty" ;; esac
-case $action:${UNPROVED:+unproved} in
-    uninstall:*) exec "$ffi/lib/install.sh" remove "$prefix" "$version" ;;
-    install:unproved) stop "UNPROVED is set: its library isn't proved, and only install-unproved installs it" ;;
-    install-unproved:) stop "UNPROVED isn't set to the folder of a library" ;;
-esac
+[ "$action" != uninstall ] || exec "$ffi/lib/install.sh" remove "$prefix" "$version"
 
 tools=(rt "$CC" ar ld nm objcopy)
 case $action in
@@ -117,10 +111,9 @@ stamp() {
     printf '%s %s\n' "$(inputs)" "$(sha256sum < "$library")"
 }
 build_library() {
-    case ${UNPROVED:+unproved}:$action in
-        unproved:*) return ;;
-        :over-ci) [ -e "$library" ] || stop "there is no $library: ffi/proof/build.sh --library builds it" ;;
-        :library)
+    case $action in
+        over-ci) [ -e "$library" ] || stop "there is no $library: ffi/proof/build.sh --library builds it" ;;
+        library)
             prove build_over
             say "the library is proved and built, after $SECONDS seconds"
             ;;
@@ -148,13 +141,13 @@ build_library
 [ "$action" != library ] || exit 0
 link_library
 case $action in
-    install*)
+    install)
         tool=$ffi/../crates/pkcs1_tool/out/pkcs1_tool
-        [ -x "$tool" ] && [ "$action" = install ] || tool=
-        "$ffi/lib/install.sh" add "$prefix" "$version${UNPROVED:+-unproved}" "$out" ${tool:+"$tool"}
+        [ -x "$tool" ] || tool=
+        "$ffi/lib/install.sh" add "$prefix" "$version" "$out" ${tool:+"$tool"}
         ;;
     *)
         say "testing, half a minute"
-        if [ -n "${UNPROVED-}" ]; then "$ffi/tests/check.sh" "$out"; else "$ffi/tests/test.sh"; fi
+        "$ffi/tests/test.sh"
         ;;
 esac

@@ -113,12 +113,6 @@ else
     "$CC" "-I$room/a b/include" "$ffi/examples/modulus.c" "$room/a b/lib/libpkcs1.a" -o "$room/static"
 fi
 "$ffi/proof/build.sh" install > /dev/null 2>&1 && stop "build.sh takes wrong arguments"
-UNPROVED=$out "$ffi/proof/build.sh" install "$room/d" > /dev/null 2>&1 && stop "an unproved library is installed"
-[ ! -e "$room/d" ] || stop "an unproved library is installed in part"
-mkdir "$room/unproved"
-cp "$ffi/../crates/pkcs1_c/out/libpkcs1_c.a" "$room/unproved"
-UNPROVED=$room/unproved "$ffi/proof/build.sh" install-unproved "$room/d" > /dev/null
-grep -qx "Version: $version-unproved" "$room/d/lib/pkgconfig/libpkcs1.pc" || stop "libpkcs1.pc doesn't say that it isn't proved"
 
 # The example in each language: it prints the key in a file, and rejects other files.
 : > "$room/empty"
