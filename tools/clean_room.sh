@@ -42,17 +42,20 @@ prints() {
     printf '\060\010\002\003\000\301\177\002\001\003' > "$room/key.der"
     [ "$("$@" "$room/key.der")" = c17f ] || stop "$1 prints another modulus"
 }
-# Installed, found by pkg-config, and linked either way; then nothing is left of it.
+# Installed where the umask shuts others out, with another folder of libraries, found by pkg-config, and linked either
+# way; then nothing is left of it.
 c_program() {
     local prefix=$room/installed
-    make install PREFIX="$prefix"
-    [ "$(find "$prefix" -type f ! -perm 644 -printf '%P %m')" = 'bin/pkcs1_tool 755' ] || stop "what is installed has other modes"
+    export LIBDIR=$prefix/lib64
+    (umask 077 && make install PREFIX="$prefix")
+    [ "$(find "$prefix" \( -type f ! -perm 644 -o -type d ! -perm 755 \) -printf '%P %m')" = 'bin/pkcs1_tool 755' ] ||
+        stop "what is installed has other modes"
     [ ! -e SBOM.spdx.json ] || cmp SBOM.spdx.json "$prefix/share/doc/libpkcs1/SBOM.spdx.json"
-    export PKG_CONFIG_PATH=$prefix/lib/pkgconfig
+    export PKG_CONFIG_PATH=$LIBDIR/pkgconfig
     [ "$(pkg-config --cflags-only-other --libs-only-other --libs-only-l libpkcs1 | xargs)" = -lpkcs1 ] ||
         stop "libpkcs1.pc adds options"
     # shellcheck disable=SC2046 # words
-    cc ffi/examples/modulus.c $(pkg-config --cflags --libs libpkcs1) -Wl,-rpath,"$prefix/lib" -o "$room/shared"
+    cc ffi/examples/modulus.c $(pkg-config --cflags --libs libpkcs1) -Wl,-rpath,"$LIBDIR" -o "$room/shared"
     # shellcheck disable=SC2046 # words
     cc -static ffi/examples/modulus.c $(pkg-config --static --cflags --libs libpkcs1) -o "$room/static"
     prints "$room/shared"

@@ -68,27 +68,9 @@ done
 "$room/races" | xargs -P $((($(nproc) + 1) / 2)) -n 1 timeout 60 "$room/races" > "$room/log" ||
     stop "octets that change during a call do harm"
 
-# Installed where the umask shuts others out, with another folder of libraries, and uninstalled. Another program stands
-# in for the tool.
-version=$("$room/test" --version)
-export LIBDIR=$room/c/lib64
-(umask 077 && CFLAGS=-DNDEBUG LDFLAGS=-Wl,-z,nodelete "$ffi/proof/build.sh" install "$room/c" > /dev/null)
-cp "$room/modulus" "$room/pkcs1_tool"
-"$ffi/lib/install.sh" add "$room/c" "$version" "$out" "$room/pkcs1_tool" > /dev/null
-[ -z "$(find "$room/c" -type d ! -perm 755 -o -type f ! -perm 644 ! -path "*/bin/*" \
-    -o -path "*/bin/*" ! -perm 755)" ] || stop "what is installed has other modes"
-readelf -d "$LIBDIR/libpkcs1.so" | grep -q NODELETE || stop "LDFLAGS aren't used"
-if have pkg-config "LIBDIR isn't tested"; then
-    # shellcheck disable=SC2046 # words
-    "$CC" "$ffi/examples/modulus.c" $(PKG_CONFIG_PATH=$LIBDIR/pkgconfig pkg-config --cflags --libs libpkcs1) \
-        -o "$room/shared"
-fi
-"$ffi/proof/build.sh" uninstall "$room/c"
-[ -z "$(find "$room/c" ! -type d)" ] || stop "uninstall leaves files"
-unset LIBDIR
-"$ffi/proof/build.sh" uninstall "$room/c" 2> /dev/null && stop "what isn't installed is uninstalled"
 # Installed into a folder with a space in its name, by itself and below DESTDIR; and again: files are replaced, not
-# changed, as a program may be running with them.
+# changed, as a program may be running with them. tools/clean_room.sh has more of it.
+version=$("$room/test" --version)
 printf '\060\010\002\003\000\301\177\002\001\003' > "$room/pub.der"
 DESTDIR=$room/stage "$ffi/proof/build.sh" install /usr > /dev/null
 "$ffi/proof/build.sh" install "$room/a b" > /dev/null
