@@ -1,11 +1,13 @@
 //! What the erased program uses of Rattle's standard library, over the C library.
 
+#[path = "../../../src/bin/pkcs1_tool/rattle_std/files.rs"]
 mod files;
 #[path = "../../../src/bin/pkcs1_tool/rattle_std/hex.rs"]
 pub mod hex;
 pub mod io;
 #[path = "../../../src/rattle_std/mod.rs"]
 mod library;
+pub mod path;
 #[allow(unsafe_code)]
 mod system;
 #[path = "../../../src/bin/pkcs1_tool/rattle_std/text.rs"]
@@ -13,7 +15,7 @@ mod text;
 #[path = "../../../src/bin/pkcs1_tool/rattle_std/vec.rs"]
 mod vec;
 
-pub use files::{fs, os, path, rt};
+pub use files::{fs, os, rt};
 pub use library::{NO_OCTETS, alloc, arrayvec, cmp, fmt, hash, marker, result};
 pub use system::Words;
 

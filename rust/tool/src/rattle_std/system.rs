@@ -1,6 +1,9 @@
 //! What the tool asks of the C library, and of `ffi/lib/os.c` over it.
 
-use super::io::{Error, ErrorKind, Result};
+use super::alloc::Global;
+use super::files::{Found, How, Kind};
+use super::io::{self, ErrorKind, Result};
+use super::path::{Path, PathBuf};
 use core::alloc::{GlobalAlloc, Layout};
 use core::ffi::{CStr, c_char, c_int, c_uint, c_void};
 use core::ptr::null_mut;
@@ -74,37 +77,24 @@ fn done(returned: isize) -> Result<()> {
 const LONGEST: usize = 4096;
 
 /// A path as C takes it, on the stack.
-pub struct Name([u8; LONGEST]);
+struct Name([u8; LONGEST]);
 
 impl Name {
     /// Fails if the path is too long, or has a zero octet.
-    fn of(path: &[u8]) -> Result<Name> {
+    fn of(path: Path<'_>) -> Result<Name> {
         let mut name = Name([0; LONGEST]);
-        name.0.get_mut(..path.len()).ok_or(ErrorKind::Other)?.copy_from_slice(path);
-        if name.octets()? == path { Ok(name) } else { Err(ErrorKind::Other.into()) }
+        name.0.get_mut(..path.0.len()).ok_or(ErrorKind::Other)?.copy_from_slice(path.0);
+        if name.octets()? == path.0 { Ok(name) } else { Err(ErrorKind::Other.into()) }
     }
 
     /// What is in front of the first zero octet, which must be there.
-    pub fn octets(&self) -> Result<&[u8]> {
+    fn octets(&self) -> Result<&[u8]> {
         CStr::from_bytes_until_nul(&self.0).map(CStr::to_bytes).map_err(|_| ErrorKind::Other.into())
     }
 
     fn as_ptr(&self) -> *const c_char {
         self.0.as_ptr().cast()
     }
-}
-
-/// How a file is opened. `ffi/lib/os.c` has the same numbers.
-#[derive(Clone, Copy)]
-pub enum How {
-    /// For reading.
-    Read = 0,
-    /// For writing.
-    Write = 1,
-    /// For writing, and creates it if nothing is there.
-    Create = 2,
-    /// For writing, if nothing is there.
-    CreateNew = 3,
 }
 
 /// An open file.
@@ -116,39 +106,40 @@ impl Drop for File {
     }
 }
 
-impl File {
-    /// Opens it. The mode is that of a file that is created.
-    pub fn open(path: &[u8], how: How, mode: u32) -> Result<File> {
-        let name = Name::of(path)?;
-        // SAFETY: the name ends with a zero octet.
-        let file = count(unsafe { pkcs1_os_open(name.as_ptr(), how as c_int, mode) })?;
-        c_int::try_from(file).map(File).map_err(|_| ErrorKind::Other.into())
-    }
-
-    pub fn read(&self, room: &mut [u8]) -> Result<usize> {
+impl io::Read for File {
+    fn read(&mut self, room: &mut [u8]) -> Result<usize> {
         read(self.0, room)
     }
+}
 
-    pub fn write(&self, octets: &[u8]) -> Result<usize> {
+impl io::Write for File {
+    fn write(&mut self, octets: &[u8]) -> Result<usize> {
         write(self.0, octets)
     }
 
-    /// Waits until the disk has what it holds.
-    pub fn sync(&self) -> Result<()> {
-        done(pkcs1_os_sync(self.0))
+    fn flush(&mut self) -> Result<()> {
+        Ok(())
     }
+}
 
-    pub fn set_mode(&self, mode: u32) -> Result<()> {
-        done(pkcs1_os_set_mode(self.0, mode))
+/// Opens it. The mode is that of a file that is created.
+pub fn open(path: Path<'_>, how: How, mode: u32) -> Result<File> {
+    if let How::Empty = how {
+        return Err(ErrorKind::Other.into());
     }
+    let name = Name::of(path)?;
+    // SAFETY: the name ends with a zero octet.
+    let file = count(unsafe { pkcs1_os_open(name.as_ptr(), how as c_int, mode) })?;
+    c_int::try_from(file).map(File).map_err(|_| ErrorKind::Other.into())
+}
 
-    /// Its kind, and what is known of it.
-    pub fn look(&self) -> Result<(Kind, Found)> {
-        let mut found = Found::default();
-        // SAFETY: what is found may be written.
-        let kind = count(unsafe { pkcs1_os_look_at(self.0, &mut found) })?;
-        Ok((Kind::of(kind), found))
-    }
+/// Waits until the disk has what it holds.
+pub fn sync(file: &File) -> Result<()> {
+    done(pkcs1_os_sync(file.0))
+}
+
+pub fn set_mode(file: &File, mode: u32) -> Result<()> {
+    done(pkcs1_os_set_mode(file.0, mode))
 }
 
 /// Reads from the file of this number into the front of the room: how many octets, 0 at the end.
@@ -163,58 +154,46 @@ pub fn write(file: c_int, octets: &[u8]) -> Result<usize> {
     count(unsafe { pkcs1_os_write(file, octets.as_ptr(), octets.len()) })
 }
 
-/// What stands at a path.
-#[derive(Clone, Copy, PartialEq, Eq)]
-pub enum Kind {
-    Regular,
-    Link,
-    Other,
-}
-
-impl Kind {
-    fn of(number: usize) -> Kind {
-        match number {
-            0 => Kind::Regular,
-            1 => Kind::Link,
-            _ => Kind::Other,
-        }
+/// The kind of this number.
+fn kind(number: usize) -> Kind {
+    match number {
+        0 => Kind::Regular,
+        1 => Kind::Link,
+        _ => Kind::Other,
     }
 }
 
-/// What is known of a file. `ffi/c/os.c` has the same struct.
-#[derive(Clone, Copy, Default)]
-#[repr(C)]
-pub struct Found {
-    pub device: u64,
-    pub number: u64,
-    pub len: u64,
-    pub mode: u32,
-    pub group: u32,
+/// The kind of a file, and what is known of it.
+pub fn look_at(file: &File) -> Result<(Kind, Found)> {
+    let mut found = Found::default();
+    // SAFETY: what is found may be written.
+    let number = count(unsafe { pkcs1_os_look_at(file.0, &mut found) })?;
+    Ok((kind(number), found))
 }
 
-/// The kind of what stands at the path, or of what a link there names, and what is known of it.
-pub fn look(path: &[u8], through_link: bool) -> Result<(Kind, Found)> {
+/// Of what stands at the path, or of what a link there names.
+pub fn look(path: Path<'_>, through_link: bool) -> Result<(Kind, Found)> {
     let (name, mut found) = (Name::of(path)?, Found::default());
     // SAFETY: the name ends with a zero octet, and what is found may be written.
-    let kind = count(unsafe { pkcs1_os_look(name.as_ptr(), through_link.into(), &mut found) })?;
-    Ok((Kind::of(kind), found))
+    let number = count(unsafe { pkcs1_os_look(name.as_ptr(), through_link.into(), &mut found) })?;
+    Ok((kind(number), found))
 }
 
 /// The path of the same file that goes through no link.
-pub fn real_path(path: &[u8]) -> Result<Name> {
+pub fn real_path(alloc: Global, path: Path<'_>) -> Result<PathBuf> {
     let (name, mut real) = (Name::of(path)?, Name([0; LONGEST]));
     // SAFETY: the name ends with a zero octet, and the room has the octets of the longest path.
     done(unsafe { pkcs1_os_real_path(name.as_ptr(), real.0.as_mut_ptr().cast()) })?;
-    Ok(real)
+    Ok(Path(real.octets()?).to_path_buf(alloc)?)
 }
 
-pub fn rename(from: &[u8], to: &[u8]) -> Result<()> {
+pub fn rename(from: Path<'_>, to: Path<'_>) -> Result<()> {
     let (from, to) = (Name::of(from)?, Name::of(to)?);
     // SAFETY: both names end with a zero octet.
     done(unsafe { pkcs1_os_rename(from.as_ptr(), to.as_ptr()) })
 }
 
-pub fn remove(path: &[u8]) -> Result<()> {
+pub fn remove(path: Path<'_>) -> Result<()> {
     let name = Name::of(path)?;
     // SAFETY: the name ends with a zero octet.
     done(unsafe { pkcs1_os_remove(name.as_ptr()) })

@@ -1,123 +1,125 @@
-//! Files, as the programs use them, over Rust's std. The tool that is built without it has a file of its own.
+//! Files, as the program uses them, over what `system` has of them: that of cargo's tool asks Rust's std, and that of the
+//! tool without it the C library. `crates/pkcs1_tool/beside.sh` compares what both do.
 
-use super::alloc::{AllocError, Global};
-use super::io;
+use super::alloc::Global;
+use super::path::{Path, PathBuf};
+use super::{io, system};
 
-/// Paths of files.
-pub mod path {
-    use super::{AllocError, Global};
+/// How a file is opened. `ffi/lib/os.c` has the same numbers, but for the last.
+#[derive(Clone, Copy)]
+pub enum How {
+    /// For reading.
+    Read = 0,
+    /// For writing.
+    Write = 1,
+    /// For writing, and creates it if nothing is there.
+    Create = 2,
+    /// For writing, if nothing is there.
+    CreateNew = 3,
+    /// For writing, and empties what is there. Tests do so, and the tool never does.
+    Empty = 4,
+}
 
-    /// The path of a file.
-    #[derive(Clone, Copy, Debug)]
-    pub struct Path<'p>(pub &'p std::path::Path);
+/// What stands at a path.
+#[derive(Clone, Copy, PartialEq, Eq)]
+pub enum Kind {
+    Regular,
+    Link,
+    Other,
+}
 
-    impl<'p> Path<'p> {
-        pub fn new(path: &'p str) -> Path<'p> {
-            Path(std::path::Path::new(path))
-        }
-
-        pub fn as_str(&self) -> &'p str {
-            self.0.to_str().unwrap_or_default()
-        }
-
-        pub fn to_path_buf(&self, _alloc: Global) -> Result<PathBuf, AllocError> {
-            Ok(PathBuf(self.0.into()))
-        }
-
-        pub fn parent(&self) -> Option<Path<'p>> {
-            self.0.parent().map(Path)
-        }
-
-        pub fn with_file_name(&self, _alloc: Global, name: &str) -> Result<PathBuf, AllocError> {
-            Ok(PathBuf(self.0.with_file_name(name)))
-        }
-    }
-
-    /// A path on the heap.
-    #[derive(Clone, Debug)]
-    pub struct PathBuf(pub std::path::PathBuf);
-
-    impl PathBuf {
-        pub fn as_path(&self) -> Path<'_> {
-            Path(&self.0)
-        }
-    }
+/// What is known of a file. `ffi/lib/os.c` has the same struct.
+#[derive(Clone, Copy, Default)]
+#[repr(C)]
+pub struct Found {
+    pub device: u64,
+    pub number: u64,
+    pub len: u64,
+    pub mode: u32,
+    pub group: u32,
 }
 
 /// Handles of the runtime.
 pub mod rt {
     use super::fs::OpenFile;
-    use super::path::{Path, PathBuf};
-    use super::{Global, io};
+    use super::{Global, How, Path, PathBuf, io, system};
 
     /// Opens files.
     pub trait Files {
         type File: io::Read + io::Write + OpenFile;
 
-        fn open_file(&self, how: &std::fs::OpenOptions, path: Path<'_>) -> io::Result<Self::File>;
+        /// Opens a file. The mode is that of a file that is created.
+        fn open_file(&self, how: How, mode: u32, path: Path<'_>) -> io::Result<Self::File>;
 
         /// The path of the file that goes through no link.
         fn canonicalize(&self, alloc: Global, path: &str) -> io::Result<PathBuf>;
     }
 
     impl Files for super::super::HostRuntime {
-        type File = std::fs::File;
+        type File = system::File;
 
-        fn open_file(&self, how: &std::fs::OpenOptions, path: Path<'_>) -> io::Result<std::fs::File> {
-            how.open(path.0)
+        fn open_file(&self, how: How, mode: u32, path: Path<'_>) -> io::Result<system::File> {
+            system::open(path, how, mode)
         }
 
-        fn canonicalize(&self, _alloc: Global, path: &str) -> io::Result<PathBuf> {
-            std::fs::canonicalize(path).map(PathBuf)
+        fn canonicalize(&self, alloc: Global, path: &str) -> io::Result<PathBuf> {
+            system::real_path(alloc, Path::new(path))
         }
     }
 }
 
 /// Files.
 pub mod fs {
-    use super::io;
-    use super::path::Path;
     use super::rt::Files;
-    pub use std::fs::Metadata;
+    use super::{Found, How, Kind, Path, io, system};
 
     /// Opens and creates files by a handle.
     pub struct File;
 
     impl File {
         pub fn open<Rt: Files>(rt: &Rt, path: Path<'_>) -> io::Result<Rt::File> {
-            rt.open_file(std::fs::OpenOptions::new().read(true), path)
+            rt.open_file(How::Read, 0, path)
         }
 
         pub fn create<Rt: Files>(rt: &Rt, path: Path<'_>) -> io::Result<Rt::File> {
-            rt.open_file(std::fs::OpenOptions::new().write(true).create(true).truncate(true), path)
+            rt.open_file(How::Empty, 0o666, path)
         }
     }
 
     /// How a file is opened.
-    pub struct OpenOptions(pub(super) std::fs::OpenOptions);
+    pub struct OpenOptions {
+        how: How,
+        pub(super) mode: u32,
+    }
 
     impl OpenOptions {
         pub fn new() -> OpenOptions {
-            OpenOptions(std::fs::OpenOptions::new())
+            OpenOptions { how: How::Read, mode: 0o666 }
+        }
+
+        fn asks(&mut self, how: How, is_asked: bool) -> &mut OpenOptions {
+            if is_asked {
+                self.how = how;
+            }
+            self
         }
 
         pub fn write(&mut self, write: bool) -> &mut OpenOptions {
-            self.0.write(write);
-            self
+            self.asks(How::Write, write)
         }
 
+        /// Behind `write`.
         pub fn create(&mut self, create: bool) -> &mut OpenOptions {
-            self.0.create(create);
-            self
+            self.asks(How::Create, create)
         }
 
+        /// Behind `write`.
         pub fn create_new(&mut self, create_new: bool) -> &mut OpenOptions {
-            self.0.create_new(create_new);
-            self
+            self.asks(How::CreateNew, create_new)
         }
 
         pub fn open<Rt: Files>(&self, rt: &Rt, path: Path<'_>) -> io::Result<Rt::File> {
-            rt.open_file(&self.0, path)
+            rt.open_file(self.how, self.mode, path)
         }
     }
 
@@ -133,75 +135,90 @@ pub mod fs {
         fn set_permissions(&self, permissions: Permissions) -> io::Result<()>;
     }
 
-    impl OpenFile for std::fs::File {
+    impl OpenFile for system::File {
         fn metadata(&self) -> io::Result<Metadata> {
-            self.metadata()
+            system::look_at(self).map(Metadata)
         }
 
         fn sync_all(&self) -> io::Result<()> {
-            self.sync_all()
+            system::sync(self)
         }
 
-        #[cfg(unix)]
         fn set_permissions(&self, permissions: Permissions) -> io::Result<()> {
-            self.set_permissions(std::os::unix::fs::PermissionsExt::from_mode(permissions.0))
-        }
-
-        #[cfg(not(unix))]
-        fn set_permissions(&self, _permissions: Permissions) -> io::Result<()> {
-            Ok(())
+            system::set_mode(self, permissions.0)
         }
     }
 
+    /// What is known of a file.
+    pub struct Metadata(pub(super) (Kind, Found));
+
+    impl Metadata {
+        pub fn is_file(&self) -> bool {
+            self.0.0 == Kind::Regular
+        }
+
+        pub fn is_symlink(&self) -> bool {
+            self.0.0 == Kind::Link
+        }
+
+        pub fn len(&self) -> u64 {
+            self.0.1.len
+        }
+    }
+
+    /// Of the file that a link names, if one stands there.
     pub fn metadata<Rt>(_rt: &Rt, path: Path<'_>) -> io::Result<Metadata> {
-        std::fs::metadata(path.0)
+        system::look(path, true).map(Metadata)
     }
 
+    /// Of a link itself, if one stands there.
     pub fn symlink_metadata<Rt>(_rt: &Rt, path: Path<'_>) -> io::Result<Metadata> {
-        std::fs::symlink_metadata(path.0)
+        system::look(path, false).map(Metadata)
     }
 
     pub fn rename<Rt>(_rt: &Rt, from: Path<'_>, to: Path<'_>) -> io::Result<()> {
-        std::fs::rename(from.0, to.0)
+        system::rename(from, to)
     }
 
     pub fn remove_file<Rt>(_rt: &Rt, path: Path<'_>) -> io::Result<()> {
-        std::fs::remove_file(path.0)
+        system::remove(path)
     }
 }
 
-/// What Unix knows of files. On other systems each has a mode that lets all read and write, and none is set, and all have
-/// the same numbers.
+/// What Unix knows of files.
 pub mod os {
     pub mod unix {
         pub mod fs {
             use super::super::super::fs::{Metadata, OpenOptions, Permissions};
 
             /// The numbers of a file that is there.
-            #[cfg(unix)]
-            pub use std::os::unix::fs::MetadataExt;
-
-            #[cfg(not(unix))]
             pub trait MetadataExt {
+                fn dev(&self) -> u64;
+
+                fn ino(&self) -> u64;
+
+                fn mode(&self) -> u32;
+
+                fn gid(&self) -> u32;
+            }
+
+            impl MetadataExt for Metadata {
                 fn dev(&self) -> u64 {
-                    0
+                    self.0.1.device
                 }
 
                 fn ino(&self) -> u64 {
-                    0
+                    self.0.1.number
                 }
 
                 fn mode(&self) -> u32 {
-                    0o666
+                    self.0.1.mode
                 }
 
                 fn gid(&self) -> u32 {
-                    0
+                    self.0.1.group
                 }
             }
-
-            #[cfg(not(unix))]
-            impl MetadataExt for Metadata {}
 
             /// Rights of a mode.
             pub trait PermissionsExt {
@@ -220,9 +237,8 @@ pub mod os {
             }
 
             impl OpenOptionsExt for OpenOptions {
-                fn mode(&mut self, _mode: u32) -> &mut OpenOptions {
-                    #[cfg(unix)]
-                    std::os::unix::fs::OpenOptionsExt::mode(&mut self.0, _mode);
+                fn mode(&mut self, mode: u32) -> &mut OpenOptions {
+                    self.mode = mode;
                     self
                 }
             }

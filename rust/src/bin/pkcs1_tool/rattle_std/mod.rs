@@ -4,10 +4,12 @@ mod files;
 pub mod hex;
 #[path = "../../../rattle_std/mod.rs"]
 mod library;
+pub mod path;
+mod system;
 mod text;
 mod vec;
 
-pub use files::{fs, os, path, rt};
+pub use files::{fs, os, rt};
 pub use library::{NO_OCTETS, alloc, arrayvec, cmp, fmt, hash, marker, result};
 pub use std::io;
 
