@@ -9,9 +9,9 @@ import random
 import sys
 
 sys.dont_write_bytecode = True
-import damaged_octets  # the order of these two is that of the damages
 import damaged_fields
-from damage import DAMAGES, NoSuchPart
+import damaged_octets
+from damage import NoSuchPart
 from trees import TYPES, make
 from keys import make_key
 
@@ -35,8 +35,8 @@ def write_corpus(out, rng, each):
     keys += [make_key(2048, 2, rng), make_key(1024, 2, rng, 3), make_key(1024, 2, rng, 17)]
     multi_prime_keys = [make_key(1024, 3, rng) for _ in range(25)] + [make_key(1536, 4, rng) for _ in range(8)]
     with open(out + ".new", "wb") as corpus, open(out + ".names", "w", encoding="utf-8") as names:
-        for which, damage in enumerate(DAMAGES):
-            print(which, damage.name, damage.group, damage.rule, damage.is_der, sep="\t", file=names)
+        for which, damage in enumerate(damaged_octets.DAMAGES + damaged_fields.DAMAGES):
+            print(which, damage.name, damage.group or damage.name, damage.rule, damage.is_der, sep="\t", file=names)
             for kind in damage.kinds:
                 made = 0
                 while made < each:

@@ -13,27 +13,16 @@ WITH_IDENTIFIERS = (*PARAMETERS, PKCS8)
 
 class Damage(NamedTuple):
     name: str
-    group: str  # damages of one group share a line of the short table
     rule: str  # what says that this is no encoding, or who doesn't read it
-    kinds: tuple  # the types whose encodings it damages
-    is_der: bool  # what it makes is DER of the type still
-    is_full: bool  # parameters have all fields
     make: Callable  # (tree, rng, kind): damages the tree, or returns octets
+    kinds: tuple = TYPES  # the types whose encodings it damages
+    group: str = ""  # damages of one group share a line of the table; else it has a line of its own
+    is_der: bool = False  # what it makes is DER of the type still
+    is_full: bool = False  # parameters have all fields
 
 
 class NoSuchPart(Exception):
     """This encoding has no part that the damage could change."""
-
-
-DAMAGES = []
-
-
-def damage(name, rule, kinds=TYPES, group=None, is_der=False, is_full=False):
-    def take(make):
-        DAMAGES.append(Damage(name, group or name, rule, kinds, is_der, is_full, make))
-        return make
-
-    return take
 
 
 def walk(node):
@@ -59,6 +48,25 @@ def parameters_of(tree):
     return next((node for node in walk(tree) if node.role == "parameters"), tree)
 
 
+# Which node is damaged: a function of the tree and of chance.
+def some(is_wanted):
+    return lambda tree, rng: pick(rng, tree, is_wanted)
+
+
+def part(*numbers):
+    """The part with these numbers, from the outermost on."""
+    return lambda tree, _: part(*numbers[1:])(tree.body[numbers[0]], _) if numbers else tree
+
+
+def change(what, find, make):
+    """The damage by which the body, the tag or the form of the length of a node is what is made of chance and it."""
+    def damage(tree, rng, _):
+        node = find(tree, rng)
+        setattr(node, what, make(rng, node))
+
+    return damage
+
+
 def is_any(_):
     return True
 
@@ -77,6 +85,10 @@ def is_hash(node):
 
 def is_mask(node):
     return node.role == "mask"
+
+
+def is_field(node):
+    return node.role.startswith("field")
 
 
 def has_type(node):
