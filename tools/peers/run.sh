@@ -86,14 +86,16 @@ inputs() {
     is_made cases/tiny.public_key || "$python" "$here/inputs/cases.py" cases
 }
 
-# The damaged encodings, by what is of this repository, which has to accept and write what libpkcs1 does.
+# The damaged encodings, by what is of this repository, which has to accept and write what libpkcs1 does. Views aren't
+# written.
 check_own() {
     local it
     for it in "${own[@]}" 'libpkcs1 strict'; do
         ./peers check corpus "$(file answers "$it")" "$it"
     done
+    tr 234 1 < "$(file answers libpkcs1)" > read_only
     for it in "${own[@]:1}"; do
-        "$python" "$here/tables/alike.py" "$(file answers libpkcs1)" "$(file answers "$it")" ||
+        cmp -s "$(file answers "$it")" "$(file answers libpkcs1)" || cmp -s "$(file answers "$it")" read_only ||
             stop "$it isn't as strict as libpkcs1, or writes something else"
     done
 }

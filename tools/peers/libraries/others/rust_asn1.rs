@@ -123,21 +123,15 @@ fn put_algorithm<T: Asn1Writable>(oid: ObjectIdentifier, value: &T, to: &mut [u8
     put(&InAlgorithm { oid, parameters: parse_single(&parameters).ok()? }, to)
 }
 
-/// Nothing tells a length or reads more strictly.
-macro_rules! of {
-    ($name:ident, $value:ty, $read:expr, $write:expr) => {
-        reads_and_writes!($name, $value, $read, $read, $write, |_: &_| 0);
-    };
-}
-of!(PublicKey, RsaPublicKey<'a>, |b| parse_single(b).ok(), put);
-of!(PrivateKey, RsaPrivateKey<'a>, read_private_key, put);
-of!(Pss, PssParams<'a>, read_pss, put);
-of!(PssAlgorithm, PssParams<'a>, |b| read_pss(parameters(b, PSS)?), |it: &_, to| put_algorithm(PSS, it, to));
-of!(Oaep, OaepParams<'a>, |b| parse_single(b).ok(), put);
-of!(OaepAlgorithm, OaepParams<'a>, |b| parse_single(parameters(b, OAEP)?).ok(), |it: &_, to| put_algorithm(
+reads_and_writes!(PublicKey, RsaPublicKey<'a>, |b| parse_single(b).ok(), put);
+reads_and_writes!(PrivateKey, RsaPrivateKey<'a>, read_private_key, put);
+reads_and_writes!(Pss, PssParams<'a>, read_pss, put);
+reads_and_writes!(PssAlgorithm, PssParams<'a>, |b| read_pss(parameters(b, PSS)?), |it: &_, to| put_algorithm(PSS, it, to));
+reads_and_writes!(Oaep, OaepParams<'a>, |b| parse_single(b).ok(), put);
+reads_and_writes!(OaepAlgorithm, OaepParams<'a>, |b| parse_single(parameters(b, OAEP)?).ok(), |it: &_, to| put_algorithm(
     OAEP, it, to
 ));
-of!(Container, (PrivateKeyInfo<'a>, RsaPrivateKey<'a>), read_container, |it: &(PrivateKeyInfo<'_>, _), to| put(
+reads_and_writes!(Container, (PrivateKeyInfo<'a>, RsaPrivateKey<'a>), read_container, |it: &(PrivateKeyInfo<'_>, _), to| put(
     &it.0, to
 ));
 

@@ -11,9 +11,6 @@ const OAEP: ObjectIdentifier = ObjectIdentifier::new_unwrap("1.2.840.113549.1.1.
 fn put<T: Encode>(value: &T, to: &mut [u8]) -> Option<usize> {
     value.encode_to_slice(to).ok().map(|it| it.len())
 }
-fn size<T: Encode>(value: &T) -> usize {
-    value.encoded_len().map_or(0, |it| u32::from(it) as usize)
-}
 fn parameters(der: &[u8], oid: ObjectIdentifier) -> Option<AnyRef<'_>> {
     let whole = AlgorithmIdentifierRef::from_der(der).ok()?;
     whole.parameters.filter(|_| whole.oid == oid)
@@ -30,19 +27,14 @@ fn read_container(der: &[u8]) -> Option<(PrivateKeyInfo<'_>, RsaPrivateKey<'_>)>
 
 macro_rules! whole {
     ($name:ident, $value:ident) => {
-        reads_and_writes!($name, $value<'a>, |b| $value::try_from(b).ok(), |b| $value::try_from(b).ok(), put, size);
+        reads_and_writes!($name, $value<'a>, |b| $value::try_from(b).ok(), put);
     };
 }
 macro_rules! in_algorithm {
     ($name:ident, $value:ident, $oid:ident) => {
-        reads_and_writes!(
-            $name,
-            $value<'a>,
-            |b| parameters(b, $oid)?.decode_as().ok(),
-            |b| parameters(b, $oid)?.decode_as().ok(),
-            |it: &_, to| put_algorithm($oid, it, to),
-            |_: &_| 0
-        );
+        reads_and_writes!($name, $value<'a>, |b| parameters(b, $oid)?.decode_as().ok(), |it: &_, to| put_algorithm(
+            $oid, it, to
+        ));
     };
 }
 whole!(PublicKey, RsaPublicKey);
@@ -55,9 +47,7 @@ reads_and_writes!(
     Container,
     (PrivateKeyInfo<'a>, RsaPrivateKey<'a>),
     read_container,
-    read_container,
-    |it: &(PrivateKeyInfo<'_>, _), to| put(&it.0, to),
-    |it: &(PrivateKeyInfo<'_>, _)| size(&it.0)
+    |it: &(PrivateKeyInfo<'_>, _), to| put(&it.0, to)
 );
 
 library!(

@@ -12,9 +12,16 @@ pub trait Type {
     fn length(value: &Self::Value<'_>) -> usize;
 }
 
-/// A type, by the functions of a library: what reads, what reads strictly, what writes, what tells the length.
+/// A type, by the functions of a library: what reads, what reads strictly if it is another, what writes, and what tells
+/// the length, if anything does.
 #[macro_export]
 macro_rules! reads_and_writes {
+    ($name:ident, $value:ty, $read:expr, $write:expr) => {
+        reads_and_writes!($name, $value, $read, $write, |_: &_| 0);
+    };
+    ($name:ident, $value:ty, $read:expr, $write:expr, $length:expr) => {
+        reads_and_writes!($name, $value, $read, $read, $write, $length);
+    };
     ($name:ident, $value:ty, $read:expr, $strict:expr, $write:expr, $length:expr) => {
         pub struct $name;
         impl Type for $name {

@@ -13,9 +13,6 @@ fn size<T: Encode>(value: &T) -> usize {
 fn unwritten<T>(_: &T, _: &mut [u8]) -> Option<usize> {
     None
 }
-fn unknown<T>(_: &T) -> usize {
-    0
-}
 
 /// A container, and the key in it.
 type Both<'a, Key> = (PrivateKeyInfoRef<'a>, Key);
@@ -24,19 +21,6 @@ fn both<'a, Key>(der: &'a [u8], key: impl Fn(PrivateKeyInfoRef<'a>) -> Result<Ke
     Some((info, key(info).ok()?))
 }
 
-/// A key, which has no stricter reading.
-macro_rules! key {
-    ($name:ident, $value:ident, $write:expr, $length:expr) => {
-        reads_and_writes!(
-            $name,
-            $value<'a>,
-            |b| $value::try_from(b).ok(),
-            |b| $value::try_from(b).ok(),
-            $write,
-            $length
-        );
-    };
-}
 /// Parameters, alone and in their algorithm identifier.
 macro_rules! params {
     ($alone:ident, $in_algorithm:ident, $value:ident) => {
@@ -54,29 +38,21 @@ macro_rules! params {
             |b| $value::from_algorithm_der(b).ok(),
             |b| $value::from_algorithm_der_strict(b).ok(),
             |it: &$value, to| it.encode_algorithm(to).ok().map(|made: &[u8]| made.len()),
-            unknown
+            |_: &_| 0
         );
     };
 }
-key!(PublicKey, RsaPublicKeyRef, put, size);
-key!(PrivateKey, RsaPrivateKeyRef, put, size);
-key!(PrivateKeyViewed, RsaPrivateKeyView, unwritten, unknown);
+reads_and_writes!(PublicKey, RsaPublicKeyRef<'a>, |b| RsaPublicKeyRef::try_from(b).ok(), put, size);
+reads_and_writes!(PrivateKey, RsaPrivateKeyRef<'a>, |b| RsaPrivateKeyRef::try_from(b).ok(), put, size);
+reads_and_writes!(PrivateKeyViewed, RsaPrivateKeyView<'a>, |b| RsaPrivateKeyView::try_from(b).ok(), unwritten);
 reads_and_writes!(
     Container,
     Both<'a, RsaPrivateKeyRef<'a>>,
     |b| both(b, RsaPrivateKeyRef::try_from),
-    |b| both(b, RsaPrivateKeyRef::try_from),
     |it: &Both<_>, to| put(&it.0, to),
     |it: &Both<_>| size(&it.0)
 );
-reads_and_writes!(
-    ContainerViewed,
-    Both<'a, RsaPrivateKeyView<'a>>,
-    |b| both(b, |it| it.rsa_view()),
-    |b| both(b, |it| it.rsa_view()),
-    unwritten,
-    unknown
-);
+reads_and_writes!(ContainerViewed, Both<'a, RsaPrivateKeyView<'a>>, |b| both(b, |it| it.rsa_view()), unwritten);
 params!(PssParams, PssAlgorithm, RsaPssParamsRef);
 params!(PssViewed, PssAlgorithmViewed, RsaPssParamsView);
 params!(OaepParams, OaepAlgorithm, RsaOaepParamsRef);

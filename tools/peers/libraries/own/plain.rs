@@ -5,9 +5,9 @@ use crate::writing::*;
 use std::ffi::c_void;
 use std::hint::black_box;
 
-reads_and_writes!(PublicKey, Pub<'a>, read_pub, read_pub, write_pub, len_pub);
-reads_and_writes!(PrivateKey, Priv<'a>, read_priv, read_priv, write_priv, len_priv);
-reads_and_writes!(Container, Info<'a>, read_info, read_info, write_info, len_info);
+reads_and_writes!(PublicKey, Pub<'a>, read_pub, write_pub, len_pub);
+reads_and_writes!(PrivateKey, Priv<'a>, read_priv, write_priv, len_priv);
+reads_and_writes!(Container, Info<'a>, read_info, write_info, len_info);
 reads_and_writes!(PssParams, Pss<'a>, read_pss::<false>, read_pss::<true>, write_pss, len_pss);
 reads_and_writes!(
     PssAlgorithm,
