@@ -59,7 +59,6 @@ declared() {
     needs python3
     ffi/tests/check_layout.py
     ffi/proof/check_contracts.py
-    ffi/proof/check_clauses.py
 }
 # rows CRATE: what the program writes for its stored input.
 rows() {
