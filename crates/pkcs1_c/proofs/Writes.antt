@@ -232,5 +232,5 @@ module _ {S V : Type 0} {valid : S → Type 0} {printed : S → List ℕ} {means
       → WritesOrCounts (Spells valid printed means) v old new r
   written_or_counted few old new (Ok n) made none kept =
       encode_into_encodes law v old new (Ok n) made (written_is_shortest law v ok few) tt tt kept
-  written_or_counted few old new (Err n) none no kept =
-      (no.2, no.1, printed (written v), written_is_shortest law v ok few, no.0)
+  written_or_counted few old new (Err n) none left kept =
+      (left.2, left.1, printed (written v), written_is_shortest law v ok few, left.0)
