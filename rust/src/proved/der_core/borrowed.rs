@@ -25,6 +25,11 @@ impl<'b, T: Encode> Encode for Borrowed<'b, T> {
         self.0.encoded_len()
     }
 
+    #[inline(always)]
+    fn quick_len(&self) -> u64 {
+        self.0.quick_len()
+    }
+
     fn encode<W: Writer>(&self, writer: &mut W) -> Result<()> {
         self.0.encode(writer)
     }

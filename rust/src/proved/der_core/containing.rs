@@ -45,6 +45,11 @@ impl<T: Encode> EncodeValue for Containing<T> {
         self.0.encoded_len()
     }
 
+    #[inline(always)]
+    fn quick_value_len(&self) -> u64 {
+        self.0.quick_len()
+    }
+
     fn append_value<W: Writer>(&self, writer: &mut W) -> Result<()> {
         self.0.encode(writer)
     }

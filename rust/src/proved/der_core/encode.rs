@@ -5,7 +5,7 @@ use crate::proved::der_core::back_writer::BackWriter;
 use crate::proved::der_core::error::{Error, ErrorKind, Result};
 use crate::proved::der_core::grammar::{Contents, Encoding, FixedTag};
 use crate::proved::der_core::header::Header;
-use crate::proved::der_core::length::Length;
+use crate::proved::der_core::length::{Length, UNTOLD, with_header};
 use crate::proved::der_core::writer::Writer;
 
 /// A type whose values are written as contents octets.
@@ -13,6 +13,12 @@ pub trait EncodeValue: Contents {
     /// The length of the contents that are written. `Value` exactly if the value has none, else `Overflow` exactly if
     /// they are longer than `Length::MAX`.
     fn value_len(&self) -> Result<Length>;
+
+    /// The length of the contents that are written, told quickly. More than `Length::MAX` says nothing of them.
+    #[inline(always)]
+    fn quick_value_len(&self) -> u64 {
+        UNTOLD
+    }
 
     /// Appends the contents. There have to be some, within `Length::MAX`. The only error is `NoRoom`, exactly if the
     /// writer has too little room, after a beginning of them.
@@ -35,6 +41,12 @@ pub trait EncodeValue: Contents {
 pub trait Encode: Encoding {
     /// The length of the shortest encoding; `Value` and `Overflow` exactly if they say so.
     fn encoded_len(&self) -> Result<Length>;
+
+    /// The length of the shortest encoding, told quickly. More than `Length::MAX` says nothing of it.
+    #[inline(always)]
+    fn quick_len(&self) -> u64 {
+        UNTOLD
+    }
 
     /// Appends the shortest encoding. `Value` and `Overflow` come before any octet is written, `NoRoom` after a
     /// beginning of them. A writer without a limit gives no `NoRoom`.
@@ -97,8 +109,17 @@ fn encode_tlv<T: EncodeValue + FixedTag, W: Writer>(value: &T, writer: &mut W) -
 }
 
 impl<T: EncodeValue + FixedTag> Encode for T {
+    #[inline(always)]
     fn encoded_len(&self) -> Result<Length> {
-        encoding_len(self)
+        match Length::told(self.quick_len()) {
+            Some(length) => Ok(length),
+            None => encoding_len(self),
+        }
+    }
+
+    #[inline(always)]
+    fn quick_len(&self) -> u64 {
+        with_header(self.quick_value_len())
     }
 
     fn encode<W: Writer>(&self, writer: &mut W) -> Result<()> {

@@ -56,6 +56,11 @@ impl<const N: u8> EncodeValue for Expected<N> {
         N.value_len()
     }
 
+    #[inline(always)]
+    fn quick_value_len(&self) -> u64 {
+        N.quick_value_len()
+    }
+
     fn append_value<W: Writer>(&self, writer: &mut W) -> Result<()> {
         N.append_value(writer)
     }

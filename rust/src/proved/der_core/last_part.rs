@@ -57,6 +57,14 @@ impl<T: Encode> EncodeValue for Last<T> {
     }
 
     #[inline(always)]
+    fn quick_value_len(&self) -> u64 {
+        match &self.0 {
+            Some(part) => part.quick_len(),
+            None => 0,
+        }
+    }
+
+    #[inline(always)]
     fn append_value<W: Writer>(&self, writer: &mut W) -> Result<()> {
         match &self.0 {
             Some(part) => part.encode(writer),
@@ -103,6 +111,11 @@ impl<T: EncodeValue + FixedTag> EncodeValue for LastByTag<T> {
     #[inline(always)]
     fn value_len(&self) -> Result<Length> {
         self.0.value_len()
+    }
+
+    #[inline(always)]
+    fn quick_value_len(&self) -> u64 {
+        self.0.quick_value_len()
     }
 
     #[inline(always)]

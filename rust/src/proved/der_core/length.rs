@@ -15,6 +15,27 @@ pub struct Length {
 
 impl Model for Length {}
 
+/// What a call returns that tells no length: more than `Length::MAX`.
+pub const UNTOLD: u64 = 4294967296;
+
+/// How many octets a tag, a length and contents of so many octets are. More than `Length::MAX` if the contents are.
+#[inline(always)]
+pub(crate) fn with_header(contents: u64) -> u64 {
+    if contents < 0x80 {
+        return contents + 2;
+    }
+    if contents < 0x100 {
+        return contents + 3;
+    }
+    if contents < 0x1_0000 {
+        return contents + 4;
+    }
+    if contents < 0x100_0000 {
+        return contents + 5;
+    }
+    contents.saturating_add(6)
+}
+
 /// The big-endian number in at most four octets.
 #[inline(always)]
 fn number(octets: &[u8]) -> u32 {
@@ -97,6 +118,18 @@ impl Length {
         }
     }
 
+    /// The length that was told quickly, or `None`.
+    #[inline(always)]
+    pub(crate) fn told(number: u64) -> Option<Length> {
+        if number < UNTOLD {
+            Some(Length {
+                value: number as u32,
+            })
+        } else {
+            None
+        }
+    }
+
     /// The number of octets, as slices count them. It is at most `MAX`.
     pub fn to_usize(self) -> usize {
         self.value as usize
@@ -112,23 +145,10 @@ impl Length {
 
     /// The length of an encoding whose contents have this length. `Overflow` exactly if it exceeds `MAX`.
     pub fn for_tlv(self, _tag: Tag) -> Result<Length> {
-        self.header_len().checked_add(self)
-    }
-
-    /// How many octets the tag and the length take.
-    fn header_len(self) -> Length {
-        let value = if self.value < 0x80 {
-            2
-        } else if self.value < 0x100 {
-            3
-        } else if self.value < 0x1_0000 {
-            4
-        } else if self.value < 0x100_0000 {
-            5
-        } else {
-            6
-        };
-        Length { value }
+        match Length::told(with_header(self.value as u64)) {
+            Some(total) => Ok(total),
+            None => Err(Error::new(ErrorKind::Overflow)),
+        }
     }
 
     /// The length octets (X.690 8.1.3), as few as possible, at most 5.

@@ -39,6 +39,7 @@ mod reader;
 mod record;
 mod sequence_of;
 mod slice_reader;
+mod slices;
 mod source_sink;
 mod std_io;
 mod tag;
@@ -73,7 +74,7 @@ pub use laws::{
     lemma_lengths_compare_by_number, lemma_optional_parts_are_read,
     lemma_tag_numbers_compare_by_number,
 };
-pub use length::Length;
+pub use length::{Length, UNTOLD};
 pub use memory::{Memory, NoMemory};
 pub use null::{Null, NullTag};
 pub use octet_string::{OctetStringRef, OctetStringTag};
@@ -84,6 +85,7 @@ pub use quick::{begins_with, quick_alone, quick_any, quick_contents, quick_short
 pub use reader::{BytesLeft, Octets, Reader};
 pub use record::{EncodeInParts, InParts, Record};
 pub use slice_reader::SliceReader;
+pub use slices::{read_contents, read_front};
 pub use source_sink::{Close, Sink, Source};
 pub use std_io::{FromRead, ToWrite};
 pub use tag::{Tag, TagNumber};

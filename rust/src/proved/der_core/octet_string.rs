@@ -86,6 +86,11 @@ impl EncodeValue for OctetStringRef<'_> {
         Ok(self.len())
     }
 
+    #[inline(always)]
+    fn quick_value_len(&self) -> u64 {
+        self.bytes.len() as u64
+    }
+
     fn append_value<W: Writer>(&self, writer: &mut W) -> Result<()> {
         writer.write(self.bytes)
     }

@@ -69,6 +69,11 @@ impl EncodeValue for () {
     }
 
     #[inline(always)]
+    fn quick_value_len(&self) -> u64 {
+        0
+    }
+
+    #[inline(always)]
     fn append_value<W: Writer>(&self, _writer: &mut W) -> Result<()> {
         Ok(())
     }
@@ -82,6 +87,12 @@ impl<A: Encode, B: EncodeValue> EncodeValue for (A, B) {
     fn value_len(&self) -> Result<Length> {
         let rest = self.1.value_len(); // counted first, so that one sum is kept and not each part's length
         joined_len(self.0.encoded_len(), rest)
+    }
+
+    #[inline(always)]
+    fn quick_value_len(&self) -> u64 {
+        let rest = self.1.quick_value_len(); // first, as in `value_len`
+        rest.saturating_add(self.0.quick_len())
     }
 
     #[inline(always)]

@@ -7,7 +7,7 @@ use crate::proved::der_core::encode::EncodeValue;
 use crate::proved::der_core::error::Result;
 use crate::proved::der_core::grammar::Contents;
 use crate::proved::der_core::header::Header;
-use crate::proved::der_core::length::Length;
+use crate::proved::der_core::length::{Length, UNTOLD};
 use crate::proved::der_core::memory::Memory;
 use crate::proved::der_core::parts::DecodeParts;
 use crate::proved::der_core::quick::quick_contents;
@@ -54,6 +54,12 @@ pub trait EncodeInParts: InParts {
     /// they are longer than `Length::MAX`.
     fn parts_len(&self) -> Result<Length>;
 
+    /// The length of the parts that are written, told quickly. More than `Length::MAX` says nothing of them.
+    #[inline(always)]
+    fn quick_parts_len(&self) -> u64 {
+        UNTOLD
+    }
+
     /// Appends the parts. There have to be some, within `Length::MAX`. The only error is `NoRoom`, exactly if the
     /// writer has too little room, after a beginning of them.
     fn append_parts<W: Writer>(&self, writer: &mut W) -> Result<()>;
@@ -66,6 +72,11 @@ impl<T: EncodeInParts> EncodeValue for T {
     #[inline(always)]
     fn value_len(&self) -> Result<Length> {
         self.parts_len()
+    }
+
+    #[inline(always)]
+    fn quick_value_len(&self) -> u64 {
+        self.quick_parts_len()
     }
 
     #[inline(always)]

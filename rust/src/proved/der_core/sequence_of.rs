@@ -8,7 +8,7 @@ use crate::proved::der_core::encode::{Encode, EncodeValue, joined_len};
 use crate::proved::der_core::error::{ErrorKind, Result};
 use crate::proved::der_core::grammar::{Contents, Encoding, SequenceTag, TaggedBy};
 use crate::proved::der_core::header::Header;
-use crate::proved::der_core::length::Length;
+use crate::proved::der_core::length::{Length, UNTOLD};
 use crate::proved::der_core::quick::quick_contents;
 use crate::proved::der_core::reader::Reader;
 use crate::proved::der_core::tag::Tag;
@@ -63,6 +63,15 @@ pub(crate) fn items_len<T: Encode>(items: &[T]) -> Result<Length> {
     total
 }
 
+/// The total length of the encodings of the items, told quickly. More than `Length::MAX` says nothing of them.
+pub(crate) fn quick_items_len<T: Encode>(items: &[T]) -> u64 {
+    let mut total: u64 = 0;
+    for item in items {
+        total = total.saturating_add(item.quick_len());
+    }
+    total.min(UNTOLD)
+}
+
 /// Appends the encodings of the items.
 pub(crate) fn encode_items<T: Encode, W: Writer>(items: &[T], writer: &mut W) -> Result<()> {
     for item in items {
@@ -83,6 +92,10 @@ pub(crate) fn prepend_items<T: Encode>(items: &[T], writer: &mut BackWriter<'_>)
 impl<T: Encode> EncodeValue for Vec<T> {
     fn value_len(&self) -> Result<Length> {
         items_len(self.as_slice())
+    }
+
+    fn quick_value_len(&self) -> u64 {
+        quick_items_len(self.as_slice())
     }
 
     fn append_value<W: Writer>(&self, writer: &mut W) -> Result<()> {

@@ -24,6 +24,11 @@ impl<'a> SliceReader<'a> {
             failed: false,
         })
     }
+
+    /// The bytes that are left, or none if the reader has failed.
+    pub fn rest(&self) -> &'a [u8] {
+        if self.failed { crate::rattle_std::NO_OCTETS } else { self.bytes }
+    }
 }
 
 impl<'a> Reader<&'a [u8]> for SliceReader<'a> {

@@ -74,6 +74,11 @@ impl<M: TagMarker, C: EncodeValue> EncodeValue for Tagged<M, C> {
         self.contents.value_len()
     }
 
+    #[inline(always)]
+    fn quick_value_len(&self) -> u64 {
+        self.contents.quick_value_len()
+    }
+
     fn append_value<W: Writer>(&self, writer: &mut W) -> Result<()> {
         self.contents.append_value(writer)
     }

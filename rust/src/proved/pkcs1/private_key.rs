@@ -10,8 +10,8 @@ use crate::proved::pkcs1::public_key::{RsaPublicKey, RsaPublicKeyRef};
 use crate::proved::pkcs1::version::Version;
 use crate::proved::der_core::{
     BackWriter, Contents, Decode, DecodeFront, DecodeValue, Encode, EncodeValue, Encoding,
-    ErrorKind, Header, Length, Reader, Result, SequenceTag, Tag, TaggedBy, Uint, UintEncoding,
-    UintRef, Writer, quick_contents,
+    ErrorKind, Header, Length, Reader, Result, SequenceTag, Tag, TaggedBy, UNTOLD, Uint,
+    UintEncoding, UintRef, Writer, quick_contents,
 };
 use other_prime_info::{OtherPrimeInfos, lists_none, quick_other_primes, read_other_primes};
 use crate::rattle_std::alloc::{AllocError, Global};
@@ -135,6 +135,16 @@ impl<U: Encode> EncodeValue for RsaPrivateKey<U> {
             return Err(crate::proved::der_core::Error::new(ErrorKind::Value { tag: Tag::SEQUENCE }));
         }
         self.row_len()
+    }
+
+    #[inline(always)]
+    fn quick_value_len(&self) -> u64 {
+        let none_listed = lists_none(&self.other_prime_infos);
+        if none_listed {
+            UNTOLD
+        } else {
+            self.quick_row_len()
+        }
     }
 
     fn append_value<W: Writer>(&self, writer: &mut W) -> Result<()> {

@@ -5,7 +5,7 @@
 use crate::proved::der_core::{
     AsUintRef, BackWriter, Borrowed, Decode, Encode, EncodeInParts, EncodeValue, Encoding,
     EqualByValue, Length, NoMemory, Record, SequenceTag, TaggedBy, TryClone, Uint, UintEncoding,
-    UintRef, Writer,
+    UintRef, Writer, write_only,
 };
 use crate::proved::pkcs1_params::{Error, Result};
 use crate::rattle_std::alloc::Global;
@@ -55,6 +55,15 @@ impl<U: Encode> EncodeInParts for RsaPublicKey<U> {
             (Borrowed(&self.public_exponent), ()),
         )
             .value_len()
+    }
+
+    #[inline(always)]
+    fn quick_parts_len(&self) -> u64 {
+        (
+            Borrowed(&self.modulus),
+            (Borrowed(&self.public_exponent), ()),
+        )
+            .quick_value_len()
     }
 
     fn append_parts<W: Writer>(&self, writer: &mut W) -> crate::proved::der_core::Result<()> {
@@ -117,6 +126,6 @@ impl<U: UintEncoding> RsaPublicKey<U> {
     /// The bytes behind it stay as they were. After an error all of the slice does. It is `Overflow` exactly if the
     /// encoding is longer than `Length::MAX`, else `NoRoom` exactly if it is longer than the slice.
     pub fn encode_key(&self, out: &mut [u8]) -> Result<usize> {
-        Ok(self.as_key_ref().encode_into(out)?)
+        Ok(write_only(&self.as_key_ref(), out)?)
     }
 }

@@ -2,8 +2,8 @@
 //! The attributes of containers, as opaque bytes.
 
 use crate::proved::pkcs1::der::{
-    BackWriter, Contents, DecodeValue, EncodeValue, Header, Length, Memory, Reader, Result, Tag,
-    TagMarker, TaggedBy, Writer, quick_contents,
+    BackWriter, Contents, DecodeValue, EncodeValue, Header, Length, Memory, OneContents, Reader,
+    Result, Tag, TagMarker, TaggedBy, Writer, quick_contents,
 };
 
 /// The tag of attributes.
@@ -32,6 +32,8 @@ impl Contents for Attributes<'_> {}
 impl TaggedBy for Attributes<'_> {
     type Marker = AttributesTag;
 }
+
+impl OneContents for Attributes<'_> {}
 
 impl<'a, M: Memory> DecodeValue<&'a [u8], M> for Attributes<'a> {
     fn decode_value<R: Reader<&'a [u8]>>(

@@ -5,7 +5,7 @@ use crate::proved::pkcs8_core::attributes::Attributes;
 use crate::proved::pkcs1::der::{
     BackWriter, Borrowed, Contents, Decode, Encode, EncodeInParts, EncodeValue, Error, Expected,
     InParts, Last, LastByTag, Length, Memory, OctetStringRef, Result, SequenceTag, TaggedBy,
-    Writer, read_borrowed,
+    Writer, read_borrowed, write_only,
 };
 use crate::proved::pkcs1::spki::{
     AlgorithmIdentifierOf, AnyRef, IdentifierValue, IdentifierView, ObjectIdentifier,
@@ -128,7 +128,7 @@ impl<'a, O: ReadIdentifier<'a>> PrivateKeyInfoOf<'a, O> {
     /// never `Value`.
     pub fn encode_info(&self, out: &mut [u8]) -> Result<usize> {
         self.lemma_has_encoding();
-        self.encode_into(out)
+        write_only(self, out)
     }
 }
 

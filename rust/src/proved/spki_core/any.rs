@@ -5,6 +5,7 @@ use crate::proved::spki_core::wide_tag::WideTag;
 use crate::proved::der_core::{
     BackWriter, Decode, DecodeValue, Encode, Encoding, EqualByValue, Error, ErrorKind, FixedTag,
     Header, Length, Memory, Reader, Result, SliceReader, Tag, TryClone, Writer, quick_any,
+    read_contents,
 };
 use crate::rattle_std::alloc::Global;
 use crate::rattle_std::fmt;
@@ -59,11 +60,7 @@ impl<'a> AnyRef<'a> {
                 actual: self.tag(),
             }));
         }
-        if let Some(value) = T::quick_value(memory, self.contents) {
-            return Ok(value);
-        }
-        let mut reader = SliceReader::new(self.contents)?;
-        T::decode_value(memory, &mut reader, self.header())
+        read_contents(memory, self.contents)
     }
 
     /// Whether it is this tag without contents octets.

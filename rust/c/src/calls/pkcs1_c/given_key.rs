@@ -2,13 +2,10 @@
 //! Private keys that the caller passes.
 
 use crate::calls::pkcs1_c::given_number::Number;
-use crate::calls::pkcs1_c::given_primes::{GivenPrimes, octets_with_tag};
-use crate::calls::pkcs1_c::numbers::number;
+use crate::calls::pkcs1_c::given_primes::GivenPrimes;
+use crate::calls::pkcs1_c::numbers::{number, quick_number};
 use crate::calls::pkcs1_c::private_key::{OtherPrime, PrivateKey};
-use crate::proved::der_core::{
-    BackWriter, Contents, Encode, EncodeValue, Length, Result, SequenceTag, TaggedBy, Writer,
-    joined_len,
-};
+use crate::proved::der_core::{BackWriter, Contents, EncodeValue, Length, Result, SequenceTag, TaggedBy, Writer};
 use crate::proved::pkcs1::PrivateKeyOf;
 
 /// A key of the caller's numbers.
@@ -22,6 +19,36 @@ impl<'a> GivenKey<'a> {
         key: &PrivateKey<'a>,
         others: &'a [OtherPrime<'a>],
     ) -> crate::proved::pkcs1::Result<GivenKey<'a>> {
+        match GivenKey::quick(key, others) {
+            Some(made) => Ok(made),
+            None => GivenKey::exactly(key, others),
+        }
+    }
+
+    /// The key with these numbers. `None` says nothing of them. No error is kept beside a number here, which would cost
+    /// more than to look twice at a number with zeros in front.
+    #[inline(always)]
+    fn quick(key: &PrivateKey<'a>, others: &'a [OtherPrime<'a>]) -> Option<GivenKey<'a>> {
+        Some(GivenKey(PrivateKeyOf {
+            modulus: quick_number(key.modulus)?,
+            public_exponent: quick_number(key.public_exponent)?,
+            private_exponent: quick_number(key.private_exponent)?,
+            prime1: quick_number(key.prime1)?,
+            prime2: quick_number(key.prime2)?,
+            exponent1: quick_number(key.exponent1)?,
+            exponent2: quick_number(key.exponent2)?,
+            coefficient: quick_number(key.coefficient)?,
+            other_prime_infos: match GivenPrimes::of(others) {
+                Ok(others) => others,
+                Err(_) => return None,
+            },
+        }))
+    }
+
+    /// As `of`.
+    #[cold]
+    #[inline(never)]
+    fn exactly(key: &PrivateKey<'a>, others: &'a [OtherPrime<'a>]) -> crate::proved::pkcs1::Result<GivenKey<'a>> {
         Ok(GivenKey(PrivateKeyOf {
             modulus: number(key.modulus)?,
             public_exponent: number(key.public_exponent)?,
@@ -39,21 +66,6 @@ impl<'a> GivenKey<'a> {
     }
 }
 
-/// The length of what is in front of other primes, as `row_len` tells it: fewer steps, as a number has contents and a
-/// length of some octets, and the version has one.
-#[inline(always)]
-fn numbers_len(key: &PrivateKeyOf<Number<'_>, GivenPrimes<'_>>) -> Result<Length> {
-    let first = octets_with_tag(key.modulus.size())
-        + octets_with_tag(key.public_exponent.size())
-        + octets_with_tag(key.private_exponent.size())
-        + octets_with_tag(key.prime1.size());
-    let second = octets_with_tag(key.prime2.size())
-        + octets_with_tag(key.exponent1.size())
-        + octets_with_tag(key.exponent2.size())
-        + octets_with_tag(key.coefficient.size());
-    Length::try_from(3 + first + second)
-}
-
 impl Contents for GivenKey<'_> {}
 
 impl TaggedBy for GivenKey<'_> {
@@ -62,11 +74,12 @@ impl TaggedBy for GivenKey<'_> {
 
 impl EncodeValue for GivenKey<'_> {
     fn value_len(&self) -> Result<Length> {
-        let numbers = numbers_len(&self.0);
-        match &self.0.other_prime_infos {
-            None => numbers,
-            Some(others) => joined_len(numbers, others.encoded_len()),
-        }
+        self.0.row_len()
+    }
+
+    #[inline(always)]
+    fn quick_value_len(&self) -> u64 {
+        self.0.quick_row_len()
     }
 
     fn append_value<W: Writer>(&self, writer: &mut W) -> Result<()> {

@@ -10,7 +10,7 @@ use crate::proved::der_core::{
 #[derive(Clone, Copy)]
 pub struct Number<'a> {
     bytes: &'a [u8],
-    zeros: usize,
+    zeros: u8,
 }
 
 impl<'a> Number<'a> {
@@ -27,7 +27,7 @@ impl<'a> Number<'a> {
     /// How many octets the contents are.
     #[inline(always)]
     pub(crate) fn size(&self) -> usize {
-        self.bytes.len() + self.zeros
+        self.bytes.len() as u32 as usize + self.zeros as usize
     }
 
     /// A bound on the octets of an encoding within the limit, known without a look at them: a tag, a length and a zero
@@ -47,6 +47,11 @@ impl TaggedBy for Number<'_> {
 impl EncodeValue for Number<'_> {
     fn value_len(&self) -> Result<Length> {
         Length::try_from(self.size())
+    }
+
+    #[inline(always)]
+    fn quick_value_len(&self) -> u64 {
+        self.size() as u64
     }
 
     fn append_value<W: Writer>(&self, writer: &mut W) -> Result<()> {

@@ -6,7 +6,7 @@ use crate::calls::pkcs1_c::numbers::number;
 use crate::calls::pkcs1_c::private_key::OtherPrime;
 use crate::proved::der_core::{
     BackWriter, Contents, Encode, EncodeValue, Error, ErrorKind, Length, Result, SequenceTag,
-    TaggedBy, Writer, joined_len,
+    TaggedBy, UNTOLD, Writer, joined_len,
 };
 use crate::proved::pkcs1::OtherPrimeInfo;
 
@@ -28,32 +28,10 @@ fn from_c_other_prime<'a>(other: &OtherPrime<'a>) -> crate::proved::pkcs1::Resul
     })
 }
 
-/// How many octets a tag, a length and contents are; more than the limit, if the contents are.
-#[inline(always)]
-pub(crate) fn octets_with_tag(contents: usize) -> usize {
-    if contents < 0x80 {
-        return contents + 2;
-    }
-    if contents < 0x100 {
-        return contents + 3;
-    }
-    if contents < 0x1_0000 {
-        return contents + 4;
-    }
-    if contents < 0x100_0000 {
-        return contents + 5;
-    }
-    contents + 6
-}
-
-/// The length of a prime's encoding, as `encoded_len` tells it: fewer steps, as a number has contents and a length of
-/// some octets.
+/// The length of a prime's encoding.
 #[inline(always)]
 fn length_of(info: &OtherPrimeInfo<Number<'_>>) -> Result<Length> {
-    let numbers = octets_with_tag(info.prime.size())
-        + octets_with_tag(info.exponent.size())
-        + octets_with_tag(info.coefficient.size());
-    Length::try_from(octets_with_tag(numbers))
+    info.encoded_len()
 }
 
 /// Appends a prime.
@@ -115,6 +93,14 @@ impl TaggedBy for GivenPrimes<'_> {
 impl EncodeValue for GivenPrimes<'_> {
     fn value_len(&self) -> Result<Length> {
         self.len
+    }
+
+    #[inline(always)]
+    fn quick_value_len(&self) -> u64 {
+        match self.value_len() {
+            Ok(length) => length.to_usize() as u64,
+            Err(_) => UNTOLD,
+        }
     }
 
     fn append_value<W: Writer>(&self, writer: &mut W) -> Result<()> {

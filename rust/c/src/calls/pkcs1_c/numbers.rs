@@ -11,6 +11,13 @@ pub(crate) fn number<'a>(bytes: &'a [u8]) -> crate::proved::pkcs1::Result<Number
     Ok(Number::of(UintRef::new(bytes)?))
 }
 
+/// The number with these bytes. `None` says nothing of them: there may be none, or zeros in front.
+#[inline(always)]
+pub(crate) fn quick_number<'a>(bytes: &'a [u8]) -> Option<Number<'a>> {
+    let number = UintRef::from_canonical(bytes)?;
+    Some(Number::of(number))
+}
+
 /// The bit length of the number with these bytes. Zeros in front don't count. It is 0 of no bytes, and `u64::MAX` of a
 /// number that is longer than the limit.
 #[unsafe(no_mangle)]

@@ -137,8 +137,8 @@ pub extern "C" fn pkcs1_c_private_key_encode(
     if key.other_primes != others.len() {
         return OTHER_PRIMES;
     }
-    match GivenKey::of(key, others) {
-        Ok(key) => write_encoding(&key, out, len),
-        Err(failure) => status(&failure),
+    match &GivenKey::of(key, others) {
+        Ok(key) => write_encoding(key, out, len),
+        Err(failure) => status(failure),
     }
 }

@@ -2,7 +2,7 @@
 //! Encoding into a caller's slice.
 
 use crate::calls::pkcs1_c::status::{NO_ROOM, OK, kind_number, status};
-use crate::proved::der_core::Encode;
+use crate::proved::der_core::{BackWriter, Encode};
 use crate::proved::pkcs1::{EncodeParams, Shortest};
 use crate::proved::pkcs1_params::Written;
 use crate::proved::spki_core::AssociatedOid;
@@ -29,18 +29,24 @@ pub(crate) fn set_needed<T: Encode>(value: &T, len: &mut usize) {
     }
 }
 
+/// Writes the shortest encoding of the value, which has `count` octets, to the front of `out`, if there is room for it.
+#[inline(always)]
+fn write_counted<T: Encode>(value: &T, count: usize, out: &mut [u8]) -> Written {
+    if out.len() < count {
+        return Err(count);
+    }
+    let (region, _) = out.split_at_mut(count);
+    let mut writer = BackWriter::new(region);
+    value.prepend(&mut writer);
+    Ok(count)
+}
+
 /// Writes the shortest encoding of the value to the front of `out`. Returns 0, with its length in `len`, or `NO_ROOM`,
 /// with the needed length in `len`, or another status, with `len` unchanged.
 pub(crate) fn write_encoding<T: Encode>(value: &T, out: &mut [u8], len: &mut usize) -> u32 {
-    match value.encode_into(out) {
-        Ok(written) => {
-            *len = written;
-            OK
-        }
-        Err(error) => {
-            set_needed(value, len);
-            kind_number(&error.kind)
-        }
+    match value.encoded_len() {
+        Ok(length) => written_status(write_counted(value, length.to_usize(), out), len),
+        Err(error) => kind_number(&error.kind),
     }
 }
 

@@ -89,6 +89,11 @@ impl EncodeValue for Uint {
         self.as_uint_ref().value_len()
     }
 
+    #[inline(always)]
+    fn quick_value_len(&self) -> u64 {
+        self.as_uint_ref().quick_value_len()
+    }
+
     fn append_value<W: Writer>(&self, writer: &mut W) -> Result<()> {
         self.as_uint_ref().append_value(writer)
     }

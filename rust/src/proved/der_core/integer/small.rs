@@ -63,6 +63,11 @@ impl EncodeValue for u8 {
         Length::try_from(if *self < 0x80 { 1 } else { 2 })
     }
 
+    #[inline(always)]
+    fn quick_value_len(&self) -> u64 {
+        if *self < 0x80 { 1 } else { 2 }
+    }
+
     fn append_value<W: Writer>(&self, writer: &mut W) -> Result<()> {
         if *self < 0x80 {
             writer.write(&[*self])

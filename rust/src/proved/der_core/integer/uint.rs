@@ -64,6 +64,7 @@ impl<'a> UintRef<'a> {
 
     /// The number with these big-endian bytes. `None` exactly if there is no byte, if a needless zero stands in front,
     /// or if they are more than `Length::MAX`.
+    #[inline(always)]
     pub fn from_canonical(bytes: &'a [u8]) -> Option<UintRef<'a>> {
         match bytes {
             [] | [0, _, ..] => None,
@@ -80,6 +81,13 @@ impl<'a> UintRef<'a> {
     /// The bytes, most significant first: at least one, at most `Length::MAX`, and no needless zero in front.
     pub fn as_bytes(&self) -> &'a [u8] {
         self.bytes
+    }
+
+    /// How many octets the contents are: the bytes, behind a zero if the first is 128 or more.
+    #[inline(always)]
+    fn size(&self) -> usize {
+        let zeros = if self.bytes[0] < 0x80 { 0 } else { 1 };
+        self.bytes.len() as u32 as usize + zeros
     }
 
     /// The bit length of the number, as 2048 of the modulus of an RSA-2048 key: the least n with it below 2^n, 0 of 0.
@@ -155,8 +163,12 @@ impl<'a, M: Memory> DecodeValue<&'a [u8], M> for UintRef<'a> {
 impl EncodeValue for UintRef<'_> {
     #[inline(always)]
     fn value_len(&self) -> Result<Length> {
-        let zeros = if self.bytes[0] < 0x80 { 0 } else { 1 };
-        Length::try_from(self.bytes.len() + zeros)
+        Length::try_from(self.size())
+    }
+
+    #[inline(always)]
+    fn quick_value_len(&self) -> u64 {
+        self.size() as u64
     }
 
     fn append_value<W: Writer>(&self, writer: &mut W) -> Result<()> {

@@ -76,6 +76,16 @@ impl<U: Encode> EncodeInParts for OtherPrimeInfo<U> {
             .value_len()
     }
 
+    #[inline(always)]
+    fn quick_parts_len(&self) -> u64 {
+        let coefficient = (Borrowed(&self.coefficient), ());
+        (
+            Borrowed(&self.prime),
+            (Borrowed(&self.exponent), coefficient),
+        )
+            .quick_value_len()
+    }
+
     fn append_parts<W: Writer>(&self, writer: &mut W) -> Result<()> {
         let coefficient = (Borrowed(&self.coefficient), ());
         (

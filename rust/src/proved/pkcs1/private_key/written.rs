@@ -24,6 +24,16 @@ impl<'b, U: Encode, O: Encode> EncodeValue for CrtParts<'b, U, O> {
     }
 
     #[inline(always)]
+    fn quick_value_len(&self) -> u64 {
+        let key = self.0;
+        let last = (
+            Borrowed(&key.coefficient),
+            Last::borrowed(&key.other_prime_infos),
+        );
+        (Borrowed(&key.exponent1), (Borrowed(&key.exponent2), last)).quick_value_len()
+    }
+
+    #[inline(always)]
     fn append_value<W: Writer>(&self, writer: &mut W) -> Result<()> {
         let key = self.0;
         let last = (
@@ -86,6 +96,12 @@ impl<U: Encode, O: Encode> PrivateKeyOf<U, O> {
     #[inline(always)]
     pub fn row_len(&self) -> Result<Length> {
         self.row().value_len()
+    }
+
+    /// The length of the contents octets, told quickly. More than `Length::MAX` says nothing of them.
+    #[inline(always)]
+    pub fn quick_row_len(&self) -> u64 {
+        self.row().quick_value_len()
     }
 
     /// Appends the contents. Requires that there are some, of at most `Length::MAX` octets. `NoRoom` after a beginning

@@ -10,7 +10,7 @@ use crate::rattle_std::path::Path;
 
 /// Where bytes can be written once: writing uses the place up.
 pub trait Place {
-    /// Writes the bytes.
+    /// Writes the bytes. Ok: the place took exactly them. Err: it didn't, for this reason.
     fn write(self, bytes: &[u8]) -> Result<(), WriteError>;
 }
 

@@ -72,13 +72,14 @@ pub trait ReplaceFiles: FileSystem {
         number: u32,
     ) -> crate::rattle_std::result::Result<Target, AllocError>;
 
-    /// Opens what is no regular file, or creates one where nothing is.
+    /// Opens what is no regular file, or creates one with these rights where nothing is.
     fn open_in_place(&self, path: Path<'_>, rights: Rights) -> Result<Self::Created>;
 
-    /// Creates a file. `Ok(None)`: something is at the path.
+    /// Creates a file with these rights where nothing is. `Ok(None)`: something is at the path.
     fn create_new(&self, path: Path<'_>, rights: Rights) -> Result<Option<Self::New>>;
 
-    /// Renames a new file, which must have been written, flushed and closed. What is at the other path is replaced.
+    /// Renames a new file, which must have taken some bytes and been flushed and closed. What is at the other path is
+    /// replaced.
     fn rename(&self, from: Path<'_>, to: Path<'_>) -> io::Result<()>;
 
     /// Removes a file that was created where nothing was.

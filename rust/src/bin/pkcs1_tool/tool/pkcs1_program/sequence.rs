@@ -2,7 +2,9 @@
 //! Reading a source as long as what came may begin a SEQUENCE.
 
 use crate::rattle_std::prelude::Vec;
-use crate::proved::der_core::{Document, Error, ErrorKind, Header, Length, Result, SliceReader, Source};
+use crate::proved::der_core::{
+    Document, Error, ErrorKind, Header, Length, Reader, Result, SliceReader, Source, Tag,
+};
 use crate::rattle_std::alloc::Global;
 
 /// How many bytes are read at once.
@@ -15,15 +17,14 @@ fn is_front(bytes: &[u8]) -> bool {
     };
     match Header::decode(&mut reader) {
         Ok(header) => {
-            let contents = header.length.to_usize();
-            let octets = header.to_bytes();
-            bytes.starts_with(b"\x30") && bytes.len() <= octets.len().saturating_add(contents)
+            header.tag.octet() == Tag::SEQUENCE.octet()
+                && reader.remaining_len().to_usize() <= header.length.to_usize()
         }
         Err(_) => false,
     }
 }
 
-/// The fault of bytes that aren't a beginning of a SEQUENCE. Nothing is allocated for those that are one.
+/// The fault of bytes that aren't a beginning of a SEQUENCE; `None` of those that are. Nothing is allocated for these.
 fn fault_of(alloc: Global, bytes: &[u8]) -> Option<Error> {
     if is_front(bytes) {
         return None;
