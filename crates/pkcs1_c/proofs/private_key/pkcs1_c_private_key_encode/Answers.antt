@@ -11,7 +11,7 @@ use Rattle.pkcs1_c.proofs.private_key.pkcs1_c_private_key_encode.Goals as goal
 -- What `GivenKey::of` made of the struct and the array is a valid key.
 pub write_encoding-requires : goal.write_encoding-requires
 write_encoding-requires c =
-    given_private_valid c.args.key.now c.args.others.now (given_key c.in-Ok.key.0) c.in-Ok.ensures.ok
+    given_private_valid c.args.key.now c.args.others.now (given_key c.in-Ok.key.0) (rw c.in-Ok.is at c.of.ensures.ok)
 
 -- There are not as many other primes as the struct says. That is told before all else.
 pub returns-then-key-others : goal.returns-then-key-others
@@ -36,9 +36,10 @@ returns-in-Ok c =
     let others = c.args.others.now in
     let v = private_key_seen key others in
     let room = length c.args.out.now in
-    let law = given_private_spelled key others (given_key c.in-Ok.key.0) c.in-Ok.ensures.ok in
+    let made = rw c.in-Ok.is at c.of.ensures.ok in
+    let law = given_private_spelled key others (given_key c.in-Ok.key.0) made in
     let told = c.write_encoding.ensures in
-    let held = c.in-Ok.ensures.held in
+    let held = rw c.in-Ok.is at c.of.ensures.held in
     let counted = c.if-key-others.false in record {
       writes =
           held_written PrivateKeyEncoding v GivenPrivateSpells _ law (HasPrivateNumbers key others)
@@ -60,5 +61,5 @@ returns-in-Err c =
     (numbers_part numbers)
     (EncodingIfHeld (HasPrivateNumbers key others) PrivateKeyEncoding) v
     (λ bytes p. private_fits key others p.0 bytes p.1)
-    c.args.out.now c.args.len.now c.status.ensures c.in-Err.ensures.err in
+    c.args.out.now c.args.len.now c.status.ensures (rw c.in-Err.is at c.of.ensures.err) in
     let rest = told.1 in record { writes = told.0; exact = search (rules, error_behind) }
