@@ -9,8 +9,12 @@ use Rattle.std.proofs.lemmas.List.{map-append}
 pub decimal-last : (n : ℕ) → 10 ≤ n → n < 2 ^ 64 → decimal n ≡ decimal (n / 10) ++ (48 + n % 10) ∷ []
 decimal-last n some fits =
     let behind : 0 < n / 10 = omega arith in
-    rw (decimal-digits_of n (omega arith) fits, digits_of_step 10 n (omega arith) (omega arith),
-    map-append, decimal-digits_of (n / 10) behind (omega arith))
+    rw (
+      decimal-digits_of n (omega arith) fits,
+      digits_of_step 10 n (omega arith) (omega arith),
+      map-append,
+      decimal-digits_of (n / 10) behind (omega arith),
+    )
 
 -- a number below ten
 pub decimal-one : (n : ℕ) → n < 10 → decimal n ≡ (48 + n % 10) ∷ []

@@ -12,8 +12,8 @@ first-behind : (p : ℕ → Bool) (front rest : List ℕ) → list_any p front �
     → position_or_len p (front ++ rest) ≡ length front + position_or_len p rest
 first-behind p [] rest none = omega arith
 first-behind p (x ∷ front) rest none = elim (cases_Bool (p x)) [
-    inl is ↦ absurd (true≢false (rw is at none))
-    | inr is ↦ let more = first-behind p front rest (rw is at none) in rw is (omega (arith, more))
+  | inl is ↦ absurd (true≢false (rw is at none))
+  | inr is ↦ let more = first-behind p front rest (rw is at none) in rw is (omega (arith, more))
 ]
 
 pub pass-on : (p : ℕ → Bool) (bytes : List ℕ) (n m : ℕ) → n + m ≤ length bytes
@@ -26,14 +26,14 @@ pass-on p bytes n m within none before =
     let long : length (take m rest) ≡ m = rw (length-take m rest, length-drop n bytes) (omega (arith, within)) in
     let behind = first-behind p (take m rest) (drop m rest) (rw far at none) in
     let whole : position_or_len p rest ≡ m + position_or_len p (drop (n + m) bytes) =
-        rw (take-append-drop m rest, long, drop-drop m n bytes) at behind in
+    rw (take-append-drop m rest, long, drop-drop m n bytes) at behind in
     omega (arith, before, whole)
 
 pub found-behind : (byte n k : ℕ) (bytes : List ℕ) → n ≤ length bytes
     → position_or_len (λ other. other == byte) bytes ≡ n + position_or_len (λ other. other == byte) (drop n bytes)
     → Some k ≡ position (λ other. other == byte) (take (length bytes - n) (drop n bytes))
     → Some (n + k) ≡ position (λ other. other == byte) bytes
-found-behind byte n k bytes within before is = 
+found-behind byte n k bytes within before is =
     let whole = rw (take_rest bytes n) at is in
     let long = length-drop n bytes in
     grind (arith, nat_tests)

@@ -11,7 +11,9 @@ const PIECE: usize = 32;
 fn holds(byte: u8, bytes: &[u8]) -> bool
     ensures { result ≡ list_any (λ other. other == byte) bytes.now }
 {
-    bytes.iter().fold(false, |found, other| found | (*other == byte))
+    bytes
+        .iter()
+        .fold(false, |found, other| found | (*other == byte))
 }
 
 /// The index of the first such byte, which is looked for one by one.

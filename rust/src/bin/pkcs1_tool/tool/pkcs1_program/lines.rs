@@ -6,7 +6,9 @@ const PIECE: usize = 32;
 
 /// Whether one of the bytes is such a byte. No branch depends on a byte, so the processor compares many at once.
 fn holds(byte: u8, bytes: &[u8]) -> bool {
-    bytes.iter().fold(false, |found, other| found | (*other == byte))
+    bytes
+        .iter()
+        .fold(false, |found, other| found | (*other == byte))
 }
 
 /// The index of the first such byte, which is looked for one by one.
