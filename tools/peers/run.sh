@@ -93,9 +93,8 @@ check_own() {
     for it in "${own[@]}" 'libpkcs1 strict'; do
         ./peers check corpus "$(file answers "$it")" "$it"
     done
-    tr 234 1 < "$(file answers libpkcs1)" > read_only
     for it in "${own[@]:1}"; do
-        cmp -s "$(file answers "$it")" "$(file answers libpkcs1)" || cmp -s "$(file answers "$it")" read_only ||
+        "$python" "$here/tables/alike.py" "$(file answers libpkcs1)" "$(file answers "$it")" ||
             stop "$it isn't as strict as libpkcs1, or writes something else"
     done
 }
