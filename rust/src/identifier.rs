@@ -1,7 +1,7 @@
 //! Object identifiers, and types that name one.
 
 use crate::der::{Error, ErrorKind, Result};
-use crate::oid_text::{number_at, print};
+use crate::oid_text;
 use crate::proved::spki_core as proved;
 use crate::values::sealed::Sealed;
 use core::fmt;
@@ -27,10 +27,10 @@ impl ObjectIdentifier {
 
     /// The identifier with this text: numbers in decimal digits, with dots between them.
     /// # Errors
-    /// `OidMalformed` if the text is none, a number has more than 128 bits, or the contents have more than 39 octets.
+    /// `OidMalformed` if the text is none, or the contents have more than 39 octets.
     pub const fn new(text: &str) -> Result<ObjectIdentifier> {
-        match ObjectIdentifier::of_text(text.as_bytes()) {
-            Some(oid) => Ok(oid),
+        match oid_text::read(text.as_bytes()) {
+            Some((octets, length)) => Ok(ObjectIdentifier { octets, length: length as u8 }),
             None => Err(Error { kind: ErrorKind::OidMalformed }),
         }
     }
@@ -40,7 +40,10 @@ impl ObjectIdentifier {
     /// Where `new` returns an error. In a `const` this is an error of the compiler.
     #[must_use]
     pub const fn new_unwrap(text: &str) -> ObjectIdentifier {
-        ObjectIdentifier::of_text(text.as_bytes()).expect("the text is no object identifier of at most 39 octets")
+        match ObjectIdentifier::new(text) {
+            Ok(oid) => oid,
+            Err(_) => panic!("the text is no object identifier of at most 39 octets"),
+        }
     }
 
     /// The identifier with these contents octets.
@@ -55,40 +58,6 @@ impl ObjectIdentifier {
     #[must_use]
     pub const fn as_bytes(&self) -> &[u8] {
         self.octets.split_at(self.length as usize).0
-    }
-
-    const fn of_text(text: &[u8]) -> Option<ObjectIdentifier> {
-        let empty = ObjectIdentifier { octets: [0; ObjectIdentifier::MAX_SIZE], length: 0 };
-        let Some((first, end)) = number_at(text, 0) else { return None };
-        let Some((second, mut end)) = number_at(text, end + 1) else { return None };
-        if first > 2 || (first < 2 && second >= 40) {
-            return None;
-        }
-        let mut made = empty.with_sum(second, 40 * first);
-        while end < text.len() {
-            let (Some((number, behind)), Some(oid)) = (number_at(text, end + 1), made) else { return None };
-            (made, end) = (oid.with_sum(number, 0), behind);
-        }
-        made
-    }
-
-    /// The identifier with the sum of two numbers behind, seven bits in each octet. The second number is at most 80.
-    const fn with_sum(mut self, number: u128, added: u128) -> Option<ObjectIdentifier> {
-        let last = (number & 0x7f) + added;
-        let front = (number >> 7) + (last >> 7); // the sum itself may have 129 bits
-        let mut shift = (u128::BITS - front.leading_zeros()).div_ceil(7) * 7;
-        loop {
-            if self.length as usize == ObjectIdentifier::MAX_SIZE {
-                return None;
-            }
-            let octet = if shift > 0 { (front >> (shift - 7)) as u8 | 0x80 } else { last as u8 & 0x7f };
-            self.octets[self.length as usize] = octet;
-            self.length += 1;
-            if shift == 0 {
-                return Some(self);
-            }
-            shift -= 7;
-        }
     }
 }
 
@@ -201,7 +170,7 @@ macro_rules! printed {
     ($($name:ty)*) => { $(
         impl fmt::Display for $name {
             fn fmt(&self, f: &mut fmt::Formatter<'_>) -> fmt::Result {
-                print(self.as_bytes(), f)
+                oid_text::print(self.as_bytes(), f)
             }
         }
 

@@ -2,74 +2,88 @@
 
 use core::fmt;
 
-/// The number that stands here in the text, without needless zeros, and where it ends.
-pub(crate) const fn number_at(text: &[u8], begin: usize) -> Option<(u128, usize)> {
-    let (mut at, mut number) = (begin, 0u128);
+/// Contents octets, with zeros behind them, or a number in digits of seven bits, with zeros in front.
+pub(crate) type Octets = [u8; 39];
+
+/// The digits of a number in a base become those of a multiple of it and some more. What they have no room for is
+/// returned.
+const fn times_plus<const N: usize>(digits: &mut [u8; N], base: i32, times: i32, more: i32) -> i32 {
+    let (mut at, mut carry) = (N, more);
+    while at > 0 {
+        at -= 1;
+        carry += digits[at] as i32 * times;
+        digits[at] = carry.rem_euclid(base) as u8;
+        carry = carry.div_euclid(base);
+    }
+    carry
+}
+
+/// The number that stands here in the text, without needless zeros, with some more, and where it ends.
+const fn number_at(text: &[u8], begin: usize, more: u8) -> Option<(Octets, usize)> {
+    let (mut at, mut number) = (begin, [0; 39]);
     while at < text.len() && text[at] != b'.' {
-        if !text[at].is_ascii_digit() || (at > begin && number == 0) {
+        let is_needless = at > begin && text[begin] == b'0';
+        if !text[at].is_ascii_digit() || is_needless {
             return None;
         }
-        let Some(tenfold) = number.checked_mul(10) else { return None };
-        let Some(sum) = tenfold.checked_add((text[at] - b'0') as u128) else { return None };
-        (number, at) = (sum, at + 1);
+        if times_plus(&mut number, 0x80, 10, (text[at] - b'0') as i32) != 0 {
+            return None;
+        }
+        at += 1;
     }
-    if at > begin { Some((number, at)) } else { None }
+    let fits = times_plus(&mut number, 0x80, 1, more as i32) == 0;
+    if at > begin && fits { Some((number, at)) } else { None }
 }
 
-/// The decimal digits of a number below 2^280, the last one first.
-struct Digits {
-    digits: [u8; 85],
-    count: usize,
-}
-
-impl Digits {
-    /// Of the number in a subidentifier: seven bits in each octet.
-    fn of(octets: &[u8]) -> Digits {
-        let mut it = Digits { digits: [0; 85], count: 1 };
-        for octet in octets {
-            let mut carry = u32::from(octet & 0x7f);
-            for digit in &mut it.digits[..it.count] {
-                carry += u32::from(*digit) << 7;
-                *digit = (carry % 10) as u8;
-                carry /= 10;
+/// The contents octets of the identifier with this text, and how many there are.
+pub(crate) const fn read(text: &[u8]) -> Option<(Octets, usize)> {
+    let [first @ b'0'..=b'2', b'.', second, ..] = text else { return None };
+    let (mut octets, mut length, mut end, mut more) = ([0; 39], 0, 1, 40 * (*first - b'0'));
+    while end < text.len() {
+        let Some((number, behind)) = number_at(text, end + 1, more) else { return None };
+        let is_second_below_40 = behind == 3 || (behind == 4 && *second < b'4');
+        if end == 1 && *first < b'2' && !is_second_below_40 {
+            return None;
+        }
+        (end, more) = (behind, 0);
+        let mut at = 0;
+        while at < 38 && number[at] == 0 {
+            at += 1;
+        }
+        while at < 39 {
+            if length == 39 {
+                return None;
             }
-            while carry > 0 {
-                it.digits[it.count] = (carry % 10) as u8;
-                it.count += 1;
-                carry /= 10;
-            }
+            octets[length] = number[at] | if at < 38 { 0x80 } else { 0 };
+            (at, length) = (at + 1, length + 1);
         }
-        it
     }
-
-    /// The number, which is at least 80, less 80.
-    fn less_80(mut self) -> Digits {
-        let mut owed = 8;
-        for digit in &mut self.digits[1..self.count] {
-            let borrows = *digit < owed;
-            *digit = *digit + if borrows { 10 } else { 0 } - owed;
-            owed = u8::from(borrows);
-        }
-        while self.count > 1 && self.digits[self.count - 1] == 0 {
-            self.count -= 1;
-        }
-        self
-    }
+    Some((octets, length))
 }
 
-impl fmt::Display for Digits {
-    fn fmt(&self, f: &mut fmt::Formatter<'_>) -> fmt::Result {
-        self.digits[..self.count].iter().rev().try_for_each(|digit| write!(f, "{digit}"))
+/// Prints a number of seven bits in each octet, less one that is no greater.
+fn print_number(octets: &[u8], less: i32, f: &mut fmt::Formatter<'_>) -> fmt::Result {
+    let mut digits = [0; 85];
+    for octet in octets {
+        times_plus(&mut digits, 10, 0x80, i32::from(octet & 0x7f));
     }
+    times_plus(&mut digits, 10, 1, -less);
+    let zeros = digits[..84].iter().take_while(|digit| **digit == 0).count();
+    digits[zeros..].iter().try_for_each(|digit| write!(f, "{digit}"))
 }
 
 /// Prints contents octets as numbers with dots between them.
 pub(crate) fn print(octets: &[u8], f: &mut fmt::Formatter<'_>) -> fmt::Result {
     let mut numbers = octets.split_inclusive(|octet| *octet < 0x80);
-    match numbers.next() {
-        Some([both @ ..80]) => write!(f, "{}.{}", both / 40, both % 40)?,
-        Some(both) => write!(f, "2.{}", Digits::of(both).less_80())?,
-        None => {}
+    match numbers.next().unwrap_or_default() {
+        [both @ ..80] => write!(f, "{}.{}", both / 40, both % 40)?,
+        both => {
+            f.write_str("2.")?;
+            print_number(both, 80, f)?;
+        }
     }
-    numbers.try_for_each(|number| write!(f, ".{}", Digits::of(number)))
+    numbers.try_for_each(|number| {
+        f.write_str(".")?;
+        print_number(number, 0, f)
+    })
 }

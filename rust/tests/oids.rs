@@ -67,18 +67,22 @@ fn text_and_octets() {
         ("2.340282366920938463463374607431768211375", &[[0x83].as_slice(), &[0xff; 17], &[0x7f]].concat()),
         ("2.340282366920938463463374607431768211376", &[[0x84].as_slice(), &[0x80; 17], &[0]].concat()),
         ("2.340282366920938463463374607431768211455", &[[0x84].as_slice(), &[0x80; 17], &[0x4f]].concat()),
+        ("1.0.340282366920938463463374607431768211456", &[[40, 0x84].as_slice(), &[0x80; 17], &[0]].concat()),
+        (
+            "2.15177100720513508366558296147058741458143803430094840009779784451085189728165691311",
+            &[[0xff; 38].as_slice(), &[0x7f]].concat(),
+        ),
     ] {
         let oid = ObjectIdentifier::new(text).unwrap();
         assert_eq!((oid.as_bytes(), oid.to_string()), (octets, text.to_string()));
         assert_eq!(text.parse(), Ok(oid));
         assert_eq!(ObjectIdentifier::from_bytes(octets), Ok(oid));
     }
-    // A number of 273 bits is printed, and not read.
-    let long = [[0xff; 38].as_slice(), &[0x7f]].concat();
-    let text = ObjectIdentifier::from_bytes(&long).unwrap().to_string();
-    assert_eq!(text, "2.15177100720513508366558296147058741458143803430094840009779784451085189728165691311");
-    let over = "2.340282366920938463463374607431768211456";
-    for text in ["", "1", "1.", ".1", "3.1", "0.40", "1.40", "1.2..3", "1.2.", "1.02", "1.2.x", " 1.2", "-1.2", over] {
+    let over = "2.15177100720513508366558296147058741458143803430094840009779784451085189728165691312";
+    for text in [
+        "", "1", "1.", ".1", "3.1", "0.40", "1.40", "1.2..3", "1.2.", "1.02", "1.2.00", "01.2", "1.100", "1.2.x",
+        " 1.2", "-1.2", over,
+    ] {
         assert!(ObjectIdentifier::new(text).is_err(), "{text}");
     }
     let numbers = |count| vec!["1"; count].join(".");
