@@ -4,7 +4,6 @@ use pkcs1_proved::{DecodeRsaPublicKey, RsaPublicKeyOwned};
 fn main() -> Result<(), Box<dyn std::error::Error>> {
     let path = std::env::args().nth(1).ok_or("usage: modulus FILE")?;
     let key = RsaPublicKeyOwned::read_pkcs1_der_file(&path).map_err(|error| format!("{path}: {error}"))?;
-    let digits: Vec<String> = key.modulus.as_bytes().iter().map(|octet| format!("{octet:02x}")).collect();
-    println!("{}", digits.concat());
+    println!("{:x}", key.modulus);
     Ok(())
 }

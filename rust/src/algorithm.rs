@@ -52,6 +52,11 @@ impl<P, O> AlgorithmIdentifier<P, O> {
 }
 
 impl<P, O: Identifier> AlgorithmIdentifier<P, O> {
+    /// The contents octets of the identifier.
+    pub(crate) fn octets(&self) -> &[u8] {
+        self.oid.as_identifier().0.as_bytes()
+    }
+
     /// The algorithm of a proved crate, with its parameters held otherwise.
     #[inline]
     pub(crate) fn lent<'s, V>(&'s self, held: impl FnOnce(&'s P) -> V) -> AlgorithmView<'s, V> {
@@ -101,14 +106,6 @@ impl<P: Held, O: Identifier> AlgorithmIdentifier<P, O> {
 
     /// Whether both are the same hash function: the identifiers are equal, and so are the parameters, where NULL and
     /// none are alike.
-    ///
-    /// ```
-    /// use pkcs1_proved::{RsaPssParamsRef, Sha256, spki::AlgorithmIdentifier};
-    ///
-    /// let with_null = RsaPssParamsRef::new::<Sha256>(32).hash;
-    /// let without = AlgorithmIdentifier { parameters: None, ..with_null };
-    /// assert!(with_null.is_same_hash(&without) && with_null != without);
-    /// ```
     #[must_use]
     pub fn is_same_hash<Q: Held, R: Identifier>(&self, other: &AlgorithmIdentifier<Q, R>) -> bool {
         self.as_view().is_same_hash(&other.as_view())

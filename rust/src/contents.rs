@@ -3,7 +3,7 @@
 use crate::der::asn1::{AnyRef, UintRef};
 use crate::der::{Result, Tag};
 use crate::identifier::OfIdentifier;
-use crate::keys::{OtherPrimeInfos, RsaPrivateKey, asn1};
+use crate::keys::{OtherPrimeInfos, RsaPrivateKey, asn1, private_key};
 use crate::params::{RsaOaepParams, RsaPssParams};
 use crate::proved::der_core::{NoMemory, read_contents};
 use crate::proved::pkcs1::{self as proved, OtherPrimeInfo, TrailerField, Version};
@@ -48,17 +48,9 @@ from_contents! {
     };
     {} RsaPrivateKey<UintRef<'a>>, contents => {
         let key: proved::RsaPrivateKeyRef<'a> = read_contents(Global, contents)?;
-        Ok(RsaPrivateKey {
-            modulus: key.modulus,
-            public_exponent: key.public_exponent,
-            private_exponent: key.private_exponent,
-            prime1: key.prime1,
-            prime2: key.prime2,
-            exponent1: key.exponent1,
-            exponent2: key.exponent2,
-            coefficient: key.coefficient,
-            other_prime_infos: key.other_prime_infos.map(OtherPrimeInfos),
-        })
+        #[rustfmt::skip]
+        macro_rules! number { ($name:ident) => { key.$name }; }
+        Ok(private_key!(RsaPrivateKey, number, key.other_prime_infos.map(OtherPrimeInfos)))
     };
     {O: OfIdentifier<'a>} RsaPssParams<AnyRef<'a>, O>, contents => {
         asn1(AnyRef::new(Tag::SEQUENCE, contents)?.decode_as())

@@ -3,10 +3,10 @@
 use crate::der::asn1::{OctetStringRef, Uint, UintRef};
 use crate::der::{self, decoded, encoded, from_slices};
 use crate::proved::der_core::read_borrowed;
-use crate::proved::pkcs1::{OtherPrimeInfo, OtherPrimes, PrivateKeyOf, Version};
+use crate::proved::pkcs1::{self as proved, OtherPrimeInfo, OtherPrimes, PrivateKeyOf, Version};
 use crate::public_key::{RsaPublicKey, RsaPublicKeyRef};
 use crate::rattle_std::{alloc::Global, prelude::Vec};
-use crate::values::{Hex, Number};
+use crate::values::Number;
 use crate::view::RsaPrivateKeyView;
 use crate::{Error, Result};
 use core::fmt;
@@ -89,10 +89,7 @@ pub type RsaPrivateKeyRef<'a> = RsaPrivateKey<UintRef<'a>>;
 /// A private key that owns its numbers. They aren't wiped when it is dropped.
 pub type RsaPrivateKeyOwned = RsaPrivateKey<Uint>;
 
-/// A private key that is written.
-type Written<'k> = PrivateKeyOf<UintRef<'k>, Vec<OtherPrimeInfo<UintRef<'k>>>>;
-
-/// A key of this type. A macro gives each number, by its name.
+/// A key of this type with its other primes. A macro gives each number, by its name.
 macro_rules! private_key {
     ($key:ident, $number:ident, $others:expr) => {
         $key {
@@ -108,6 +105,7 @@ macro_rules! private_key {
         }
     };
 }
+pub(crate) use private_key;
 
 impl<U> RsaPrivateKey<U> {
     /// The version: `Multi` if there are other primes.
@@ -166,7 +164,7 @@ impl<'a> RsaPrivateKeyRef<'a> {
 impl<U: Number> RsaPrivateKey<U> {
     /// The key as it is written.
     #[inline]
-    pub(crate) fn written(&self) -> der::Result<Written<'_>> {
+    pub(crate) fn written(&self) -> der::Result<proved::RsaPrivateKeyRef<'_>> {
         let key = self.map(|number| Ok(number.as_number()))?;
         #[rustfmt::skip]
         macro_rules! number { ($name:ident) => { key.$name }; }
@@ -203,8 +201,8 @@ impl<U: Number> fmt::Debug for RsaPrivateKey<U> {
     fn fmt(&self, f: &mut fmt::Formatter<'_>) -> fmt::Result {
         f.debug_struct("RsaPrivateKey")
             .field("version", &self.version())
-            .field("modulus", &Hex(self.modulus.as_number()))
-            .field("public_exponent", &Hex(self.public_exponent.as_number()))
+            .field("modulus", &format_args!("{:#x}", self.modulus.as_number()))
+            .field("public_exponent", &format_args!("{:#x}", self.public_exponent.as_number()))
             .finish_non_exhaustive()
     }
 }

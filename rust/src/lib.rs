@@ -26,13 +26,9 @@
 //! # Ok::<(), pkcs1_proved::Error>(())
 //! ```
 //!
-//! The functions that read and write are those of crates in the language Rattle, of which a machine has proved that
-//! they do what their contracts say. They stand in `src/proved`, without the contracts. This crate and the compiler
-//! aren't proved, but tested beside the library that is built of what the proof's own compiler made. The README has
-//! more: which name is for what, what stands beside RustCrypto's `pkcs1`, and what isn't read.
-//!
-//! There is no `unsafe`, and no dependency. Without the feature `alloc`, what returns a `Vec` or a document isn't there,
-//! and what else wants memory returns `OutOfMemory`.
+//! The functions that read and write stand in `src/proved`: a machine has proved that they do what their contracts in
+//! the language Rattle say. This crate and the compiler aren't proved, but tested. The README has more: which name is for
+//! what, what stands beside RustCrypto's `pkcs1`, what isn't read, and what needs the feature `alloc`.
 #![no_std]
 #![cfg_attr(docsrs, feature(doc_cfg))]
 #![forbid(unsafe_code)]

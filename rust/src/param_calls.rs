@@ -55,10 +55,8 @@ macro_rules! parameters {
             /// `OidUnknown` if it is of another algorithm, `ParametersMissing`, or as of `try_from`.
             pub fn from_algorithm(algorithm: &AlgorithmIdentifier<AnyRef<'a>>) -> Result<Self> {
                 algorithm.assert_algorithm_oid($algorithm::OID)?;
-                match algorithm.parameters {
-                    Some(any) => Self::try_from(any),
-                    None => Err(der::Error::new(der::ErrorKind::ParametersMissing).into()),
-                }
+                let missing = der::Error::new(der::ErrorKind::ParametersMissing);
+                Self::try_from(algorithm.parameters.ok_or(missing)?)
             }
 
             /// The parameters in the encoding of an algorithm identifier, such as a certificate's signatureAlgorithm.

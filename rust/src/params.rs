@@ -106,14 +106,15 @@ const fn mgf1<'a, D: AssociatedOid>() -> MaskGen<AnyRef<'a>> {
     AlgorithmIdentifier { oid: Mgf1::OID, parameters: Some(plain::<D>()) }
 }
 
-/// The hash function under a mask generation function, if that and the other hash function have NULL.
+/// The octets of the identifiers of a hash function, a mask generation function and the hash function under it, if both
+/// hash functions have NULL.
 #[inline]
-fn under<'p, P: Held, O: Identifier>(
-    hash: &AlgorithmIdentifier<P, O>,
+fn with_null<'p, P: Held, O: Identifier>(
+    hash: &'p AlgorithmIdentifier<P, O>,
     mask_gen: &'p MaskGen<P, O>,
-) -> Option<&'p [u8]> {
+) -> Option<[&'p [u8]; 3]> {
     let under = mask_gen.parameters.as_ref()?;
-    (hash.has_null() && under.has_null()).then(|| under.oid.as_identifier().0.as_bytes())
+    (hash.has_null() && under.has_null()).then(|| [hash.octets(), mask_gen.octets(), under.octets()])
 }
 
 /// Whether the hash function is D, and the mask generation function is MGF1 with D. No view is made of the other fields.
@@ -121,7 +122,7 @@ pub(crate) fn uses_hash<D: AssociatedOid, P: Held, O: Identifier>(
     hash: &AlgorithmIdentifier<P, O>,
     mask_gen: &MaskGen<P, O>,
 ) -> bool {
-    let is_mgf1 = proved::is_mgf1(mask_gen.oid.as_identifier().0.as_bytes());
+    let is_mgf1 = proved::is_mgf1(mask_gen.octets());
     is_mgf1 && hash.is_hash::<D>() && mask_gen.parameters.as_ref().is_some_and(AlgorithmIdentifier::is_hash::<D>)
 }
 
@@ -129,9 +130,8 @@ impl<P: Held, O: Identifier> RsaPssParams<P, O> {
     /// Writes the encoding, alone or in an algorithm identifier, if it is known.
     #[inline]
     pub(crate) fn write_known(&self, place: proved::Place, out: &mut [u8]) -> Option<proved::Written> {
-        let under = under(&self.hash, &self.mask_gen)?;
-        let (hash, mask_gen) = (self.hash.oid.as_identifier().0, self.mask_gen.oid.as_identifier().0);
-        proved::encode_known_pss(hash.as_bytes(), mask_gen.as_bytes(), under, self.salt_len, place, out)
+        let [hash, mask_gen, under] = with_null(&self.hash, &self.mask_gen)?;
+        proved::encode_known_pss(hash, mask_gen, under, self.salt_len, place, out)
     }
 }
 
@@ -149,13 +149,11 @@ impl<P: Held, O: Identifier> RsaOaepParams<P, O> {
     /// Writes the encoding, alone or in an algorithm identifier, if it is known.
     #[inline]
     pub(crate) fn write_known(&self, place: proved::Place, out: &mut [u8]) -> Option<proved::Written> {
-        let under = under(&self.hash, &self.mask_gen)?;
+        let [hash, mask_gen, under] = with_null(&self.hash, &self.mask_gen)?;
         let source = self.p_source.parameters.as_ref()?.as_any();
         if source.tag() != Tag::OCTET_STRING {
             return None;
         }
-        let (hash, mask_gen) = (self.hash.oid.as_identifier().0, self.mask_gen.oid.as_identifier().0);
-        let (hash, mask_gen, named) = (hash.as_bytes(), mask_gen.as_bytes(), self.p_source.oid.as_identifier().0);
-        proved::encode_known_oaep(hash, mask_gen, under, named.as_bytes(), source.value(), place, out)
+        proved::encode_known_oaep(hash, mask_gen, under, self.p_source.octets(), source.value(), place, out)
     }
 }

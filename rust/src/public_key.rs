@@ -3,7 +3,7 @@
 use crate::der::asn1::{Uint, UintRef};
 use crate::der::{decoded, encoded, from_slices};
 use crate::proved::{der_core::read_borrowed, pkcs1 as proved};
-use crate::values::{Hex, Number};
+use crate::values::Number;
 use core::fmt;
 
 /// An RSA public key (RFC 8017 A.1.1). A `U` holds a number: see [`RsaPublicKeyRef`] and [`RsaPublicKeyOwned`]. No relation
@@ -49,8 +49,8 @@ impl<U: Number> fmt::Debug for RsaPublicKey<U> {
     /// Prints the numbers in hexadecimal.
     fn fmt(&self, f: &mut fmt::Formatter<'_>) -> fmt::Result {
         f.debug_struct("RsaPublicKey")
-            .field("modulus", &Hex(self.modulus.as_number()))
-            .field("public_exponent", &Hex(self.public_exponent.as_number()))
+            .field("modulus", &format_args!("{:#x}", self.modulus.as_number()))
+            .field("public_exponent", &format_args!("{:#x}", self.public_exponent.as_number()))
             .finish()
     }
 }

@@ -168,20 +168,25 @@ fn readable(any: spki_core::AnyRef<'_>) -> spki_core::AnyRef<'_> {
 
 cloned! { {} Uint; {} Any; }
 
-impl fmt::Debug for Uint {
-    /// Prints the number in hexadecimal.
+impl fmt::LowerHex for UintRef<'_> {
+    /// Prints two digits for each byte. With `#` they stand behind `0x`.
     fn fmt(&self, f: &mut fmt::Formatter<'_>) -> fmt::Result {
-        Hex(self.as_number()).fmt(f)
+        f.write_str(if f.alternate() { "0x" } else { "" })?;
+        self.as_bytes().iter().try_for_each(|octet| write!(f, "{octet:02x}"))
     }
 }
 
-/// A number that is printed in hexadecimal.
-pub(crate) struct Hex<'n>(pub(crate) UintRef<'n>);
-
-impl fmt::Debug for Hex<'_> {
+impl fmt::LowerHex for Uint {
+    /// As of `UintRef`.
     fn fmt(&self, f: &mut fmt::Formatter<'_>) -> fmt::Result {
-        f.write_str("0x")?;
-        self.0.as_bytes().iter().try_for_each(|octet| write!(f, "{octet:02x}"))
+        fmt::LowerHex::fmt(&self.as_number(), f)
+    }
+}
+
+impl fmt::Debug for Uint {
+    /// Prints the number in hexadecimal.
+    fn fmt(&self, f: &mut fmt::Formatter<'_>) -> fmt::Result {
+        write!(f, "{self:#x}")
     }
 }
 

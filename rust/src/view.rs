@@ -5,7 +5,6 @@ use crate::der::{decoded, from_slices};
 use crate::keys::asn1;
 use crate::proved::pkcs1::{self as proved, OtherPrimes, Version};
 use crate::public_key::{RsaPublicKey, RsaPublicKeyRef};
-use crate::values::Hex;
 use core::fmt;
 
 /// An RSA private key (RFC 8017 A.1.2) over its encoding. It allocates nothing, however many primes there are. No
@@ -16,8 +15,8 @@ pub struct RsaPrivateKeyView<'a>(pub(crate) proved::RsaPrivateKeyView<'a>);
 macro_rules! parts {
     ($($doc:literal $name:ident: $type:ty;)*) => {
         impl<'a> RsaPrivateKeyView<'a> { $(
-            #[doc = $doc]
             #[inline]
+            #[doc = $doc]
             #[must_use]
             pub fn $name(&self) -> $type {
                 self.0.$name()
@@ -61,8 +60,8 @@ impl fmt::Debug for RsaPrivateKeyView<'_> {
     fn fmt(&self, f: &mut fmt::Formatter<'_>) -> fmt::Result {
         f.debug_struct("RsaPrivateKeyView")
             .field("version", &self.version())
-            .field("modulus", &Hex(self.modulus()))
-            .field("public_exponent", &Hex(self.public_exponent()))
+            .field("modulus", &format_args!("{:#x}", self.modulus()))
+            .field("public_exponent", &format_args!("{:#x}", self.public_exponent()))
             .finish_non_exhaustive()
     }
 }

@@ -120,7 +120,7 @@ mod with_alloc {
     #[test]
     fn numbers_are_printed_in_hexadecimal() {
         let number = Uint::new(&[0, 0xc1, 0x7f]).unwrap();
-        assert_eq!((format!("{number:?}"), number.as_ref()), ("0xc17f".to_string(), &[0xc1, 0x7f][..]));
+        assert_eq!((format!("{number:?} {number:x}"), number.as_ref()), ("0xc17f c17f".into(), &[0xc1, 0x7f][..]));
         assert_eq!((number.len().to_usize(), number.is_empty()), (2, false));
     }
 
