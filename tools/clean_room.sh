@@ -50,6 +50,7 @@ c_program() {
     (umask 077 && make install PREFIX="$prefix")
     [ "$(find "$prefix" \( -type f ! -perm 644 -o -type d ! -perm 755 \) -printf '%P %m')" = 'bin/pkcs1_tool 755' ] ||
         stop "what is installed has other modes"
+    [ "$(ls "$prefix/include")" = pkcs1.h ] || stop "another header than pkcs1.h is installed"
     [ ! -e SBOM.spdx.json ] || cmp SBOM.spdx.json "$prefix/share/doc/libpkcs1/SBOM.spdx.json"
     export PKG_CONFIG_PATH=$LIBDIR/pkgconfig
     [ "$(pkg-config --cflags-only-other --libs-only-other --libs-only-l libpkcs1 | xargs)" = -lpkcs1 ] ||
@@ -112,12 +113,17 @@ sanitized() {
     make check OUT=out/sanitized CODE=c CC=clang \
         CFLAGS='-O1 -g -fsanitize=address,undefined -fno-sanitize-recover=all'
 }
-# What make was told is what is installed; another Makefile makes all again.
+# What make was told is what is installed; another Makefile makes all again. By an option the static library says that
+# its control flow is marked, and the shared one if the C library's start files do.
 # shellcheck disable=SC2016 # make and the shell that it starts expand this
 told() {
-    local prefix=$room/what\'s\ told
+    local prefix=$room/what\'s\ told marks
     ! make OUT=out/options CPPFLAGS='-include nowhere.h' || stop "CPPFLAGS aren't used"
-    make OUT=out/options CFLAGS='-O1 -DX="\"a#b\$$c\""' CPPFLAGS=-D_FORTIFY_SOURCE=2 LDFLAGS=-Wl,-z,nodelete
+    make OUT=out/options CFLAGS='-O1 -fcf-protection=full -DX="\"a#b\$$c\""' CPPFLAGS=-D_FORTIFY_SOURCE=2 \
+        LDFLAGS=-Wl,-z,nodelete
+    readelf -n out/options/libpkcs1.a | grep -q IBT || stop "the static library isn't marked"
+    marks=$(readelf -n "$(cc -print-file-name=crti.o)" | grep -c IBT || true)
+    [ "$(readelf -n out/options/libpkcs1.so | grep -c IBT)" = "$marks" ] || stop "start files are marked otherwise"
     cp -r out/options "$room/built"
     make install OUT=out/options PREFIX="$prefix"
     diff -r out/options "$room/built" || stop "make install makes other files than make"
@@ -187,6 +193,7 @@ goals() {
     printf '#!/bin/sh\nsleep 1\nexec %s "$@"\n' "$(command -v rm)" > "$room/slow/rm"
     chmod +x "$room/slow/rm"
     make OUT=out/again
+    [ -z "$(nm -g out/again/{os,tool}.o | grep -o 'pkcs1_os_.*' | sort | uniq -u)" ] || stop "the tool needs less of os.c"
     PATH=$room/slow:$PATH make -j8 OUT=out/again clean all
     [ -e out/again/libpkcs1.a ] || stop "make -j clean all removes what it makes"
     make -n test | grep -q ffi/tests/check.sh || stop "make test runs no tests"
