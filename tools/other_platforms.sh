@@ -54,6 +54,7 @@ by_cmake() {
     cmake --build "$built"
     (cd "$built" && ctest --output-on-failure --no-tests=error)
     cmake --build "$built" --target install
+    [ "$(ls "$built/prefix/include")" = pkcs1.h ] || stop "CMake installs another header than pkcs1.h"
     cmake -S "$room/program" -B "$built/program" "-DCMAKE_PREFIX_PATH=$built/prefix" "${@:2}"
     [ ! -d "$built/prefix/bin" ] || cp "$built"/prefix/bin/*.dll "$built/program"
     runs "$built/program"
