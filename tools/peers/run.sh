@@ -94,7 +94,8 @@ check_own() {
         ./peers check corpus "$(file answers "$it")" "$it"
     done
     for it in "${own[@]:1}"; do
-        "$python" "$here/tables/alike.py" "$(file answers libpkcs1)" "$(file answers "$it")" ||
+        # cmp has these digits in octal: 71 is a type that isn't there, and 61 what is only read, as others accept it.
+        ! cmp -l "$(file answers libpkcs1)" "$(file answers "$it")" | grep -qvE ' (71|(6[1-7]|70) +61)$' ||
             stop "$it isn't as strict as libpkcs1, or writes something else"
     done
 }

@@ -17,29 +17,20 @@ static int moved(int size, uint8_t *to, size_t *len) {
     return ACCEPTED;
 }
 
-static int public_key(const uint8_t *der, size_t der_len, uint8_t *to, size_t room, size_t *len) {
-    (void)room;
-    mbedtls_pk_context key;
-    mbedtls_pk_init(&key);
-    int answer = mbedtls_pk_parse_public_key(&key, der, der_len) == 0;
-    if (answer && to != NULL) {
-        unsigned char *end = to + ROOM;
-        answer = moved(mbedtls_pk_write_pubkey(&end, to, &key), to, len);
+#define CALL(name, parsed, written)                                                                                   \
+    static int name(const uint8_t *der, size_t der_len, uint8_t *to, size_t room, size_t *len) {                      \
+        (void)room;                                                                                                   \
+        mbedtls_pk_context key;                                                                                       \
+        mbedtls_pk_init(&key);                                                                                        \
+        int answer = parsed == 0;                                                                                     \
+        if (answer && to != NULL)                                                                                     \
+            answer = moved(written, to, len);                                                                         \
+        mbedtls_pk_free(&key);                                                                                        \
+        return answer;                                                                                                \
     }
-    mbedtls_pk_free(&key);
-    return answer;
-}
-
-static int private_key(const uint8_t *der, size_t der_len, uint8_t *to, size_t room, size_t *len) {
-    (void)room;
-    mbedtls_pk_context key;
-    mbedtls_pk_init(&key);
-    int answer = mbedtls_pk_parse_key(&key, der, der_len, NULL, 0) == 0;
-    if (answer && to != NULL)
-        answer = moved(mbedtls_pk_write_key_der(&key, to, ROOM), to, len);
-    mbedtls_pk_free(&key);
-    return answer;
-}
+CALL(public_key, mbedtls_pk_parse_public_key(&key, der, der_len),
+     mbedtls_pk_write_pubkey(&(unsigned char *){to + ROOM}, to, &key))
+CALL(private_key, mbedtls_pk_parse_key(&key, der, der_len, NULL, 0), mbedtls_pk_write_key_der(&key, to, ROOM))
 
 static int are_pss(const mbedtls_x509_buf *parameters) {
     mbedtls_md_type_t hash, mask_hash;
