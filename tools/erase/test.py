@@ -1,5 +1,5 @@
 #!/usr/bin/env python3
-"""Tests erase.py by the page forms.txt, and compare.py by the mistakes of planted.txt."""
+"""Tests erase.py by the crates and the page forms.txt, and compare.py by the mistakes of planted.txt."""
 import collections
 import pathlib
 import re
@@ -39,9 +39,9 @@ def place_of(file):
 
 def planted():
     """The file, what is wrong, and the two texts of each mistake."""
-    page = (HERE / "planted.txt").read_text(encoding="utf-8")
-    for head, *lines in (case.split("\n") for case in page.strip().split("\n\n")[1:]):
-        yield *head.split(": ", 1), *("\n".join(it[1:] for it in lines if it[0] == sign) for sign in "-+")
+    for line in (HERE / "planted.txt").read_text(encoding="utf-8").splitlines():
+        if not line.startswith("#"):
+            yield [it.strip() for it in line.split("|")]
 
 
 def first_difference(source, made):
@@ -67,20 +67,11 @@ class Forms(unittest.TestCase):
                     with self.assertRaisesRegex(Refused, re.escape(result.strip())):
                         erase.erased("der_core", "page.rt", source)
 
-    def test_the_page_has_each_form(self):
-        changed = set()
-        for _, source, sign, _ in cases():
-            if sign == "=>":
-                changed |= {form for form, _ in erase.edits_of(erase.Code("der_core", source))}
-        of_programs = {forms.main_of_program, forms.runtime_of_test, forms.refused}
-        self.assertEqual(changed, set(forms.FORMS) - of_programs)
-
-    def test_a_program_has_its_main_and_its_tests(self):
-        source = "fn main(rt: HostRuntime) -> u8 {\n    0\n}\n\n#[test]\nfn runs(rt: HostRuntime) -> u8 {\n    0\n}\n"
-        made = erase.erased("pkcs1_tool", "main.rt", source).split("\n", 1)[1]
-        self.assertEqual(made, "use crate::rattle_std::prelude::HostRuntime;\n" + source
-                         .replace("fn main", "pub fn main").replace("runs(rt: HostRuntime) -> u8 {",
-                                                                    "runs() -> u8 { let rt = HostRuntime;"))
+    def test_each_form_stands_in_the_crates(self):
+        """So erase.py --check tells where one is changed otherwise."""
+        found = {form for crates in compare.MADE.values() for path, source in compare.sources(crates).items()
+                 for form, _ in erase.edits_of(erase.Code(path.parts[0], source.read_text(encoding="utf-8")))}
+        self.assertEqual(found, set(forms.FORMS) - {forms.refused})
 
     def test_the_table_has_what_each_form_is(self):
         table = (HERE / "README.md").read_text(encoding="utf-8")
@@ -144,8 +135,8 @@ class Planted(unittest.TestCase):
             with self.subTest(what):
                 path = self.folder / place_of(file)[0]
                 text = path.read_text(encoding="utf-8")
-                self.assertEqual(text.count(old), 1, f"{old!r} in {file}")
-                path.write_text(text.replace(old, new), encoding="utf-8")
+                self.assertEqual(text.count(old) if old else 1, 1, f"{old!r} in {file}")
+                path.write_text(text.replace(old, new) if old else text + new, encoding="utf-8")
                 named = list(self.messages_of(file))
                 self.assertEqual(len(named), 1)
                 self.assertIn(str(path), named[0])
