@@ -182,4 +182,4 @@ platform "macOS" "x86-64" "one file, by clang" "only compiled" clang -- alone x8
 platform "macOS" "arm64" "one file, by clang" "only compiled" clang -- alone arm64-apple-macos
 platform "Windows" "i386" "one file in MSVC's dialect, by clang" "only compiled" clang -- alone i686-pc-windows-msvc
 all_declared tools/other_platforms.sh
-echo "other platforms: all that is installed works, after $SECONDS s"
+echo "other platforms: all that is installed works"
