@@ -112,20 +112,27 @@ where
     T: Mirror<'a, Proved: DecodeContents<'a>> + Fault,
 {
     let start = reader.position();
-    value(reader.read_slice(length)?, start)
+    reader.read_nested(length, |contents| value(contents.read_slice(length)?, start))
 }
 
 /// `DecodeValue` of a type that owns what it holds.
+#[cfg(feature = "alloc")]
 fn owned<'a, T, R: Reader<'a>>(reader: &mut R, length: Length) -> der::Result<T>
 where
     T: for<'w> Mirror<'w, Proved: DecodeContents<'w>> + Fault,
 {
-    let start = reader.position();
-    if length > reader.remaining_len() {
-        return Err(Error::incomplete(reader.input_len()));
-    }
-    let size = usize::try_from(length)?;
-    value(reader.read_into(&mut room(size)?[..size])?, start)
+    let (start, size) = (reader.position(), usize::try_from(length)?);
+    reader.read_nested(length, |contents| value(contents.read_into(&mut room(size)?[..size])?, start))
+}
+
+/// `DecodeValue` of an INTEGER of one octet. As in `der` there may be another before it.
+fn small<'a, T, R: Reader<'a>>(reader: &mut R, length: Length) -> der::Result<T>
+where
+    T: for<'w> Mirror<'w, Proved: DecodeContents<'w>> + Fault,
+{
+    let (start, mut memory) = (reader.position(), [0; 2]);
+    let octets = memory.get_mut(..usize::try_from(length)?).ok_or(ErrorKind::Noncanonical { tag: T::TAG })?;
+    value(reader.read_into(octets)?, start)
 }
 
 /// The value of a whole encoding.
@@ -176,7 +183,7 @@ macro_rules! integers {
             }
         }
 
-        coded! { $name, owned }
+        coded! { $name, small }
     )* };
 }
 integers! { Version TrailerField }
@@ -237,17 +244,29 @@ fn numbers<'r>(contents: &mut impl Reader<'r>, count: usize) -> der::Result<()> 
 fn private_key<'r>(contents: &mut impl Reader<'r>) -> der::Result<()> {
     let version = Version::decode(contents)?;
     numbers(contents, 8)?;
-    let others = match contents.peek_byte() {
-        Some(octet) => Tag::from_der(&[octet])? == Tag::Sequence,
-        None => false,
-    };
-    if others {
-        contents.sequence(|list| {
+    let others = contents.decode::<Option<Others>>()?.is_some();
+    if version.is_multi() == others { Ok(()) } else { Err(contents.error(ErrorKind::Value { tag: Tag::Integer })) }
+}
+
+/// A list of other primes, of which nothing is held. Without the feature `alloc` none is read.
+struct Others;
+
+impl FixedTag for Others {
+    const TAG: Tag = Tag::Sequence;
+}
+
+impl<'a> DecodeValue<'a> for Others {
+    release::error!();
+
+    fn decode_value<R: Reader<'a>>(reader: &mut R, header: Header) -> der::Result<Self> {
+        if cfg!(not(feature = "alloc")) {
+            return Err(reader.error(ErrorKind::Value { tag: Tag::Integer }));
+        }
+        reader.read_nested(length(&header), |list| {
             while !list.is_finished() {
                 list.sequence(|prime| numbers(prime, 3))?;
             }
-            Ok::<(), Error>(())
-        })?;
+            Ok(Others)
+        })
     }
-    if version.is_multi() == others { Ok(()) } else { Err(contents.error(ErrorKind::Value { tag: Tag::Integer })) }
 }

@@ -1,5 +1,5 @@
 //! Without the features `alloc` and `std`: what borrows is read and written, and a private key of two primes alone.
-use der::{Decode, Encode};
+use der::{Decode, Encode, ErrorKind, Tag};
 use pkcs1::{RsaOaepParamsRef, RsaPrivateKeyRef, RsaPssParamsRef, RsaPublicKeyRef, TrailerField, Version};
 
 #[test]
@@ -19,5 +19,6 @@ fn bare() {
         RsaOaepParamsRef, include_bytes!("../../../ffi/tests/keys/oaep_sha512.der");
     }
     let of_three_primes = RsaPrivateKeyRef::from_der(include_bytes!("../../../ffi/tests/keys/priv3.der"));
-    assert_eq!(of_three_primes.is_ok(), cfg!(feature = "alloc"));
+    let refused = ErrorKind::Value { tag: Tag::Integer };
+    assert_eq!(of_three_primes.err().map(|error| error.kind()), (!cfg!(feature = "alloc")).then_some(refused));
 }

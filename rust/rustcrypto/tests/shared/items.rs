@@ -130,13 +130,14 @@ fn refused() {
     let mut malformed = LABEL;
     malformed[9] = 0x80;
     let other = ErrorKind::TagUnexpected { expected: Some(Tag::Integer), actual: Tag::OctetString };
-    let incomplete = der::Error::incomplete(7u8.into()).kind();
+    let early = [0x30, 0x84, 0x0f, 0xff, 0xff, 0xff, 2];
     for (error, kind) in [
         (RsaPublicKeyRef::from_der(&[0x30, 6, 2, 1, 7, 4, 1, 3]).unwrap_err(), other),
-        (RsaPublicKeyOwned::from_der(&[0x30, 0x84, 0x0f, 0xff, 0xff, 0xff, 2]).unwrap_err(), incomplete),
+        (RsaPublicKeyOwned::from_der(&early).unwrap_err(), RsaPublicKeyRef::from_der(&early).unwrap_err().kind()),
         (RsaPrivateKeyRef::from_der(&empty).unwrap_err(), sequence),
         (RsaOaepParamsRef::from_der(&malformed).unwrap_err(), sequence),
         (Version::from_der(&[2, 1, 2]).unwrap_err(), integer),
+        (Version::from_der(&[2, 3, 1, 1, 1]).unwrap_err(), ErrorKind::Noncanonical { tag: Tag::Integer }),
         (TrailerField::from_der(&[2, 1, 2]).unwrap_err(), integer),
     ] {
         assert_eq!(error.kind(), kind);
