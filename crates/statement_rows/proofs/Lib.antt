@@ -1,3 +1,0 @@
--- The worked rows of `Statement`.
-pub mod StatementPromiseRows
-pub mod StatementRows
