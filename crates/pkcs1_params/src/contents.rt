@@ -1,7 +1,7 @@
 //! Contents octets of parameters, under a mask that says which of their defaults are written. `non_defaults` is what
 //! `non_defaults_in` returns.
 ghost use Rattle.std.specs.Prelude.{◌≡◌, ◌≤◌, ⊤, length};
-ghost use Rattle.der_core.specs.Words.{Appends, Counts, Prepends, free_of, limit};
+ghost use Rattle.der_core.specs.Words.{Appends, Counts, Prepends, Tells, free_of, limit};
 ghost use Rattle.pkcs1_params.specs.DefaultBits.{bits_of};
 ghost use Rattle.spki_core.specs.Words.{AreSpelled, are_defaults, record_fields, record_under, spelling_printed};
 
@@ -21,6 +21,17 @@ pub(crate) fn contents_len<T: EncodeParams>(params: T, non_defaults: u8, mask: u
         return Ok(Length::ZERO);
     }
     params.fields().len(non_defaults, mask)
+}
+
+/// Their length, told quickly.
+#[inline(always)]
+pub(crate) fn quick_contents_len<T: EncodeParams>(params: T, non_defaults: u8, mask: u8) -> u64
+    requires { non_defaults ≡ bits_of (are_defaults (record_fields T.form (T.params params))) }
+    ensures { let s = record_under T.form mask (T.params params) in
+        Tells (AreSpelled T.form.kinds s) (spelling_printed T.form.kinds s) result }
+{
+    params.lemma_is_valid();
+    params.fields().quick_len(non_defaults, mask)
 }
 
 /// Appends them.

@@ -1,6 +1,6 @@
 //! The fields of parameters, and writing them under a mask that says which defaults are written.
 ghost use Rattle.std.specs.Prelude.{◌≡◌, ◌≤◌, ◌<◌, ◌+◌, ◌*◌, ◌^◌, ⊤, List, [], ◌∷◌, length};
-ghost use Rattle.der_core.specs.Words.{Appends, Counts, Prepends, free_of, limit};
+ghost use Rattle.der_core.specs.Words.{Appends, Counts, Prepends, Tells, free_of, limit};
 ghost use Rattle.spki_core.specs.Words.{WrittenField, are_defaults, defaults_in, octets_under, out_under, rest_under};
 ghost use Rattle.pkcs1_params.specs.Words.{bits_of, field_in, field_number};
 ghost use Rattle.pkcs1_params.specs.DefaultBits.{bit_of};
@@ -9,7 +9,7 @@ use crate::holders::{MaskHolder, PlainHolder};
 use crate::pss::RsaPssParamsRef;
 use crate::trailer_field::TrailerField;
 use der_core::{BackWriter, Length, Result, TagNumber, Writer, joined_len};
-use spki_core::{encode_field, field_len, prepend_field};
+use spki_core::{encode_field, field_len, prepend_field, quick_field_len};
 
 /// A field with its value. A `Plain` holds a hash function or a label source, a `Mask` a mask generation function.
 #[derive(Drop)]
@@ -61,6 +61,21 @@ impl<Plain: PlainHolder, Mask: MaskHolder> FieldRef<'_, Plain, Mask> {
             FieldRef::SaltLen(salt_len) => field_len(number, &salt_len),
             FieldRef::Trailer(trailer) => field_len(number, &trailer),
             FieldRef::PSource(p_source) => field_len(number, p_source),
+        }
+    }
+
+    /// The length of the written field, told quickly.
+    #[inline(always)]
+    fn quick_len(&self) -> u64
+        ensures { Tells ⊤ (field_in Plain.plain Mask.mask self.now).octets result }
+    {
+        let number = self.number();
+        match *self {
+            FieldRef::Hash(hash) => quick_field_len(number, hash),
+            FieldRef::MaskGen(mask_gen) => quick_field_len(number, mask_gen),
+            FieldRef::SaltLen(salt_len) => quick_field_len(number, &salt_len),
+            FieldRef::Trailer(trailer) => quick_field_len(number, &trailer),
+            FieldRef::PSource(p_source) => quick_field_len(number, p_source),
         }
     }
 
@@ -147,6 +162,11 @@ pub trait Fields: Drop {
         requires { non_defaults ≡ bits_of (are_defaults (written self.now)) }
         ensures { Counts ⊤ (octets_under mask (written self.now)) result };
 
+    /// The length of the fields under a mask, told quickly.
+    fn quick_len(&self, non_defaults: u8, mask: u8) -> u64
+        requires { non_defaults ≡ bits_of (are_defaults (written self.now)) }
+        ensures { Tells ⊤ (octets_under mask (written self.now)) result };
+
     /// Appends the fields under a mask.
     fn append<W: Writer>(&self, non_defaults: u8, mask: u8, writer: &mut W) -> Result<()>
         requires non_defaults { non_defaults ≡ bits_of (are_defaults (written self.now)) }
@@ -193,6 +213,11 @@ impl Fields for NoField {
     }
 
     #[inline(always)]
+    fn quick_len(&self, _non_defaults: u8, _mask: u8) -> u64 {
+        0
+    }
+
+    #[inline(always)]
     fn append<W: Writer>(&self, _non_defaults: u8, _mask: u8, _writer: &mut W) -> Result<()> {
         Ok(())
     }
@@ -223,6 +248,18 @@ impl<Plain: PlainHolder, Mask: MaskHolder, L: Fields> Fields for FieldThen<'_, P
             later
         } else {
             joined_len(self.first.len(), later)
+        }
+    }
+
+    #[inline(always)]
+    fn quick_len(&self, non_defaults: u8, mask: u8) -> u64 {
+        let (default, non_defaults) = split_non_defaults(non_defaults, &self.first, &self.later);
+        let (left_out, mask) = take_mask_bit(default, mask);
+        let later = self.later.quick_len(non_defaults, mask);
+        if left_out {
+            later
+        } else {
+            later.saturating_add(self.first.quick_len())
         }
     }
 

@@ -5,7 +5,7 @@ ghost use Rattle.spki_core.specs.FieldSpellings as spellings;
 ghost use Rattle.pkcs1_params.specs.DefaultBits.{bits_of};
 ghost use Rattle.pkcs1_params.specs.Parameters.{with_parameters};
 
-use crate::contents::{append_contents, contents_len, prepend_contents};
+use crate::contents::{append_contents, contents_len, prepend_contents, quick_contents_len};
 use crate::spelling::{EncodeParams, non_defaults_in};
 use der_core::{BackWriter, Contents, EncodeValue, Length, Result, SequenceTag, TaggedBy, Writer};
 use spki_core::{AlgorithmView, AssociatedOid, IdentifierValue, IdentifierView};
@@ -79,6 +79,11 @@ impl<T: EncodeParams> TaggedBy for Shortest<T> {
 impl<T: EncodeParams> EncodeValue for Shortest<T> {
     fn value_len(&self) -> Result<Length> {
         contents_len(self.params, self.non_defaults, 0)
+    }
+
+    #[inline(always)]
+    fn quick_value_len(&self) -> u64 {
+        quick_contents_len(self.params, self.non_defaults, 0)
     }
 
     fn append_value<W: Writer>(&self, writer: &mut W) -> Result<()> {

@@ -9,7 +9,7 @@ ghost use Rattle.pkcs1_params.specs.Meanings.{Refuses};
 ghost use Rattle.pkcs1_params.specs.Spellings.{EncodingOfFields, EncodingUnderMask, IsMask, MaskIsInRange};
 ghost use Rattle.standard.specs.Statement.{Defaults, Encodes, Field, IsShortest};
 
-use crate::contents::{append_contents, contents_len, prepend_contents};
+use crate::contents::{append_contents, contents_len, prepend_contents, quick_contents_len};
 use crate::error::Result;
 use crate::fields::Fields;
 use der_core::{
@@ -152,6 +152,11 @@ impl<T: EncodeParams> TaggedBy for Spelling<T> {
 impl<T: EncodeParams> EncodeValue for Spelling<T> {
     fn value_len(&self) -> der_core::Result<Length> {
         contents_len(self.params, self.non_defaults, self.mask)
+    }
+
+    #[inline(always)]
+    fn quick_value_len(&self) -> u64 {
+        quick_contents_len(self.params, self.non_defaults, self.mask)
     }
 
     fn append_value<W: Writer>(&self, writer: &mut W) -> der_core::Result<()> {

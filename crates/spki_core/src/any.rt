@@ -7,6 +7,7 @@ ghost use Rattle.spki_core.specs.Laws.Printed.Readings.{any_law};
 ghost use Rattle.spki_core.specs.Laws.Printed.Shortest.{any_some};
 ghost use Rattle.standard.specs.Statement as standard;
 
+use crate::context_specific::short_len;
 use crate::wide_tag::WideTag;
 use der_core::{
     BackWriter, Decode, DecodeValue, Encode, Encoding, EqualByValue, Error, ErrorKind, FixedTag,
@@ -193,6 +194,11 @@ fn read_any<'a, R: Reader<&'a [u8]>>(reader: &mut R) -> Result<AnyRef<'a>>
 impl Encode for AnyRef<'_> {
     fn encoded_len(&self) -> Result<Length> {
         self.header().length.for_tlv(self.tag())
+    }
+
+    #[inline(always)]
+    fn quick_len(&self) -> u64 {
+        short_len(self.contents.len() as u64)
     }
 
     fn encode<W: Writer>(&self, writer: &mut W) -> Result<()> {

@@ -1,11 +1,11 @@
 //! Values inside explicit context-specific tags (X.690 8.14.2).
-ghost use Rattle.std.specs.Prelude.{◌≡◌, ◌+◌, true, option_map};
-ghost use Rattle.der_core.specs.Words.{context_octet, Tlv, ReadsFront, alone, optional_front, tagged, AllocatesAtFront, TellsNext, starts_with_any};
+ghost use Rattle.std.specs.Prelude.{◌≡◌, ◌≤◌, ◌+◌, true, option_map};
+ghost use Rattle.der_core.specs.Words.{context_octet, limit, tlv_len, Tlv, ReadsFront, alone, optional_front, tagged, AllocatesAtFront, TellsNext, starts_with_any};
 ghost use Rattle.spki_core.specs.Words.{FieldAllocates, explicit, numbered, Numbered, HasNumbered, numbered_alike, numbered_law, numbered_map, numbered_some, numbered_writes_shortest, written_numbered};
 
 use der_core::{
     BackWriter, Decode, Encode, Encoding, ErrorKind, Header, Length, Memory, Reader, Result, Tag,
-    TagNumber, Writer, decode_whole, is_tag_next,
+    TagNumber, UNTOLD, Writer, decode_whole, is_tag_next,
 };
 
 /// A borrowed value that is written inside the tag `[tag_number]`.
@@ -62,9 +62,27 @@ impl<'b, T: Encoding> Encoding for ContextSpecificRef<'b, T> {
     }
 }
 
+/// How many octets a tag, a length and contents of so many octets are, if these are fewer than 128. Else it says
+/// nothing, by more than `Length::MAX`.
+#[inline(always)]
+pub(crate) fn short_len(contents: u64) -> u64
+    ensures { result ≤ limit → (contents ≤ limit) × (result ≡ tlv_len contents) }
+{
+    if contents < 0x80 {
+        contents + 2
+    } else {
+        UNTOLD
+    }
+}
+
 impl<'b, T: Encode> Encode for ContextSpecificRef<'b, T> {
     fn encoded_len(&self) -> Result<Length> {
         self.value.encoded_len()?.for_tlv(self.tag())
+    }
+
+    #[inline(always)]
+    fn quick_len(&self) -> u64 {
+        short_len(self.value.quick_len())
     }
 
     fn encode<W: Writer>(&self, writer: &mut W) -> Result<()> {

@@ -1,6 +1,6 @@
 //! Explicit fields with defaults (X.690 8.14.2, 11.5).
 ghost use Rattle.std.specs.Prelude.{◌≡◌, ◌≤◌, ◌+◌, ℕ, length, IfSome, Ok};
-ghost use Rattle.der_core.specs.Words.{limit, free_of, Prepends, Counts, Appends, context_octet, tlv, ReadsFront, OptionalRead, Prints, ReadsBy, ReadsFronts, Tlv, optional_front};
+ghost use Rattle.der_core.specs.Words.{limit, free_of, Prepends, Counts, Tells, Appends, context_octet, tlv, ReadsFront, OptionalRead, Prints, ReadsBy, ReadsFronts, Tlv, optional_front};
 ghost use Rattle.spki_core.specs.Words.{FieldAllocates, FieldRead, defaulted, explicit};
 
 use crate::context_specific::{ContextSpecificRef, is_field_next, read_explicit};
@@ -56,6 +56,15 @@ pub fn field_len<T: Encode>(tag_number: TagNumber, value: &T) -> Result<Length>
         Counts (T.valid (T.written v)) (tlv (context_octet tag_number.value) (T.printed (T.written v))) result }
 {
     ContextSpecificRef { tag_number, value }.encoded_len()
+}
+
+/// The length of a field as it is written, told quickly. More than `Length::MAX` says nothing of it.
+#[inline(always)]
+pub fn quick_field_len<T: Encode>(tag_number: TagNumber, value: &T) -> u64
+    ensures { let s = T.written (T.value value.now) in
+        Tells (T.valid s) (tlv (context_octet tag_number.value) (T.printed s)) result }
+{
+    ContextSpecificRef { tag_number, value }.quick_len()
 }
 
 /// Appends a field: `Value` and `Overflow`, as of `field_len`, before any octet, `NoRoom` after a beginning.

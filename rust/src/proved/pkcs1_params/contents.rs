@@ -16,6 +16,13 @@ pub(crate) fn contents_len<T: EncodeParams>(params: T, non_defaults: u8, mask: u
     params.fields().len(non_defaults, mask)
 }
 
+/// Their length, told quickly.
+#[inline(always)]
+pub(crate) fn quick_contents_len<T: EncodeParams>(params: T, non_defaults: u8, mask: u8) -> u64 {
+    params.lemma_is_valid();
+    params.fields().quick_len(non_defaults, mask)
+}
+
 /// Appends them.
 #[inline(always)]
 pub(crate) fn append_contents<T: EncodeParams, W: Writer>(

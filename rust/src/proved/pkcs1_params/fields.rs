@@ -5,7 +5,7 @@ use crate::proved::pkcs1_params::holders::{MaskHolder, PlainHolder};
 use crate::proved::pkcs1_params::pss::RsaPssParamsRef;
 use crate::proved::pkcs1_params::trailer_field::TrailerField;
 use crate::proved::der_core::{BackWriter, Length, Result, TagNumber, Writer, joined_len};
-use crate::proved::spki_core::{encode_field, field_len, prepend_field};
+use crate::proved::spki_core::{encode_field, field_len, prepend_field, quick_field_len};
 
 /// A field with its value. A `Plain` holds a hash function or a label source, a `Mask` a mask generation function.
 pub enum FieldRef<'b, Plain, Mask> {
@@ -50,6 +50,19 @@ impl<Plain: PlainHolder, Mask: MaskHolder> FieldRef<'_, Plain, Mask> {
             FieldRef::SaltLen(salt_len) => field_len(number, &salt_len),
             FieldRef::Trailer(trailer) => field_len(number, &trailer),
             FieldRef::PSource(p_source) => field_len(number, p_source),
+        }
+    }
+
+    /// The length of the written field, told quickly.
+    #[inline(always)]
+    fn quick_len(&self) -> u64 {
+        let number = self.number();
+        match *self {
+            FieldRef::Hash(hash) => quick_field_len(number, hash),
+            FieldRef::MaskGen(mask_gen) => quick_field_len(number, mask_gen),
+            FieldRef::SaltLen(salt_len) => quick_field_len(number, &salt_len),
+            FieldRef::Trailer(trailer) => quick_field_len(number, &trailer),
+            FieldRef::PSource(p_source) => quick_field_len(number, p_source),
         }
     }
 
@@ -110,6 +123,9 @@ pub trait Fields {
     /// The length of the fields under a mask. Bit j of `non_defaults` says whether field j differs from its default.
     fn len(&self, non_defaults: u8, mask: u8) -> Result<Length>;
 
+    /// The length of the fields under a mask, told quickly.
+    fn quick_len(&self, non_defaults: u8, mask: u8) -> u64;
+
     /// Appends the fields under a mask.
     fn append<W: Writer>(&self, non_defaults: u8, mask: u8, writer: &mut W) -> Result<()>;
 
@@ -143,6 +159,11 @@ impl Fields for NoField {
     }
 
     #[inline(always)]
+    fn quick_len(&self, _non_defaults: u8, _mask: u8) -> u64 {
+        0
+    }
+
+    #[inline(always)]
     fn append<W: Writer>(&self, _non_defaults: u8, _mask: u8, _writer: &mut W) -> Result<()> {
         Ok(())
     }
@@ -171,6 +192,18 @@ impl<Plain: PlainHolder, Mask: MaskHolder, L: Fields> Fields for FieldThen<'_, P
             later
         } else {
             joined_len(self.first.len(), later)
+        }
+    }
+
+    #[inline(always)]
+    fn quick_len(&self, non_defaults: u8, mask: u8) -> u64 {
+        let (default, non_defaults) = split_non_defaults(non_defaults, &self.first, &self.later);
+        let (left_out, mask) = take_mask_bit(default, mask);
+        let later = self.later.quick_len(non_defaults, mask);
+        if left_out {
+            later
+        } else {
+            later.saturating_add(self.first.quick_len())
         }
     }
 

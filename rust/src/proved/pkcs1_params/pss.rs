@@ -2,7 +2,7 @@
 //! Parameters of RSASSA-PSS (RFC 8017 A.2.3). `try_from` and `from_der_strict` read them by the functions of
 //! `reading.rt`.
 
-use crate::proved::pkcs1_params::contents::{append_contents, contents_len, prepend_contents};
+use crate::proved::pkcs1_params::contents::{append_contents, contents_len, prepend_contents, quick_contents_len};
 use crate::proved::pkcs1_params::error::{Error, Result, fault_of};
 use crate::proved::pkcs1_params::from_view::ReadParams;
 use crate::proved::pkcs1_params::hash_fields::{MaskGenOf, mgf1_with, with_null};
@@ -93,6 +93,11 @@ impl<O, P> TaggedBy for PssParamsOf<O, P> {
 impl<O: IdentifierValue, P: AnyValue> EncodeValue for PssParamsOf<O, P> {
     fn value_len(&self) -> crate::proved::der_core::Result<Length> {
         contents_len(self, non_defaults_in(self), 0)
+    }
+
+    #[inline(always)]
+    fn quick_value_len(&self) -> u64 {
+        quick_contents_len(self, non_defaults_in(self), 0)
     }
 
     fn append_value<W: Writer>(&self, writer: &mut W) -> crate::proved::der_core::Result<()> {

@@ -1,7 +1,7 @@
 // Made of crates/pkcs1_params/src/shortest.rt by tools/erase/erase.py, and not to be edited.
 //! Parameters as their shortest encoding.
 
-use crate::proved::pkcs1_params::contents::{append_contents, contents_len, prepend_contents};
+use crate::proved::pkcs1_params::contents::{append_contents, contents_len, prepend_contents, quick_contents_len};
 use crate::proved::pkcs1_params::spelling::{EncodeParams, non_defaults_in};
 use crate::proved::der_core::{BackWriter, Contents, EncodeValue, Length, Result, SequenceTag, TaggedBy, Writer};
 use crate::proved::spki_core::{AlgorithmView, AssociatedOid, IdentifierValue, IdentifierView};
@@ -44,6 +44,11 @@ impl<T: EncodeParams> TaggedBy for Shortest<T> {
 impl<T: EncodeParams> EncodeValue for Shortest<T> {
     fn value_len(&self) -> Result<Length> {
         contents_len(self.params, self.non_defaults, 0)
+    }
+
+    #[inline(always)]
+    fn quick_value_len(&self) -> u64 {
+        quick_contents_len(self.params, self.non_defaults, 0)
     }
 
     fn append_value<W: Writer>(&self, writer: &mut W) -> Result<()> {

@@ -2,7 +2,7 @@
 //! Spellings of parameters: a mask says which of their defaults are written.
 
 use crate::rattle_std::prelude::{Vec, vec};
-use crate::proved::pkcs1_params::contents::{append_contents, contents_len, prepend_contents};
+use crate::proved::pkcs1_params::contents::{append_contents, contents_len, prepend_contents, quick_contents_len};
 use crate::proved::pkcs1_params::error::Result;
 use crate::proved::pkcs1_params::fields::Fields;
 use crate::proved::der_core::{
@@ -80,6 +80,11 @@ impl<T: EncodeParams> TaggedBy for Spelling<T> {
 impl<T: EncodeParams> EncodeValue for Spelling<T> {
     fn value_len(&self) -> crate::proved::der_core::Result<Length> {
         contents_len(self.params, self.non_defaults, self.mask)
+    }
+
+    #[inline(always)]
+    fn quick_value_len(&self) -> u64 {
+        quick_contents_len(self.params, self.non_defaults, self.mask)
     }
 
     fn append_value<W: Writer>(&self, writer: &mut W) -> crate::proved::der_core::Result<()> {

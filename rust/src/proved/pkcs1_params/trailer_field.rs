@@ -62,6 +62,11 @@ impl EncodeValue for TrailerField {
         (*self as u8).value_len()
     }
 
+    #[inline(always)]
+    fn quick_value_len(&self) -> u64 {
+        (*self as u8).quick_value_len()
+    }
+
     fn append_value<W: Writer>(&self, writer: &mut W) -> Result<()> {
         (*self as u8).append_value(writer)
     }

@@ -95,6 +95,12 @@ impl<O: IdentifierValue, P: Encode> EncodeValue for AlgorithmIdentifierOf<O, P> 
         (oid, Last::borrowed(&self.parameters)).value_len()
     }
 
+    #[inline(always)]
+    fn quick_value_len(&self) -> u64 {
+        let oid = self.oid.as_identifier_view();
+        (oid, Last::borrowed(&self.parameters)).quick_value_len()
+    }
+
     fn append_value<W: Writer>(&self, writer: &mut W) -> Result<()> {
         let oid = self.oid.as_identifier_view();
         (oid, Last::borrowed(&self.parameters)).append_value(writer)

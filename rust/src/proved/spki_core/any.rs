@@ -1,6 +1,7 @@
 // Made of crates/spki_core/src/any.rt by tools/erase/erase.py, and not to be edited.
 //! Encodings of any tag.
 
+use crate::proved::spki_core::context_specific::short_len;
 use crate::proved::spki_core::wide_tag::WideTag;
 use crate::proved::der_core::{
     BackWriter, Decode, DecodeValue, Encode, Encoding, EqualByValue, Error, ErrorKind, FixedTag,
@@ -120,6 +121,11 @@ fn read_any<'a, R: Reader<&'a [u8]>>(reader: &mut R) -> Result<AnyRef<'a>> {
 impl Encode for AnyRef<'_> {
     fn encoded_len(&self) -> Result<Length> {
         self.header().length.for_tlv(self.tag())
+    }
+
+    #[inline(always)]
+    fn quick_len(&self) -> u64 {
+        short_len(self.contents.len() as u64)
     }
 
     fn encode<W: Writer>(&self, writer: &mut W) -> Result<()> {

@@ -3,7 +3,7 @@
 
 use crate::proved::der_core::{
     BackWriter, Decode, Encode, Encoding, ErrorKind, Header, Length, Memory, Reader, Result, Tag,
-    TagNumber, Writer, decode_whole, is_tag_next,
+    TagNumber, UNTOLD, Writer, decode_whole, is_tag_next,
 };
 
 /// A borrowed value that is written inside the tag `[tag_number]`.
@@ -28,9 +28,25 @@ impl<'b, T: Encoding> Encoding for ContextSpecificRef<'b, T> {
     }
 }
 
+/// How many octets a tag, a length and contents of so many octets are, if these are fewer than 128. Else it says
+/// nothing, by more than `Length::MAX`.
+#[inline(always)]
+pub(crate) fn short_len(contents: u64) -> u64 {
+    if contents < 0x80 {
+        contents + 2
+    } else {
+        UNTOLD
+    }
+}
+
 impl<'b, T: Encode> Encode for ContextSpecificRef<'b, T> {
     fn encoded_len(&self) -> Result<Length> {
         self.value.encoded_len()?.for_tlv(self.tag())
+    }
+
+    #[inline(always)]
+    fn quick_len(&self) -> u64 {
+        short_len(self.value.quick_len())
     }
 
     fn encode<W: Writer>(&self, writer: &mut W) -> Result<()> {

@@ -46,6 +46,12 @@ pub fn field_len<T: Encode>(tag_number: TagNumber, value: &T) -> Result<Length> 
     ContextSpecificRef { tag_number, value }.encoded_len()
 }
 
+/// The length of a field as it is written, told quickly. More than `Length::MAX` says nothing of it.
+#[inline(always)]
+pub fn quick_field_len<T: Encode>(tag_number: TagNumber, value: &T) -> u64 {
+    ContextSpecificRef { tag_number, value }.quick_len()
+}
+
 /// Appends a field: `Value` and `Overflow`, as of `field_len`, before any octet, `NoRoom` after a beginning.
 pub fn encode_field<T: Encode, W: Writer>(
     tag_number: TagNumber,

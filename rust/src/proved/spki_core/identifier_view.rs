@@ -119,6 +119,11 @@ impl EncodeValue for IdentifierView<'_> {
         Ok(Length::of(self.octet_count() as usize))
     }
 
+    #[inline(always)]
+    fn quick_value_len(&self) -> u64 {
+        self.octet_count() as u64
+    }
+
     fn append_value<W: Writer>(&self, writer: &mut W) -> Result<()> {
         writer.write(self.as_bytes())
     }

@@ -23,7 +23,8 @@ pub use context_specific::{
     ContextSpecificRef, is_field_next, read_context_specific, read_explicit,
 };
 pub use field::{
-    encode_field, field_len, lemma_fields_are_read, prepend_field, quick_field, read_field,
+    encode_field, field_len, lemma_fields_are_read, prepend_field, quick_field, quick_field_len,
+    read_field,
 };
 pub use identifier_view::{IdentifierValue, IdentifierView};
 pub use object_identifier::{AssociatedOid, ObjectIdentifier, ObjectIdentifierTag};

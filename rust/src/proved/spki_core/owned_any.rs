@@ -67,6 +67,11 @@ impl Encode for Any {
         self.as_any_ref().encoded_len()
     }
 
+    #[inline(always)]
+    fn quick_len(&self) -> u64 {
+        self.as_any_ref().quick_len()
+    }
+
     fn encode<W: Writer>(&self, writer: &mut W) -> Result<()> {
         self.as_any_ref().encode(writer)
     }
