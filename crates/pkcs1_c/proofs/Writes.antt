@@ -1,6 +1,6 @@
 -- What is so of all calls that write: the front, the reason, the code of an error, the needed length. For each call
 -- that returns a status.
-use Rattle.std.proofs.Common.{ℕ, zero, suc, List, ◌≡◌, ◌<◌, ◌∙◌, ◌⊎◌, length, take, refl, sym, subst, arith, rules, inl, inr, Some, length-take-le, ◌↔◌, Result, Ok, Err, IfOk, IfErr, ◌≤◌, ap, ◌++◌, drop}
+use Rattle.std.proofs.Common.{ℕ, zero, suc, List, ◌≡◌, ◌<◌, ◌∙◌, ◌⊎◌, length, take, refl, sym, subst, arith, rules, inl, inr, Some, length-take-le, ◌↔◌, Result, Ok, Err, IfOk, IfErr, ◌≤◌, ◌++◌, drop}
 use Rattle.standard.specs.Statement.{Decodes, Encodes}
 use Rattle.pkcs1_c.specs.Words.{IsErrorOf, NoStatus, FieldsError, PartThen, UnwrittenStatus, EncodingIfHeld, IsShortestLength, WritesOrTells, kind_number, status_of, IsErrorNumber, IsStatusOf}
 use Rattle.pkcs1_c.proofs.StructErrors.{HasOneStatus, IsPartError, fits_written}
@@ -8,10 +8,9 @@ use Rattle.der_core.proofs.Writing.{encode_into_encodes}
 use Rattle.der_core.specs.Words.{EncodeError, Prints, TellsOfBytes, WhyNotCounted, another, encode_error, no_encoding, no_room, written_is_shortest, too_long, limit, Spells, WritesShortest}
 use Rattle.der_core.specs.Writing as writing
 use Rattle.der_core.specs.declared.error.ErrorKind.{ErrorKind}
-use Rattle.pkcs1_params.specs.Words.{IsAsn1, Refuses, WritesOrCounts}
+use Rattle.pkcs1_params.specs.Words.{IsAsn1, WritesOrCounts}
 use Rattle.pkcs1_params.specs.declared.error.Error.{Error}
 use Rattle.pkcs1_params.specs.declared.error.Error.TheVariants as error
-use Rattle.std.proofs.lemmas.Bool.{cases_lt}
 
 -- A status that is the only one is that of the error.
 pub only_status_is_error : (WhyNot : ℕ → Type 0) (s : ℕ) → HasOneStatus WhyNot → 0 < s → WhyNot s → IsErrorOf WhyNot s
@@ -52,9 +51,6 @@ module _ {V W : Type 0} (Encoding : V → List ℕ → Type 0) (v : V) (Other : 
   pub written_as : {old new : List ℕ} {l m s : ℕ} → WritesOrTells Other w old new l m s
       → WritesOrTells Encoding v old new l m s
   written_as told = search rules
-
-  pub unwritten_as : (room s : ℕ) → UnwrittenStatus Other w room s → UnwrittenStatus Encoding v room s
-  unwritten_as room s p = search rules
 
   pub unwritten_error_as : (room s : ℕ) → IsErrorOf (UnwrittenStatus Other w room) s
       → IsErrorOf (UnwrittenStatus Encoding v room) s
@@ -157,9 +153,6 @@ module _ {V : Type 0} (Is : V → Type 0) (Encoding : V → List ℕ → Type 0)
       → UnwrittenStatus Encoding v room (kind_number k)
   kind_unwritten k p = let why = error_unwritten (encode_error k) p in grind arith
 
-  pub status_unwritten : (e : Error) → Refuses Is Encoding v room e → UnwrittenStatus Encoding v room (status_of e)
-  status_unwritten e p = grind (arith, kind_unwritten)
-
 -- A value that was read, and the equal one that a struct has.
 pub decodes_equal_value : {V : Type 0} (Encoding : V → List ℕ → Type 0) {bytes : List ℕ} {u v : V} → u ≡ v
     → Decodes Encoding bytes (Some v) → Decodes Encoding bytes (Some u)
@@ -170,30 +163,6 @@ module _ {S V : Type 0} {valid : S → Type 0} {printed : S → List ℕ} {means
     (law : WritesShortest valid printed means written) (v : V) (ok : valid (written v)) where
   abbrev needed_length : ℕ
   needed_length = length (printed (written v))
-
-  -- No encoding is shorter.
-  needed_least : (bytes : List ℕ) → Spells valid printed means v bytes → needed_length ≤ length bytes
-  needed_least bytes (few, (s, e, known, is)) =
-      let same = ap (λ u. length (printed (written u))) e in
-      let least = law.least s known (omega (arith, few, ap length is)) in grind arith
-
-  -- A number that is this one for a value within the limit is its shortest length.
-  pub needed_is : {m : ℕ} → (valid (written v) → needed_length ≤ limit → m ≡ needed_length) → (n : ℕ)
-      → IsShortestLength (Spells valid printed means) v n → m ≡ n
-  needed_is told n (bytes, short, is) =
-      let less = needed_least bytes short.0 in
-      let few : needed_length ≤ limit = omega (arith, less, short.0.0) in
-      let t = told ok few in
-      let least = short.1 (printed (written v)) (written_is_shortest law v ok few).0 in grind arith
-
-  -- A number that is as before past the limit is so for a value without an encoding.
-  pub needed_kept : {m l : ℕ} → (limit < needed_length → m ≡ l)
-      → ((bytes : List ℕ) → Spells valid printed means v bytes → ⊥)
-      → m ≡ l
-  needed_kept told none = elim (cases_lt limit needed_length) [
-    | inl more ↦ told more
-    | inr few ↦ absurd (none (printed (written v)) (written_is_shortest law v ok (omega (arith, few))).0)
-  ]
 
   -- A value whose length isn't told has no encoding within the limit.
   uncounted_none : (e : EncodeError) → WhyNotCounted (valid (written v)) (Prints valid printed means) v e

@@ -5,7 +5,7 @@ ghost use Rattle.pkcs1_params.specs.Words.{EncodingOfFields};
 ghost use Rattle.pkcs1_c.specs.Words.{IsErrorOf, UnwrittenStatus, WritesOrTells};
 ghost use Rattle.standard.specs.Statement.{AlgorithmEncoding};
 
-use crate::status::{NO_ROOM, OK, kind_number, status};
+use crate::status::{NO_ROOM, OK, kind_number};
 use der_core::{BackWriter, Encode};
 use pkcs1::{EncodeParams, Shortest};
 use pkcs1_params::Written;
@@ -26,17 +26,6 @@ pub(crate) fn written_status(written: Written, len: &mut usize) -> u32
             *len = needed;
             NO_ROOM
         }
-    }
-}
-
-/// Sets `len` to the length of what is written of the value, if that is an encoding within the limit.
-pub(crate) fn set_needed<T: Encode>(value: &T, len: &mut usize)
-    ensures needed { let s = T.written (T.value value.now) in
-        T.valid s → length (T.printed s) ≤ limit → len.new ≡ length (T.printed s) }
-    ensures kept { limit < length (T.printed (T.written (T.value value.now))) → len.new ≡ len.old }
-{
-    if let Ok(length) = value.encoded_len() {
-        *len = length.to_usize();
     }
 }
 
@@ -83,16 +72,7 @@ pub(crate) fn write_params<T: EncodeParams>(params: T, out: &mut [u8], len: &mut
         IsErrorOf (UnwrittenStatus Encoding (T.params params) (length out.old)) result }
 {
     params.lemma_is_valid();
-    match params.encode_params(out) {
-        Ok(count) => {
-            *len = count;
-            OK
-        }
-        Err(error) => {
-            set_needed(&Shortest::of(params), len);
-            status(&error)
-        }
-    }
+    write_encoding(&Shortest::of(params), out, len)
 }
 
 /// Writes the shortest encoding of the algorithm identifier of D with parameters, as `write_encoding` does.

@@ -1,7 +1,7 @@
 // Made of crates/pkcs1_c/src/written.rt by tools/erase/erase.py, and not to be edited.
 //! Encoding into a caller's slice.
 
-use crate::calls::pkcs1_c::status::{NO_ROOM, OK, kind_number, status};
+use crate::calls::pkcs1_c::status::{NO_ROOM, OK, kind_number};
 use crate::proved::der_core::{BackWriter, Encode};
 use crate::proved::pkcs1::{EncodeParams, Shortest};
 use crate::proved::pkcs1_params::Written;
@@ -19,13 +19,6 @@ pub(crate) fn written_status(written: Written, len: &mut usize) -> u32 {
             *len = needed;
             NO_ROOM
         }
-    }
-}
-
-/// Sets `len` to the length of what is written of the value, if that is an encoding within the limit.
-pub(crate) fn set_needed<T: Encode>(value: &T, len: &mut usize) {
-    if let Ok(length) = value.encoded_len() {
-        *len = length.to_usize();
     }
 }
 
@@ -53,16 +46,7 @@ pub(crate) fn write_encoding<T: Encode>(value: &T, out: &mut [u8], len: &mut usi
 /// Writes the shortest encoding of parameters, as `write_encoding` does.
 pub(crate) fn write_params<T: EncodeParams>(params: T, out: &mut [u8], len: &mut usize) -> u32 {
     params.lemma_is_valid();
-    match params.encode_params(out) {
-        Ok(count) => {
-            *len = count;
-            OK
-        }
-        Err(error) => {
-            set_needed(&Shortest::of(params), len);
-            status(&error)
-        }
-    }
+    write_encoding(&Shortest::of(params), out, len)
 }
 
 /// Writes the shortest encoding of the algorithm identifier of D with parameters, as `write_encoding` does.
