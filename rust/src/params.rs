@@ -107,14 +107,16 @@ const fn mgf1<'a, D: AssociatedOid>() -> MaskGen<AnyRef<'a>> {
 }
 
 /// The octets of the identifiers of a hash function, a mask generation function and the hash function under it, if both
-/// hash functions have NULL.
+/// hash functions have NULL, or if `null` is false, none has parameters.
 #[inline]
-fn with_null<'p, P: Held, O: Identifier>(
+fn identifiers<'p, P: Held, O: Identifier>(
+    null: bool,
     hash: &'p AlgorithmIdentifier<P, O>,
     mask_gen: &'p MaskGen<P, O>,
 ) -> Option<[&'p [u8]; 3]> {
     let under = mask_gen.parameters.as_ref()?;
-    (hash.has_null() && under.has_null()).then(|| [hash.octets(), mask_gen.octets(), under.octets()])
+    let fits = |it: &AlgorithmIdentifier<P, O>| if null { it.has_null() } else { it.parameters.is_none() };
+    (fits(hash) && fits(under)).then(|| [hash.octets(), mask_gen.octets(), under.octets()])
 }
 
 /// Whether the hash function is D, and the mask generation function is MGF1 with D. No view is made of the other fields.
@@ -130,8 +132,20 @@ impl<P: Held, O: Identifier> RsaPssParams<P, O> {
     /// Writes the encoding, alone or in an algorithm identifier, if it is known.
     #[inline]
     pub(crate) fn write_known(&self, place: proved::Place, out: &mut [u8]) -> Option<proved::Written> {
-        let [hash, mask_gen, under] = with_null(&self.hash, &self.mask_gen)?;
-        proved::encode_known_pss(hash, mask_gen, under, self.salt_len, place, out)
+        if self.hash.parameters.is_some() { self.write_with(true, place, out) } else { self.write_bare(place, out) }
+    }
+
+    /// The same, if both hash functions have NULL, or if `null` is false, none has parameters.
+    #[inline(always)]
+    fn write_with(&self, null: bool, place: proved::Place, out: &mut [u8]) -> Option<proved::Written> {
+        let [hash, mask_gen, under] = identifiers(null, &self.hash, &self.mask_gen)?;
+        proved::encode_known_pss(null, hash, mask_gen, under, self.salt_len, place, out)
+    }
+
+    /// The same, out of line, if none has parameters.
+    #[inline(never)]
+    fn write_bare(&self, place: proved::Place, out: &mut [u8]) -> Option<proved::Written> {
+        self.write_with(false, place, out)
     }
 }
 
@@ -149,11 +163,23 @@ impl<P: Held, O: Identifier> RsaOaepParams<P, O> {
     /// Writes the encoding, alone or in an algorithm identifier, if it is known.
     #[inline]
     pub(crate) fn write_known(&self, place: proved::Place, out: &mut [u8]) -> Option<proved::Written> {
-        let [hash, mask_gen, under] = with_null(&self.hash, &self.mask_gen)?;
+        if self.hash.parameters.is_some() { self.write_with(true, place, out) } else { self.write_bare(place, out) }
+    }
+
+    /// The same, out of line, if no hash function has parameters.
+    #[inline(never)]
+    fn write_bare(&self, place: proved::Place, out: &mut [u8]) -> Option<proved::Written> {
+        self.write_with(false, place, out)
+    }
+
+    /// The same, if both hash functions have NULL, or if `null` is false, none has parameters.
+    #[inline(always)]
+    fn write_with(&self, null: bool, place: proved::Place, out: &mut [u8]) -> Option<proved::Written> {
+        let [hash, mask_gen, under] = identifiers(null, &self.hash, &self.mask_gen)?;
         let source = self.p_source.parameters.as_ref()?.as_any();
         if source.tag() != Tag::OCTET_STRING {
             return None;
         }
-        proved::encode_known_oaep(hash, mask_gen, under, self.p_source.octets(), source.value(), place, out)
+        proved::encode_known_oaep(null, hash, mask_gen, under, self.p_source.octets(), source.value(), place, out)
     }
 }

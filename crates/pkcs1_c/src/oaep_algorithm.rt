@@ -52,7 +52,7 @@ pub extern "C" fn pkcs1_c_oaep_algorithm_decode_strict<'a>(
 }
 
 /// Writes the shortest encoding of the algorithm identifier, field by field.
-#[inline(never)]
+#[inline(always)]
 fn write_fields(params: &OaepParams<'_>, out: &mut [u8], len: &mut usize) -> u32
     ensures writes { WritesOrTells OaepAlgorithmEncoding (oaep_seen params.now) out.old out.new len.old len.new result }
     ensures exact { let v = oaep_seen params.now in
@@ -61,6 +61,20 @@ fn write_fields(params: &OaepParams<'_>, out: &mut [u8], len: &mut usize) -> u32
     match from_c_oaep(params) {
         Ok(made) => write_algorithm::<RsaesOaep, _>(&made, out, len),
         Err(failure) => status(&failure),
+    }
+}
+
+/// Writes the shortest encoding of the algorithm identifier, at once if it is known and no hash function has parameters,
+/// else field by field.
+#[inline(never)]
+fn write_others(params: &OaepParams<'_>, out: &mut [u8], len: &mut usize) -> u32
+    ensures writes { WritesOrTells OaepAlgorithmEncoding (oaep_seen params.now) out.old out.new len.old len.new result }
+    ensures exact { let v = oaep_seen params.now in
+        IsErrorOf (FieldsError OaepFieldError OaepAlgorithmEncoding v (length out.old)) result }
+{
+    match write_known(false, params, Some(RSAES_OAEP), out) {
+        Some(written) => written_status(written, len),
+        None => write_fields(params, out, len),
     }
 }
 
@@ -77,8 +91,8 @@ pub extern "C" fn pkcs1_c_oaep_algorithm_encode(
     ensures exact { let v = oaep_seen params.now in
         IsErrorOf (FieldsError OaepFieldError OaepAlgorithmEncoding v (length out.old)) result }
 {
-    match write_known(params, Some(RSAES_OAEP), out) {
+    match write_known(true, params, Some(RSAES_OAEP), out) {
         Some(written) => written_status(written, len),
-        None => write_fields(params, out, len),
+        None => write_others(params, out, len),
     }
 }

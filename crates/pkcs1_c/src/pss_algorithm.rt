@@ -52,7 +52,7 @@ pub extern "C" fn pkcs1_c_pss_algorithm_decode_strict<'a>(
 }
 
 /// Writes the shortest encoding of the algorithm identifier, field by field.
-#[inline(never)]
+#[inline(always)]
 fn write_fields(params: &PssParams<'_>, out: &mut [u8], len: &mut usize) -> u32
     ensures writes { WritesOrTells PssAlgorithmEncoding (pss_seen params.now) out.old out.new len.old len.new result }
     ensures exact { let v = pss_seen params.now in
@@ -61,6 +61,20 @@ fn write_fields(params: &PssParams<'_>, out: &mut [u8], len: &mut usize) -> u32
     match from_c_pss(params) {
         Ok(made) => write_algorithm::<RsassaPss, _>(&made, out, len),
         Err(failure) => status(&failure),
+    }
+}
+
+/// Writes the shortest encoding of the algorithm identifier, at once if it is known and no hash function has parameters,
+/// else field by field.
+#[inline(never)]
+fn write_others(params: &PssParams<'_>, out: &mut [u8], len: &mut usize) -> u32
+    ensures writes { WritesOrTells PssAlgorithmEncoding (pss_seen params.now) out.old out.new len.old len.new result }
+    ensures exact { let v = pss_seen params.now in
+        IsErrorOf (FieldsError PssFieldError PssAlgorithmEncoding v (length out.old)) result }
+{
+    match write_known(false, params, Some(RSASSA_PSS), out) {
+        Some(written) => written_status(written, len),
+        None => write_fields(params, out, len),
     }
 }
 
@@ -76,8 +90,8 @@ pub extern "C" fn pkcs1_c_pss_algorithm_encode(
     ensures exact { let v = pss_seen params.now in
         IsErrorOf (FieldsError PssFieldError PssAlgorithmEncoding v (length out.old)) result }
 {
-    match write_known(params, Some(RSASSA_PSS), out) {
+    match write_known(true, params, Some(RSASSA_PSS), out) {
         Some(written) => written_status(written, len),
-        None => write_fields(params, out, len),
+        None => write_others(params, out, len),
     }
 }

@@ -1,12 +1,12 @@
 -- Parameters that are written as known octets: these are what is written where no default is, so they are the shortest
 -- encoding. For `src/known.rt`.
-use Rattle.std.proofs.Common.{ℕ, List, [], ◌∷◌, ◌++◌, ◌==◌, ◌≡◌, ◌≤◌, ◌<◌, ◌+◌, refl, append-nil, ap, true, false, arith, rules, subst, sym, ◌∙◌, length, length-append, drop, inl, inr, nat_lt, None, Some, Option, Result, Ok, Err}
+use Rattle.std.proofs.Common.{ℕ, Bool, List, [], ◌∷◌, ◌++◌, ◌==◌, ◌≡◌, ◌≤◌, ◌<◌, ◌+◌, refl, append-nil, ap, true, false, arith, rules, subst, sym, ◌∙◌, length, length-append, drop, inl, inr, nat_lt, None, Some, Option, Result, Ok, Err}
 use Rattle.der_core.specs.Words.{nat_tests, AreBytes, length_octets-short, small_contents_as, written_encodes}
-use Rattle.spki_core.specs.Words.{FieldRecord, Kind, Values, is_identifier-sound, null_value, record_under, spelling_printed, spelling_under}
+use Rattle.spki_core.specs.Words.{FieldRecord, Kind, Values, is_identifier-sound, record_under, spelling_printed, spelling_under}
 use Rattle.spki_core.proofs.RecordEncodings.{encoding_under, encoding_under_zero_shortest}
-use Rattle.pkcs1_params.specs.Words.{hash_algorithm, hash_kind, mask_kind, mgf1_identifier, label_front, oaep_record, octets_value, pkcs1_algorithm, pss_lawful, pss_record, salt_kind, source_identifier, source_kind, trailer_kind, id_p_specified, EncodingOfFields, AreKnown, InPlace, IsKnownHash, PutsOrCounts, WritesOrCounts, known_fields, known_label, long_salt_field, oaep_with_hashes, place_front, pss_with_hashes, salt_field, with_parameters}
+use Rattle.pkcs1_params.specs.Words.{hash_algorithm, hash_kind, hash_of, mask_kind, mgf1_identifier, label_front, oaep_record, octets_value, pkcs1_algorithm, pss_lawful, pss_record, salt_kind, source_identifier, source_kind, trailer_kind, id_p_specified, EncodingOfFields, AreKnown, InPlace, IsKnownHash, PutsOrCounts, WritesOrCounts, known_fields, known_label, long_salt_field, oaep_with_hashes, place_front, pss_with_hashes, salt_field, with_parameters}
 use Rattle.pkcs1_params.proofs.Wrapped.{shortest_outside, wrapped}
-use Rattle.standard.specs.Statement.{Encodes, Field, IsIdentifier, IsShortest, length_octets, sequence, tlv}
+use Rattle.standard.specs.Statement.{Encodes, Field, IsAlgorithm, IsAny, IsIdentifier, IsShortest, length_octets, sequence, tlv}
 
 -- A value that may be encoded, of which these contents octets in two parts are written where no default is.
 pub record AreWritten {V : Type 0} {Is : V → Type 0} {fields : V → List Field} (r : FieldRecord Is fields) (v : V)
@@ -73,51 +73,63 @@ label_some (x ∷ y) some few =
 
 -- Fields of known hash functions.
 module _ (hash mask_gen inner : List ℕ) where
-  known_identifier : (oid : List ℕ) (known : Option ℕ) → IsKnownHash oid known → IsIdentifier oid
-  known_identifier oid None is = rw is pss_lawful.3.0
-  known_identifier oid (Some n) (few, is) = rw is (hash_identifier n few)
+  -- What is held of one may be encoded.
+  known_identifier : (null : Bool) (oid : List ℕ) (known : Option ℕ) → IsKnownHash null oid known → IsIdentifier oid
+  known_identifier null oid None is = rw is.1 pss_lawful.3.0
+  known_identifier null oid (Some n) (few, is) = rw is (hash_identifier n few)
+
+  known_held : (null : Bool) (oid : List ℕ) → IsIdentifier oid → IsAlgorithm IsAny (hash_of null oid)
+  known_held true oid is = (is, (refl, tt))
+  known_held false oid is = (is, tt)
 
   -- They are few octets.
-  known_fields_few : (h u : Option ℕ) → length (known_fields h u) ≤ 47
-  known_fields_few None None = omega arith
-  known_fields_few None (Some n) = omega arith
-  known_fields_few (Some n) None = omega arith
-  known_fields_few (Some n) (Some m) = omega arith
+  known_fields_few : (null : Bool) (h u : Option ℕ) → length (known_fields null h u) ≤ 47
+  known_fields_few null None None = omega arith
+  known_fields_few true None (Some n) = omega arith
+  known_fields_few true (Some n) None = omega arith
+  known_fields_few true (Some n) (Some m) = omega arith
+  known_fields_few false None (Some n) = omega arith
+  known_fields_few false (Some n) None = omega arith
+  known_fields_few false (Some n) (Some m) = omega arith
 
   -- They are what is written of both fields, where no default is.
-  known_fields_written : (ks : List Kind) (v : Values ks) (l : List ℕ) (h u : Option ℕ)
-      → AreKnown hash mask_gen inner h u
+  known_fields_written : (null : Bool) (ks : List Kind) (v : Values ks) (l : List ℕ) (h u : Option ℕ)
+      → AreKnown null hash mask_gen inner h u
       → AreBehind ks v l → spelling_printed (hash_kind ∷ mask_kind ∷ ks) (spelling_under (hash_kind ∷ mask_kind ∷ ks) 0
-      (with_parameters hash null_value, (with_parameters mask_gen (with_parameters inner null_value), v)))
-      ≡ known_fields h u ++ l
+      (hash_of null hash, (with_parameters mask_gen (hash_of null inner), v)))
+      ≡ known_fields null h u ++ l
   unfolding length_octets
-  known_fields_written ks v l None None (mask, is, same) w = rw (mask, is, same, w) refl
-  known_fields_written ks v l None (Some n) (mask, is, same) w = rw (mask, is, same.1, w) refl
-  known_fields_written ks v l (Some n) None (mask, is, same) w = rw (mask, is.1, same, w) refl
-  known_fields_written ks v l (Some n) (Some m) (mask, is, same) w = rw (mask, is.1, same.1, w) refl
+  known_fields_written true ks v l None None (mask, is, same) w = rw (mask, is.1, same.1, w) refl
+  known_fields_written true ks v l None (Some n) (mask, is, same) w = rw (mask, is.1, same.1, w) refl
+  known_fields_written true ks v l (Some n) None (mask, is, same) w = rw (mask, is.1, same.1, w) refl
+  known_fields_written true ks v l (Some n) (Some m) (mask, is, same) w = rw (mask, is.1, same.1, w) refl
+  known_fields_written false ks v l None u (mask, is, same) w = let no : false ≡ true = is.0 in cc
+  known_fields_written false ks v l (Some n) None (mask, is, same) w = let no : false ≡ true = same.0 in cc
+  known_fields_written false ks v l (Some n) (Some m) (mask, is, same) w = rw (mask, is.1, same.1, w) refl
 
   -- So it is with a salt length behind them.
-  pub known_pss : (h u : Option ℕ) (s : ℕ) (l : List ℕ) → AreKnown hash mask_gen inner h u → s < 256 → SaltBehind s l
-      → AreWritten pss_record (pss_with_hashes hash mask_gen inner s) (known_fields h u) l
-  known_pss h u s l known byte w =
-      let first = known_identifier hash h known.1 in
-      let second = known_identifier inner u known.2 in record {
-        valid = ((first, (refl, tt)), (rw known.0 mgf1_identifier, (second, (refl, tt))), byte, refl);
-        written = known_fields_written (salt_kind ∷ trailer_kind ∷ []) (s, (1, tt)) l h u known w;
-        few = known_fields_few h u;
+  pub known_pss : (null : Bool) (h u : Option ℕ) (s : ℕ) (l : List ℕ) → AreKnown null hash mask_gen inner h u → s < 256
+      → SaltBehind s l → AreWritten pss_record (pss_with_hashes null hash mask_gen inner s) (known_fields null h u) l
+  known_pss null h u s l known byte w =
+      let first = known_held null hash (known_identifier null hash h known.1) in
+      let second = known_held null inner (known_identifier null inner u known.2) in record {
+        valid = (first, (rw known.0 mgf1_identifier, second), byte, refl);
+        written = known_fields_written null (salt_kind ∷ trailer_kind ∷ []) (s, (1, tt)) l h u known w;
+        few = known_fields_few null h u;
       }
 
   -- So it is with a label behind them.
-  pub known_oaep : (h u : Option ℕ) (p label l : List ℕ) → AreKnown hash mask_gen inner h u → p ≡ id_p_specified
-      → AreBytes label → LabelBehind label l
-      → AreWritten oaep_record (oaep_with_hashes hash mask_gen inner p label) (known_fields h u) l
-  known_oaep h u p label l known source bytes w =
-      let first = known_identifier hash h known.1 in
-      let second = known_identifier inner u known.2 in
+  pub known_oaep : (null : Bool) (h u : Option ℕ) (p label l : List ℕ) → AreKnown null hash mask_gen inner h u
+      → p ≡ id_p_specified → AreBytes label → LabelBehind label l
+      → AreWritten oaep_record (oaep_with_hashes null hash mask_gen inner p label) (known_fields null h u) l
+  known_oaep null h u p label l known source bytes w =
+      let first = known_held null hash (known_identifier null hash h known.1) in
+      let second = known_held null inner (known_identifier null inner u known.2) in
       rw source (record {
-        valid = ((first, (refl, tt)), (rw known.0 mgf1_identifier, (second, (refl, tt))), (source_identifier, (refl, bytes)));
-        written = known_fields_written (source_kind ∷ []) (with_parameters id_p_specified (octets_value label), tt) l h u known w;
-        few = known_fields_few h u;
+        valid = (first, (rw known.0 mgf1_identifier, second), (source_identifier, (refl, bytes)));
+        written =
+            known_fields_written null (source_kind ∷ []) (with_parameters id_p_specified (octets_value label), tt) l h u known w;
+        few = known_fields_few null h u;
       })
 
 -- The identifier of an algorithm of PKCS #1, and it in front of few octets.

@@ -1,6 +1,6 @@
 -- hashAlgorithm and maskGenAlgorithm of a hash function of NIST with NULL, and MGF1 with the same hash function (RFC 8017
 -- A.2.1, A.2.3, B.1): most parameters begin with them.
-use Rattle.std.specs.Prelude.{ℕ, List, [], ◌∷◌, ◌++◌, ◌+◌, ◌≡◌, ◌<◌, drop, length, Option, Some, None, Result, Ok, Err}
+use Rattle.std.specs.Prelude.{ℕ, Bool, true, false, List, [], ◌∷◌, ◌++◌, ◌+◌, ◌≡◌, ◌<◌, drop, length, Option, Some, None, Result, Ok, Err}
 use Rattle.spki_core.specs.Words.{Algorithm, TagAndContents, null_value}
 use Rattle.pkcs1_params.specs.HashFunctions.{hash_algorithm}
 use Rattle.pkcs1_params.specs.OaepValue.{labelled}
@@ -60,22 +60,45 @@ IsUsualOaep p contents = AreUsual p.hash contents × (p ≡ oaep_with_hash p.has
 abbrev pub long_salt_field : ℕ → List ℕ
 long_salt_field s = 0xa2 ∷ 0x04 ∷ 0x02 ∷ 0x02 ∷ 0x00 ∷ s ∷ []
 
--- A hash function whose field is known: that of NIST with this number (hash_algorithm), or SHA-1.
-abbrev pub IsKnownHash : List ℕ → Option ℕ → Type 0
-IsKnownHash oid None = oid ≡ id_sha1
-IsKnownHash oid (Some n) = (n < 128) × (oid ≡ hash_algorithm n)
+-- The encoding of a hash function whose identifier has nine octets, without parameters, and both fields with it.
+abbrev pub bare_hash : List ℕ → List ℕ
+bare_hash oid = 0x30 ∷ 0x0b ∷ 0x06 ∷ 0x09 ∷ oid
 
--- What is written for it: nothing for SHA-1, which is the default.
+abbrev pub bare_field : List ℕ → List ℕ
+bare_field oid = 0xa0 ∷ 0x0d ∷ bare_hash oid
+
+abbrev pub bare_mask_field : List ℕ → List ℕ
+bare_mask_field oid = 0xa1 ∷ 0x1a ∷ 0x30 ∷ 0x18 ∷ 0x06 ∷ 0x09 ∷ id_mgf1 ++ bare_hash oid
+
+-- A hash function with NULL, or without parameters, and its fields.
+abbrev pub hash_of : Bool → List ℕ → Algorithm TagAndContents
+hash_of true oid = with_parameters oid null_value
+hash_of false oid = record { oid = oid; parameters = None }
+
+abbrev pub hash_field_of : Bool → List ℕ → List ℕ
+hash_field_of true = field_with_hash
+hash_field_of false = bare_field
+
+abbrev pub mask_field_of : Bool → List ℕ → List ℕ
+mask_field_of true = mask_field_with_hash
+mask_field_of false = bare_mask_field
+
+-- A hash function whose field is known: that of NIST with this number (hash_algorithm), or SHA-1 with NULL.
+abbrev pub IsKnownHash : Bool → List ℕ → Option ℕ → Type 0
+IsKnownHash null oid None = (null ≡ true) × (oid ≡ id_sha1)
+IsKnownHash null oid (Some n) = (n < 128) × (oid ≡ hash_algorithm n)
+
+-- What is written for it: nothing for SHA-1 with NULL, which is the default.
 abbrev pub known_field : (List ℕ → List ℕ) → Option ℕ → List ℕ
 known_field field None = []
 known_field field (Some n) = field (hash_algorithm n)
 
-abbrev pub known_fields : Option ℕ → Option ℕ → List ℕ
-known_fields hash under = known_field field_with_hash hash ++ known_field mask_field_with_hash under
+abbrev pub known_fields : Bool → Option ℕ → Option ℕ → List ℕ
+known_fields null hash under = known_field (hash_field_of null) hash ++ known_field (mask_field_of null) under
 
 -- Both hash functions are known, and the mask generation function is MGF1.
-abbrev pub AreKnown : List ℕ → List ℕ → List ℕ → Option ℕ → Option ℕ → Type 0
-AreKnown hash mask_gen under h u = (mask_gen ≡ id_mgf1) × IsKnownHash hash h × IsKnownHash under u
+abbrev pub AreKnown : Bool → List ℕ → List ℕ → List ℕ → Option ℕ → Option ℕ → Type 0
+AreKnown null hash mask_gen under h u = (mask_gen ≡ id_mgf1) × IsKnownHash null hash h × IsKnownHash null under u
 
 -- Where parameters stand: alone, or in the algorithm identifier of PKCS #1 with this number.
 abbrev pub InPlace : {V : Type 0} → Option ℕ → (V → List ℕ → Type 0) → V → List ℕ → Type 0
@@ -93,12 +116,12 @@ known_label None = 64
 known_label (Some n) = 51
 
 -- Identifiers, and a label, of parameters that are written as known octets.
-abbrev pub IsKnownPss : List ℕ → List ℕ → List ℕ → Type 0
-IsKnownPss hash mask_gen under = (h : Option ℕ) × (u : Option ℕ) × AreKnown hash mask_gen under h u
+abbrev pub IsKnownPss : Bool → List ℕ → List ℕ → List ℕ → Type 0
+IsKnownPss null hash mask_gen under = (h : Option ℕ) × (u : Option ℕ) × AreKnown null hash mask_gen under h u
 
-abbrev pub IsKnownOaep : Option ℕ → List ℕ → List ℕ → List ℕ → List ℕ → List ℕ → Type 0
-IsKnownOaep place hash mask_gen under source label =
-    IsKnownPss hash mask_gen under × (source ≡ id_p_specified) × (length label < known_label place)
+abbrev pub IsKnownOaep : Bool → Option ℕ → List ℕ → List ℕ → List ℕ → List ℕ → List ℕ → Type 0
+IsKnownOaep null place hash mask_gen under source label =
+    IsKnownPss null hash mask_gen under × (source ≡ id_p_specified) × (length label < known_label place)
 
 -- Octets were written over a slice, and their length is told; or they are longer than it, and it stayed as it was.
 abbrev pub PutsOrCounts : List ℕ → List ℕ → List ℕ → Result ℕ ℕ → Type 0
@@ -112,13 +135,13 @@ WritesOrCounts Encoding v old new (Ok n) = Encodes Encoding v old new (Some n)
 WritesOrCounts Encoding v old new (Err n) =
     (new ≡ old) × (length old < n) × (bytes : List ℕ) × IsShortest Encoding v bytes × (n ≡ length bytes)
 
-abbrev pub pss_with_hashes : List ℕ → List ℕ → List ℕ → ℕ → PssParameters
-pss_with_hashes hash mask_gen under s = record (pss_with_hash (with_parameters hash null_value) s) {
-  mask_gen = with_parameters mask_gen (with_parameters under null_value);
+abbrev pub pss_with_hashes : Bool → List ℕ → List ℕ → List ℕ → ℕ → PssParameters
+pss_with_hashes null hash mask_gen under s = record (pss_with_hash (hash_of null hash) s) {
+  mask_gen = with_parameters mask_gen (hash_of null under);
 }
 
-abbrev pub oaep_with_hashes : List ℕ → List ℕ → List ℕ → List ℕ → List ℕ → OaepParameters
-oaep_with_hashes hash mask_gen under source label = record (labelled hash label) {
-  mask_gen = with_parameters mask_gen (with_parameters under null_value);
+abbrev pub oaep_with_hashes : Bool → List ℕ → List ℕ → List ℕ → List ℕ → List ℕ → OaepParameters
+oaep_with_hashes null hash mask_gen under source label = record (oaep_with_hash (hash_of null hash)) {
+  mask_gen = with_parameters mask_gen (hash_of null under);
   p_source = with_parameters source (octets_value label);
 }

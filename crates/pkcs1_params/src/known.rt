@@ -1,18 +1,16 @@
-//! Writing of parameters whose hash functions are known: SHA-1 and those of NIST, with NULL. Most are such, so they are
-//! written as octets that are known, without a test of their identifiers, and their length is known without writing.
+//! Writing of parameters whose hash functions are known: SHA-1 and those of NIST with NULL, or those of NIST without
+//! parameters. Most are such, so they are written as octets that are known, without a test of their identifiers, and
+//! their length is known without writing. `null` says whether both hash functions have NULL. Else none has parameters.
 ghost use Rattle.std.specs.Prelude.{◌≡◌, ◌+◌, ◌<◌, ◌≤◌, ◌∷◌, ◌++◌, length, IfSome, None, Option, ℕ};
 ghost use Rattle.der_core.specs.Words.{Prepends, free_of, sequence_octet};
-ghost use Rattle.pkcs1_params.specs.Words.{AreKnown, InPlace, IsKnownHash, IsKnownOaep, IsKnownPss, PutsOrCounts, WritesOrCounts, field_with_hash, hash_algorithm, known_fields, known_label, label_front, mask_field_with_hash, oaep_with_hashes, place_front, pss_with_hashes};
+ghost use Rattle.pkcs1_params.specs.Words.{AreKnown, InPlace, IsKnownHash, IsKnownOaep, IsKnownPss, PutsOrCounts, WritesOrCounts, known_fields, known_label, label_front, oaep_with_hashes, place_front, pss_with_hashes};
 ghost use Rattle.standard.specs.Statement.{OaepEncoding, PssEncoding};
 
 use crate::hash_fields::{is_mgf1, is_sha1};
+use crate::known_fields::{KnownHash, fields_len, prepend_fields};
 use crate::label::is_p_specified;
 use crate::pss::RsaPssParamsRef;
 use der_core::BackWriter;
-
-/// A hash function whose octets are known: that of NIST with this number, or SHA-1, which is the default and isn't
-/// written.
-type KnownHash = Option<u8>;
 
 /// Where parameters stand: alone, or in the algorithm identifier of PKCS #1 with this number.
 pub type Place = Option<u8>;
@@ -28,11 +26,11 @@ pub type Written = Result<usize, usize>;
 
 /// The hash function with this identifier, if it is known.
 #[inline(always)]
-fn known_hash(oid: &[u8]) -> Option<KnownHash>
-    ensures some { IfSome result (λ known. IsKnownHash oid.now known) }
-    ensures none { result ≡ None → (known : Option ℕ) → IsKnownHash oid.now known → ⊥ }
+fn known_hash(null: bool, oid: &[u8]) -> Option<KnownHash>
+    ensures some { IfSome result (λ known. IsKnownHash null oid.now known) }
+    ensures none { result ≡ None → (known : Option ℕ) → IsKnownHash null oid.now known → ⊥ }
 {
-    if is_sha1(oid) {
+    if null && is_sha1(oid) {
         return Some(None);
     }
     match oid {
@@ -57,62 +55,21 @@ fn known_hash(oid: &[u8]) -> Option<KnownHash>
 
 /// Both hash functions, if they are known, and the mask generation function is MGF1.
 #[inline(always)]
-fn known_hashes(hash: &[u8], mask_gen: &[u8], under: &[u8]) -> Option<(KnownHash, KnownHash)>
-    ensures some { IfSome result (λ known. AreKnown hash.now mask_gen.now under.now known.0 known.1) }
-    ensures none { result ≡ None → IsKnownPss hash.now mask_gen.now under.now → ⊥ }
+fn known_hashes(
+    null: bool,
+    hash: &[u8],
+    mask_gen: &[u8],
+    under: &[u8],
+) -> Option<(KnownHash, KnownHash)>
+    ensures some { IfSome result (λ known. AreKnown null hash.now mask_gen.now under.now known.0 known.1) }
+    ensures none { result ≡ None → IsKnownPss null hash.now mask_gen.now under.now → ⊥ }
 {
     if !is_mgf1(mask_gen) {
         return None;
     }
-    let hash = known_hash(hash)?;
-    let under = known_hash(under)?;
+    let hash = known_hash(null, hash)?;
+    let under = known_hash(null, under)?;
     Some((hash, under))
-}
-
-/// The field hashAlgorithm of the hash function of NIST with this number.
-#[inline(always)]
-fn hash_field(number: u8) -> [u8; 17]
-    ensures { result ≡ field_with_hash (hash_algorithm number) }
-{
-    [
-        0xa0, 0x0f, 0x30, 0x0d, 0x06, 0x09, 0x60, 0x86, 0x48, 0x01, 0x65, 0x03, 0x04, 0x02, number,
-        0x05, 0x00,
-    ]
-}
-
-/// The field maskGenAlgorithm: MGF1 with that hash function.
-#[inline(always)]
-fn mask_field(number: u8) -> [u8; 30]
-    ensures { result ≡ mask_field_with_hash (hash_algorithm number) }
-{
-    [
-        0xa1, 0x1c, 0x30, 0x1a, 0x06, 0x09, 0x2a, 0x86, 0x48, 0x86, 0xf7, 0x0d, 0x01, 0x01, 0x08,
-        0x30, 0x0d, 0x06, 0x09, 0x60, 0x86, 0x48, 0x01, 0x65, 0x03, 0x04, 0x02, number, 0x05, 0x00,
-    ]
-}
-
-/// How many octets both fields have.
-#[inline(always)]
-fn fields_len(hash: KnownHash, under: KnownHash) -> usize
-    ensures { result ≡ length (known_fields hash under) }
-{
-    let hash_len = if hash.is_some() { 17 } else { 0 };
-    let mask_len = if under.is_some() { 30 } else { 0 };
-    hash_len + mask_len
-}
-
-/// Writes both fields in front of what is filled.
-#[inline(always)]
-fn prepend_fields(hash: KnownHash, under: KnownHash, writer: &mut BackWriter<'_>)
-    requires { length (known_fields hash under) ≤ free_of writer.old }
-    ensures { Prepends (known_fields hash under) writer.old writer.new }
-{
-    if let Some(number) = under {
-        writer.prepend(&mask_field(number));
-    }
-    if let Some(number) = hash {
-        writer.prepend(&hash_field(number));
-    }
 }
 
 /// How many octets stand in front of parameters.
@@ -153,6 +110,7 @@ fn prepend_front(place: Place, count: u8, writer: &mut BackWriter<'_>)
 /// and of octets in two parts.
 #[inline(always)]
 fn put(
+    null: bool,
     hash: KnownHash,
     under: KnownHash,
     later: &[u8],
@@ -161,11 +119,11 @@ fn put(
     out: &mut [u8],
 ) -> Written
     requires { length later.now + length last.now + length (place_front place 0) ≤ 80 }
-    ensures { let contents = known_fields hash under ++ (later.now ++ last.now) in
+    ensures { let contents = known_fields null hash under ++ (later.now ++ last.now) in
         let params = sequence_octet ∷ length contents ∷ contents in
         PutsOrCounts (place_front place (length params) ++ params) out.old out.new result }
 {
-    let count = fields_len(hash, under) + later.len() + last.len();
+    let count = fields_len(null, hash, under) + later.len() + last.len();
     let len = front_len(place) + 2 + count;
     if out.len() < len {
         return Err(len);
@@ -174,7 +132,7 @@ fn put(
     let mut writer = BackWriter::new(region);
     writer.prepend(last);
     writer.prepend(later);
-    prepend_fields(hash, under, &mut writer);
+    prepend_fields(null, hash, under, &mut writer);
     writer.prepend(&[0x30, count as u8]);
     prepend_front(place, 2 + count as u8, &mut writer);
     Ok(len)
@@ -208,12 +166,13 @@ fn label_front(count: u8) -> [u8; 17]
 }
 
 /// Writes the shortest encoding of RSASSA-PSS parameters with these identifiers and this salt length to the front of a
-/// slice, alone or in their algorithm identifier, if it is known and there is room. Both hash functions have NULL.
-/// Some(Ok(n)): it is the first n octets. Some(Err(n)): it has n octets, the slice is shorter, and is as it was. None:
-/// the slice is as it was. Some exactly if the mask generation function is MGF1, and both hash functions are SHA-1 or
-/// in NIST's arc of hash functions, with a number below 128.
+/// slice, alone or in their algorithm identifier, if it is known and there is room. Some(Ok(n)): it is the first n
+/// octets. Some(Err(n)): it has n octets, the slice is shorter, and is as it was. None: the slice is as it was. Some
+/// exactly if the mask generation function is MGF1, and each hash function is SHA-1 with NULL, or is in NIST's arc of
+/// hash functions, with a number below 128.
 #[inline(always)]
 pub fn encode_known_pss(
+    null: bool,
     hash: &[u8],
     mask_gen: &[u8],
     under: &[u8],
@@ -221,22 +180,22 @@ pub fn encode_known_pss(
     place: Place,
     out: &mut [u8],
 ) -> Option<Written>
-    ensures written { let params = pss_with_hashes hash.now mask_gen.now under.now salt_len in
+    ensures written { let params = pss_with_hashes null hash.now mask_gen.now under.now salt_len in
         IfSome result (WritesOrCounts (InPlace place PssEncoding) params out.old out.new) }
     ensures unchanged { result ≡ None → out.new ≡ out.old }
-    ensures known { IfSome result (λ _. IsKnownPss hash.now mask_gen.now under.now) }
-    ensures none { result ≡ None → IsKnownPss hash.now mask_gen.now under.now → ⊥ }
+    ensures known { IfSome result (λ _. IsKnownPss null hash.now mask_gen.now under.now) }
+    ensures none { result ≡ None → IsKnownPss null hash.now mask_gen.now under.now → ⊥ }
 {
-    let (hash, under) = known_hashes(hash, mask_gen, under)?;
+    let (hash, under) = known_hashes(null, hash, mask_gen, under)?;
     if salt_len == RsaPssParamsRef::SALT_LEN_DEFAULT {
-        return Some(put(hash, under, &[], &[], place, out));
+        return Some(put(null, hash, under, &[], &[], place, out));
     }
     if salt_len < 0x80 {
         let salt = [0xa2, 0x03, 0x02, 0x01, salt_len];
-        return Some(put(hash, under, &salt, &[], place, out));
+        return Some(put(null, hash, under, &salt, &[], place, out));
     }
     let salt = [0xa2, 0x04, 0x02, 0x02, 0x00, salt_len];
-    Some(put(hash, under, &salt, &[], place, out))
+    Some(put(null, hash, under, &salt, &[], place, out))
 }
 
 /// How many octets a label may not have whose length, and those around it, are written as one octet each.
@@ -251,6 +210,7 @@ fn known_label(place: Place) -> usize
 /// pSpecified, and the label has fewer than 64 octets, in an algorithm identifier fewer than 51.
 #[inline(always)]
 pub fn encode_known_oaep(
+    null: bool,
     hash: &[u8],
     mask_gen: &[u8],
     under: &[u8],
@@ -259,19 +219,19 @@ pub fn encode_known_oaep(
     place: Place,
     out: &mut [u8],
 ) -> Option<Written>
-    ensures written { let params = oaep_with_hashes hash.now mask_gen.now under.now source.now label.now in
+    ensures written { let params = oaep_with_hashes null hash.now mask_gen.now under.now source.now label.now in
         IfSome result (WritesOrCounts (InPlace place OaepEncoding) params out.old out.new) }
     ensures unchanged { result ≡ None → out.new ≡ out.old }
-    ensures known { IfSome result (λ _. IsKnownOaep place hash.now mask_gen.now under.now source.now label.now) }
-    ensures none { result ≡ None → IsKnownOaep place hash.now mask_gen.now under.now source.now label.now → ⊥ }
+    ensures known { IfSome result (λ _. IsKnownOaep null place hash.now mask_gen.now under.now source.now label.now) }
+    ensures none { result ≡ None → IsKnownOaep null place hash.now mask_gen.now under.now source.now label.now → ⊥ }
 {
     if label.len() >= known_label(place) || !is_p_specified(source) {
         return None;
     }
-    let (hash, under) = known_hashes(hash, mask_gen, under)?;
+    let (hash, under) = known_hashes(null, hash, mask_gen, under)?;
     if label.is_empty() {
-        return Some(put(hash, under, &[], &[], place, out));
+        return Some(put(null, hash, under, &[], &[], place, out));
     }
     let later = label_front(label.len() as u8);
-    Some(put(hash, under, &later, label, place, out))
+    Some(put(null, hash, under, &later, label, place, out))
 }

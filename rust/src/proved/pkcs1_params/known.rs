@@ -1,15 +1,13 @@
 // Made of crates/pkcs1_params/src/known.rt by tools/erase/erase.py, and not to be edited.
-//! Writing of parameters whose hash functions are known: SHA-1 and those of NIST, with NULL. Most are such, so they are
-//! written as octets that are known, without a test of their identifiers, and their length is known without writing.
+//! Writing of parameters whose hash functions are known: SHA-1 and those of NIST with NULL, or those of NIST without
+//! parameters. Most are such, so they are written as octets that are known, without a test of their identifiers, and
+//! their length is known without writing. `null` says whether both hash functions have NULL. Else none has parameters.
 
 use crate::proved::pkcs1_params::hash_fields::{is_mgf1, is_sha1};
+use crate::proved::pkcs1_params::known_fields::{KnownHash, fields_len, prepend_fields};
 use crate::proved::pkcs1_params::label::is_p_specified;
 use crate::proved::pkcs1_params::pss::RsaPssParamsRef;
 use crate::proved::der_core::BackWriter;
-
-/// A hash function whose octets are known: that of NIST with this number, or SHA-1, which is the default and isn't
-/// written.
-type KnownHash = Option<u8>;
 
 /// Where parameters stand: alone, or in the algorithm identifier of PKCS #1 with this number.
 pub type Place = Option<u8>;
@@ -25,8 +23,8 @@ pub type Written = Result<usize, usize>;
 
 /// The hash function with this identifier, if it is known.
 #[inline(always)]
-fn known_hash(oid: &[u8]) -> Option<KnownHash> {
-    if is_sha1(oid) {
+fn known_hash(null: bool, oid: &[u8]) -> Option<KnownHash> {
+    if null && is_sha1(oid) {
         return Some(None);
     }
     match oid {
@@ -51,50 +49,18 @@ fn known_hash(oid: &[u8]) -> Option<KnownHash> {
 
 /// Both hash functions, if they are known, and the mask generation function is MGF1.
 #[inline(always)]
-fn known_hashes(hash: &[u8], mask_gen: &[u8], under: &[u8]) -> Option<(KnownHash, KnownHash)> {
+fn known_hashes(
+    null: bool,
+    hash: &[u8],
+    mask_gen: &[u8],
+    under: &[u8],
+) -> Option<(KnownHash, KnownHash)> {
     if !is_mgf1(mask_gen) {
         return None;
     }
-    let hash = known_hash(hash)?;
-    let under = known_hash(under)?;
+    let hash = known_hash(null, hash)?;
+    let under = known_hash(null, under)?;
     Some((hash, under))
-}
-
-/// The field hashAlgorithm of the hash function of NIST with this number.
-#[inline(always)]
-fn hash_field(number: u8) -> [u8; 17] {
-    [
-        0xa0, 0x0f, 0x30, 0x0d, 0x06, 0x09, 0x60, 0x86, 0x48, 0x01, 0x65, 0x03, 0x04, 0x02, number,
-        0x05, 0x00,
-    ]
-}
-
-/// The field maskGenAlgorithm: MGF1 with that hash function.
-#[inline(always)]
-fn mask_field(number: u8) -> [u8; 30] {
-    [
-        0xa1, 0x1c, 0x30, 0x1a, 0x06, 0x09, 0x2a, 0x86, 0x48, 0x86, 0xf7, 0x0d, 0x01, 0x01, 0x08,
-        0x30, 0x0d, 0x06, 0x09, 0x60, 0x86, 0x48, 0x01, 0x65, 0x03, 0x04, 0x02, number, 0x05, 0x00,
-    ]
-}
-
-/// How many octets both fields have.
-#[inline(always)]
-fn fields_len(hash: KnownHash, under: KnownHash) -> usize {
-    let hash_len = if hash.is_some() { 17 } else { 0 };
-    let mask_len = if under.is_some() { 30 } else { 0 };
-    hash_len + mask_len
-}
-
-/// Writes both fields in front of what is filled.
-#[inline(always)]
-fn prepend_fields(hash: KnownHash, under: KnownHash, writer: &mut BackWriter<'_>) {
-    if let Some(number) = under {
-        writer.prepend(&mask_field(number));
-    }
-    if let Some(number) = hash {
-        writer.prepend(&hash_field(number));
-    }
 }
 
 /// How many octets stand in front of parameters.
@@ -129,6 +95,7 @@ fn prepend_front(place: Place, count: u8, writer: &mut BackWriter<'_>) {
 /// and of octets in two parts.
 #[inline(always)]
 fn put(
+    null: bool,
     hash: KnownHash,
     under: KnownHash,
     later: &[u8],
@@ -136,7 +103,7 @@ fn put(
     place: Place,
     out: &mut [u8],
 ) -> Written {
-    let count = fields_len(hash, under) + later.len() + last.len();
+    let count = fields_len(null, hash, under) + later.len() + last.len();
     let len = front_len(place) + 2 + count;
     if out.len() < len {
         return Err(len);
@@ -145,7 +112,7 @@ fn put(
     let mut writer = BackWriter::new(region);
     writer.prepend(last);
     writer.prepend(later);
-    prepend_fields(hash, under, &mut writer);
+    prepend_fields(null, hash, under, &mut writer);
     writer.prepend(&[0x30, count as u8]);
     prepend_front(place, 2 + count as u8, &mut writer);
     Ok(len)
@@ -176,12 +143,13 @@ fn label_front(count: u8) -> [u8; 17] {
 }
 
 /// Writes the shortest encoding of RSASSA-PSS parameters with these identifiers and this salt length to the front of a
-/// slice, alone or in their algorithm identifier, if it is known and there is room. Both hash functions have NULL.
-/// Some(Ok(n)): it is the first n octets. Some(Err(n)): it has n octets, the slice is shorter, and is as it was. None:
-/// the slice is as it was. Some exactly if the mask generation function is MGF1, and both hash functions are SHA-1 or
-/// in NIST's arc of hash functions, with a number below 128.
+/// slice, alone or in their algorithm identifier, if it is known and there is room. Some(Ok(n)): it is the first n
+/// octets. Some(Err(n)): it has n octets, the slice is shorter, and is as it was. None: the slice is as it was. Some
+/// exactly if the mask generation function is MGF1, and each hash function is SHA-1 with NULL, or is in NIST's arc of
+/// hash functions, with a number below 128.
 #[inline(always)]
 pub fn encode_known_pss(
+    null: bool,
     hash: &[u8],
     mask_gen: &[u8],
     under: &[u8],
@@ -189,16 +157,16 @@ pub fn encode_known_pss(
     place: Place,
     out: &mut [u8],
 ) -> Option<Written> {
-    let (hash, under) = known_hashes(hash, mask_gen, under)?;
+    let (hash, under) = known_hashes(null, hash, mask_gen, under)?;
     if salt_len == RsaPssParamsRef::SALT_LEN_DEFAULT {
-        return Some(put(hash, under, crate::rattle_std::NO_OCTETS, crate::rattle_std::NO_OCTETS, place, out));
+        return Some(put(null, hash, under, crate::rattle_std::NO_OCTETS, crate::rattle_std::NO_OCTETS, place, out));
     }
     if salt_len < 0x80 {
         let salt = [0xa2, 0x03, 0x02, 0x01, salt_len];
-        return Some(put(hash, under, &salt, crate::rattle_std::NO_OCTETS, place, out));
+        return Some(put(null, hash, under, &salt, crate::rattle_std::NO_OCTETS, place, out));
     }
     let salt = [0xa2, 0x04, 0x02, 0x02, 0x00, salt_len];
-    Some(put(hash, under, &salt, crate::rattle_std::NO_OCTETS, place, out))
+    Some(put(null, hash, under, &salt, crate::rattle_std::NO_OCTETS, place, out))
 }
 
 /// How many octets a label may not have whose length, and those around it, are written as one octet each.
@@ -211,6 +179,7 @@ fn known_label(place: Place) -> usize {
 /// pSpecified, and the label has fewer than 64 octets, in an algorithm identifier fewer than 51.
 #[inline(always)]
 pub fn encode_known_oaep(
+    null: bool,
     hash: &[u8],
     mask_gen: &[u8],
     under: &[u8],
@@ -222,10 +191,10 @@ pub fn encode_known_oaep(
     if label.len() >= known_label(place) || !is_p_specified(source) {
         return None;
     }
-    let (hash, under) = known_hashes(hash, mask_gen, under)?;
+    let (hash, under) = known_hashes(null, hash, mask_gen, under)?;
     if label.is_empty() {
-        return Some(put(hash, under, crate::rattle_std::NO_OCTETS, crate::rattle_std::NO_OCTETS, place, out));
+        return Some(put(null, hash, under, crate::rattle_std::NO_OCTETS, crate::rattle_std::NO_OCTETS, place, out));
     }
     let later = label_front(label.len() as u8);
-    Some(put(hash, under, &later, label, place, out))
+    Some(put(null, hash, under, &later, label, place, out))
 }

@@ -11,6 +11,7 @@ mod hash_fields;
 mod hash_functions;
 mod holders;
 mod known;
+mod known_fields;
 mod label;
 mod laws;
 mod listing;

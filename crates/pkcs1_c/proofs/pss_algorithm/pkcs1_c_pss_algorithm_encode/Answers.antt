@@ -1,4 +1,4 @@
--- `pkcs1_c_pss_algorithm_encode`: what `write_known` writes or counts is the encoding, else `write_fields` does it all.
+-- `pkcs1_c_pss_algorithm_encode`: what `write_known` writes or counts is the encoding, else `write_others` does it all.
 use Rattle.standard.specs.Statement.{PssAlgorithmEncoding}
 use Rattle.pkcs1_c.specs.Words.{PssFieldError, pss_seen}
 use Rattle.pkcs1_c.proofs.FittingFields.{pss_fits}
@@ -15,8 +15,8 @@ returns-in-Some c =
     c.in-Some.ensures.written c.write_known.auto.out status.ok status.no_room in
     record { writes = told.0; exact = told.1 }
 
--- `write_known` has left the slice as it was, and `write_fields` says it all.
+-- `write_known` has left the slice as it was, and `write_others` says it all.
 pub returns-in-None : goal.returns-in-None
 returns-in-None c =
     let same = c.write_known.ensures.unchanged c.in-None.is in
-    let told = c.write_fields.ensures in record { writes = rw same at told.writes; exact = rw same at told.exact }
+    let told = c.write_others.ensures in record { writes = rw same at told.writes; exact = rw same at told.exact }

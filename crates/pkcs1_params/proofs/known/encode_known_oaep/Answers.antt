@@ -13,7 +13,7 @@ returns-then-is_empty-clause-written c =
     let source : c.args.source.now ≡ id_p_specified = search rules in
     let bytes : AreBytes label = are_bytes _ (search rules) in
     let none : length label ≡ 0 = search rules in
-    let written = known_oaep _ _ _ _ _ _ label [] c.in_ok-hash.ensures.some source bytes (label_none label none) in
+    let written = known_oaep _ _ _ c.args.null _ _ _ label [] c.in_ok-hash.ensures.some source bytes (label_none label none) in
     known_octets_put written c.args.place (place_front_few c.args.place [] (omega arith)) c.args.out.now _ c.put.result c.put.auto.out
     c.put.ensures
 
@@ -27,6 +27,6 @@ returns-clause-written c =
     let some : 0 < length label = search rules in
     let known : length label < known_label c.args.place = search rules in
     let fits = known_label_fits c.args.place label known in
-    let written = known_oaep _ _ _ _ _ _ label _ c.in_ok-hash.ensures.some source bytes (label_some label some fits.0) in
+    let written = known_oaep _ _ _ c.args.null _ _ _ label _ c.in_ok-hash.ensures.some source bytes (label_some label some fits.0) in
     known_octets_put written c.args.place fits.1 c.args.out.now _ c.put-2.result c.put-2.auto.out
     (rw c.label_front-later.ensures at c.put-2.ensures)

@@ -13,7 +13,7 @@ pub returns-then-salt_len-eq-SALT_LEN_DEFAULT-clause-written :
 returns-then-salt_len-eq-SALT_LEN_DEFAULT-clause-written c =
     let s = c.args.salt_len in
     let behind = subst (λ s. SaltBehind s []) (sym c.if-salt_len-eq-SALT_LEN_DEFAULT.true) salt_default in
-    let written = known_pss _ _ _ _ _ s [] c.in_ok-hash.ensures.some (omega arith) behind in
+    let written = known_pss _ _ _ c.args.null _ _ s [] c.in_ok-hash.ensures.some (omega arith) behind in
     known_octets_put written c.args.place (place_front_few c.args.place [] (omega arith)) c.args.out.now _ c.put.result c.put.auto.out c.put.ensures
 
 -- Where `s` is another number below 128: its field has one contents octet.
@@ -22,7 +22,7 @@ returns-then-salt_len-lt128-clause-written c =
     let s = c.args.salt_len in
     let is : (s == 20) ≡ false = grind (arith, nat_tests, c.if-salt_len-eq-SALT_LEN_DEFAULT.false) in
     let small = c.if-salt_len-lt128.true in
-    let written = known_pss _ _ _ _ _ s (salt_field s) c.in_ok-hash.ensures.some (omega arith) (salt_short s small is) in
+    let written = known_pss _ _ _ c.args.null _ _ s (salt_field s) c.in_ok-hash.ensures.some (omega arith) (salt_short s small is) in
     known_octets_put written c.args.place (place_front_few c.args.place (salt_field s) (omega arith)) c.args.out.now _ c.put-then-salt_len-lt128.result c.put-then-salt_len-lt128.auto.out c.put-then-salt_len-lt128.ensures
 
 -- At the end, `s` is 128 or more: its contents are a zero octet and `s`.
@@ -31,5 +31,5 @@ returns-clause-written c =
     let s = c.args.salt_len in
     let byte : s < 256 = omega (arith, c.ranges.salt_len) in
     let large : 128 ≤ s = omega (arith, c.if-salt_len-lt128.false) in
-    let written = known_pss _ _ _ _ _ s (long_salt_field s) c.in_ok-hash.ensures.some byte (salt_long s large byte) in
+    let written = known_pss _ _ _ c.args.null _ _ s (long_salt_field s) c.in_ok-hash.ensures.some byte (salt_long s large byte) in
     known_octets_put written c.args.place (place_front_few c.args.place (long_salt_field s) (omega arith)) c.args.out.now _ c.put-2.result c.put-2.auto.out c.put-2.ensures

@@ -70,16 +70,23 @@ pub extern "C" fn pkcs1_c_oaep_params_decode_strict<'a>(
     )
 }
 
-/// Writes the shortest encoding of the parameters, alone or in an algorithm identifier, if it is known.
+/// Writes the shortest encoding of the parameters, alone or in an algorithm identifier, if it is known, and both hash
+/// functions have NULL, or if `null` is false, none has parameters.
 #[inline(always)]
-pub(crate) fn write_known(params: &OaepParams<'_>, place: Place, out: &mut [u8]) -> Option<Written> {
+pub(crate) fn write_known(
+    null: bool,
+    params: &OaepParams<'_>,
+    place: Place,
+    out: &mut [u8],
+) -> Option<Written> {
     let source = &params.p_source;
-    if !have_null(&params.hash, &params.mask_gen) || !has_tag(source, Tag::OCTET_STRING) {
+    if !have_null(null, &params.hash, &params.mask_gen) || !has_tag(source, Tag::OCTET_STRING) {
         return None;
     }
     let mask_gen = &params.mask_gen;
     let (hash, under) = (params.hash.oid, mask_gen.hash.oid);
     encode_known_oaep(
+        null,
         hash,
         mask_gen.oid,
         under,
@@ -91,11 +98,21 @@ pub(crate) fn write_known(params: &OaepParams<'_>, place: Place, out: &mut [u8])
 }
 
 /// Writes the shortest encoding of the parameters, field by field, as `pkcs1_c_oaep_params_encode` does.
-#[inline(never)]
+#[inline(always)]
 fn write_fields(params: &OaepParams<'_>, out: &mut [u8], len: &mut usize) -> u32 {
     match from_c_oaep(params) {
         Ok(made) => write_params(&made, out, len),
         Err(failure) => status(&failure),
+    }
+}
+
+/// Writes the shortest encoding of the parameters, at once if it is known and no hash function has parameters, else
+/// field by field.
+#[inline(never)]
+fn write_others(params: &OaepParams<'_>, out: &mut [u8], len: &mut usize) -> u32 {
+    match write_known(false, params, None, out) {
+        Some(written) => written_status(written, len),
+        None => write_fields(params, out, len),
     }
 }
 
@@ -108,9 +125,9 @@ pub extern "C" fn pkcs1_c_oaep_params_encode(
     len: &mut usize,
 ) -> u32 {
     let out = unsafe { core::slice::from_raw_parts_mut(out, out_len) };
-    match write_known(params, None, out) {
+    match write_known(true, params, None, out) {
         Some(written) => written_status(written, len),
-        None => write_fields(params, out, len),
+        None => write_others(params, out, len),
     }
 }
 

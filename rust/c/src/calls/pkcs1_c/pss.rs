@@ -78,24 +78,41 @@ pub extern "C" fn pkcs1_c_pss_params_decode_strict<'a>(
     )
 }
 
-/// Writes the shortest encoding of the parameters, alone or in an algorithm identifier, if it is known.
+/// Writes the shortest encoding of the parameters, alone or in an algorithm identifier, if it is known, and both hash
+/// functions have NULL, or if `null` is false, none has parameters.
 #[inline(always)]
-pub(crate) fn write_known(params: &PssParams<'_>, place: Place, out: &mut [u8]) -> Option<Written> {
-    if params.trailer_field != 1 || !have_null(&params.hash, &params.mask_gen) {
+pub(crate) fn write_known(
+    null: bool,
+    params: &PssParams<'_>,
+    place: Place,
+    out: &mut [u8],
+) -> Option<Written> {
+    if params.trailer_field != 1 || !have_null(null, &params.hash, &params.mask_gen) {
         return None;
     }
     let hash = params.hash.oid;
     let under = params.mask_gen.hash.oid;
     let salt_len = params.salt_len;
-    encode_known_pss(hash, params.mask_gen.oid, under, salt_len, place, out)
+    let mask_gen = params.mask_gen.oid;
+    encode_known_pss(null, hash, mask_gen, under, salt_len, place, out)
 }
 
 /// Writes the shortest encoding of the parameters, field by field, as `pkcs1_c_pss_params_encode` does.
-#[inline(never)]
+#[inline(always)]
 fn write_fields(params: &PssParams<'_>, out: &mut [u8], len: &mut usize) -> u32 {
     match from_c_pss(params) {
         Ok(made) => write_params(&made, out, len),
         Err(failure) => status(&failure),
+    }
+}
+
+/// Writes the shortest encoding of the parameters, at once if it is known and no hash function has parameters, else
+/// field by field.
+#[inline(never)]
+fn write_others(params: &PssParams<'_>, out: &mut [u8], len: &mut usize) -> u32 {
+    match write_known(false, params, None, out) {
+        Some(written) => written_status(written, len),
+        None => write_fields(params, out, len),
     }
 }
 
@@ -111,8 +128,8 @@ pub extern "C" fn pkcs1_c_pss_params_encode(
     len: &mut usize,
 ) -> u32 {
     let out = unsafe { core::slice::from_raw_parts_mut(out, out_len) };
-    match write_known(params, None, out) {
+    match write_known(true, params, None, out) {
         Some(written) => written_status(written, len),
-        None => write_fields(params, out, len),
+        None => write_others(params, out, len),
     }
 }

@@ -1,0 +1,22 @@
+-- `write_others`: what `write_known` writes or counts is the encoding, else `write_fields` does it all.
+use Rattle.standard.specs.Statement.{OaepEncoding}
+use Rattle.pkcs1_c.specs.Words.{OaepFieldError, oaep_seen}
+use Rattle.pkcs1_c.proofs.FittingFields.{oaep_fits}
+use Rattle.pkcs1_c.proofs.Writes.{known_written}
+use Rattle.pkcs1_c.proofs.oaep.write_others.Goals as goal
+
+-- `write_known` has written or counted known octets, so the parameters have an encoding, and no field is at fault.
+pub returns-in-Some : goal.returns-in-Some
+returns-in-Some c =
+    let v = oaep_seen c.args.params.now in
+    let status = c.written_status.ensures in
+    let told =
+    known_written OaepFieldError OaepEncoding v (oaep_fits v) c.args.out.now _ c.args.len.now _ _ c.in-Some.written
+    c.in-Some.ensures.written c.write_known.auto.out status.ok status.no_room in
+    record { writes = told.0; exact = told.1 }
+
+-- `write_known` has left the slice as it was, and `write_fields` says it all.
+pub returns-in-None : goal.returns-in-None
+returns-in-None c =
+    let same = c.write_known.ensures.unchanged c.in-None.is in
+    let told = c.write_fields.ensures in record { writes = rw same at told.writes; exact = rw same at told.exact }

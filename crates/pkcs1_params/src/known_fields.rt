@@ -1,0 +1,109 @@
+//! The fields of hash functions whose octets are known, all with NULL or all without parameters.
+ghost use Rattle.std.specs.Prelude.{◌≡◌, ◌≤◌, length};
+ghost use Rattle.der_core.specs.Words.{Prepends, free_of};
+ghost use Rattle.pkcs1_params.specs.Words.{bare_field, bare_mask_field, field_with_hash, hash_algorithm, hash_field_of, known_fields, mask_field_of, mask_field_with_hash};
+
+use der_core::BackWriter;
+
+/// A hash function whose octets are known: that of NIST with this number, or SHA-1, which with NULL is the default and
+/// isn't written.
+pub(crate) type KnownHash = Option<u8>;
+
+/// The field hashAlgorithm of the hash function of NIST with this number, with NULL.
+#[inline(always)]
+fn hash_field(number: u8) -> [u8; 17]
+    ensures { result ≡ field_with_hash (hash_algorithm number) }
+{
+    [
+        0xa0, 0x0f, 0x30, 0x0d, 0x06, 0x09, 0x60, 0x86, 0x48, 0x01, 0x65, 0x03, 0x04, 0x02, number,
+        0x05, 0x00,
+    ]
+}
+
+/// The field maskGenAlgorithm: MGF1 with that hash function.
+#[inline(always)]
+fn mask_field(number: u8) -> [u8; 30]
+    ensures { result ≡ mask_field_with_hash (hash_algorithm number) }
+{
+    [
+        0xa1, 0x1c, 0x30, 0x1a, 0x06, 0x09, 0x2a, 0x86, 0x48, 0x86, 0xf7, 0x0d, 0x01, 0x01, 0x08,
+        0x30, 0x0d, 0x06, 0x09, 0x60, 0x86, 0x48, 0x01, 0x65, 0x03, 0x04, 0x02, number, 0x05, 0x00,
+    ]
+}
+
+/// The field hashAlgorithm of that hash function, without parameters.
+#[inline(always)]
+fn bare_hash_field(number: u8) -> [u8; 15]
+    ensures { result ≡ bare_field (hash_algorithm number) }
+{
+    [
+        0xa0, 0x0d, 0x30, 0x0b, 0x06, 0x09, 0x60, 0x86, 0x48, 0x01, 0x65, 0x03, 0x04, 0x02, number,
+    ]
+}
+
+/// The field maskGenAlgorithm: MGF1 with that hash function, without parameters.
+#[inline(always)]
+fn bare_mask_field(number: u8) -> [u8; 28]
+    ensures { result ≡ bare_mask_field (hash_algorithm number) }
+{
+    [
+        0xa1, 0x1a, 0x30, 0x18, 0x06, 0x09, 0x2a, 0x86, 0x48, 0x86, 0xf7, 0x0d, 0x01, 0x01, 0x08,
+        0x30, 0x0b, 0x06, 0x09, 0x60, 0x86, 0x48, 0x01, 0x65, 0x03, 0x04, 0x02, number,
+    ]
+}
+
+/// How many octets both fields have. `null` says whether the hash functions have NULL.
+#[inline(always)]
+pub(crate) fn fields_len(null: bool, hash: KnownHash, under: KnownHash) -> usize
+    ensures { result ≡ length (known_fields null hash under) }
+{
+    let null_len = if null { 2 } else { 0 };
+    let hash_len = if hash.is_some() { 15 + null_len } else { 0 };
+    let mask_len = if under.is_some() { 28 + null_len } else { 0 };
+    hash_len + mask_len
+}
+
+/// Writes the field maskGenAlgorithm in front of what is filled.
+#[inline(always)]
+fn prepend_mask_field(null: bool, number: u8, writer: &mut BackWriter<'_>)
+    requires { length (mask_field_of null (hash_algorithm number)) ≤ free_of writer.old }
+    ensures { Prepends (mask_field_of null (hash_algorithm number)) writer.old writer.new }
+{
+    if null {
+        writer.prepend(&mask_field(number));
+    } else {
+        writer.prepend(&bare_mask_field(number));
+    }
+}
+
+/// Writes the field hashAlgorithm in front of what is filled.
+#[inline(always)]
+fn prepend_hash_field(null: bool, number: u8, writer: &mut BackWriter<'_>)
+    requires { length (hash_field_of null (hash_algorithm number)) ≤ free_of writer.old }
+    ensures { Prepends (hash_field_of null (hash_algorithm number)) writer.old writer.new }
+{
+    if null {
+        writer.prepend(&hash_field(number));
+    } else {
+        writer.prepend(&bare_hash_field(number));
+    }
+}
+
+/// Writes both fields in front of what is filled.
+#[inline(always)]
+pub(crate) fn prepend_fields(
+    null: bool,
+    hash: KnownHash,
+    under: KnownHash,
+    writer: &mut BackWriter<'_>,
+)
+    requires { length (known_fields null hash under) ≤ free_of writer.old }
+    ensures { Prepends (known_fields null hash under) writer.old writer.new }
+{
+    if let Some(number) = under {
+        prepend_mask_field(null, number, writer);
+    }
+    if let Some(number) = hash {
+        prepend_hash_field(null, number, writer);
+    }
+}
