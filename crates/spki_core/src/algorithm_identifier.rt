@@ -126,6 +126,8 @@ pub fn lemma_identifier_alone_takes_no_memory<'a, P: Decode<&'a [u8], M>, M: Mem
 {}
 
 impl<O: IdentifierValue, P: Encode> EncodeValue for AlgorithmIdentifierOf<O, P> {
+    ghost refused = { P.Encode.refused };
+
     fn value_len(&self) -> Result<Length> {
         let oid = self.oid.as_identifier_view();
         (oid, Last::borrowed(&self.parameters)).value_len()

@@ -192,6 +192,8 @@ fn read_any<'a, R: Reader<&'a [u8]>>(reader: &mut R) -> Result<AnyRef<'a>>
 }
 
 impl Encode for AnyRef<'_> {
+    ghost refused = { λ _. ⊥ };
+
     fn encoded_len(&self) -> Result<Length> {
         self.header().length.for_tlv(self.tag())
     }

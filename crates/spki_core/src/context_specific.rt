@@ -76,6 +76,8 @@ pub(crate) fn short_len(contents: u64) -> u64
 }
 
 impl<'b, T: Encode> Encode for ContextSpecificRef<'b, T> {
+    ghost refused = { T.Encode.refused };
+
     fn encoded_len(&self) -> Result<Length> {
         self.value.encoded_len()?.for_tlv(self.tag())
     }

@@ -191,6 +191,8 @@ impl<'a, M: Memory> DecodeValue<&'a [u8], M> for IdentifierView<'a> {
 }
 
 impl EncodeValue for IdentifierView<'_> {
+    ghost refused = { λ _. ⊥ };
+
     fn value_len(&self) -> Result<Length> {
         Ok(Length::of(self.octet_count() as usize))
     }

@@ -282,6 +282,8 @@ impl<'a, M: Memory> DecodeValue<&'a [u8], M> for ObjectIdentifier {
 }
 
 impl EncodeValue for ObjectIdentifier {
+    ghost refused = { λ _. ⊥ };
+
     fn value_len(&self) -> Result<Length> {
         Length::try_from(self.as_bytes().len())
     }

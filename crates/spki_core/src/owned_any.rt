@@ -120,6 +120,8 @@ impl<'a> Decode<&'a [u8], Global> for Any {
 }
 
 impl Encode for Any {
+    ghost refused = { λ _. ⊥ };
+
     fn encoded_len(&self) -> Result<Length> {
         self.as_any_ref().encoded_len()
     }
