@@ -162,6 +162,8 @@ impl<'a, M: Memory> DecodeValue<&'a [u8], M> for Version {
 }
 
 impl EncodeValue for Version {
+    ghost refused = { λ _. ⊥ };
+
     fn value_len(&self) -> Result<Length> {
         u8::from(*self).value_len()
     }
