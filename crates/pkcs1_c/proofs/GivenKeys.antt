@@ -3,7 +3,7 @@
 use Rattle.std.proofs.Common.{ℕ, List, [], ◌∷◌, ◌++◌, ◌≡◌, ◌≤◌, ◌∙◌, length, length-append, map, subst, sym, ap, arith, rules, nat_lt, ◌↔◌, slice_index, if◌then◌else◌, ◌+◌, ◌-◌, ◌<◌, take, drop, get_or, refl, Some, Result, Err}
 use Rattle.std.specs.List.{AllByRecursion, concat}
 use Rattle.std.proofs.lemmas.Grind.{common_steps}
-use Rattle.der_core.specs.Words.{tlv_fit, limit, Spells, all_encodings, Counts, sum_of_lengths}
+use Rattle.der_core.specs.Words.{tlv_fit, limit, Spells, all_encodings, Counts, Tells, sum_of_lengths}
 use Rattle.pkcs1.specs.Words.{IsPrivateKey, held_public_key, number_in, public_encoding, public_as_stated, private_as_stated, private_encoding, private_itself, private_stated, private_as, AnyNumber, PrivateIsValid, PublicIsValid, public_row, OtherIsValid, primes_printed, other_from, other_stated}
 use Rattle.pkcs1.specs.Keys as keys
 use Rattle.pkcs1.specs.declared.public_key.RsaPublicKey.{RsaPublicKey}
@@ -13,9 +13,9 @@ use Rattle.pkcs1_c.specs.declared.given_number.Number.{Number}
 use Rattle.pkcs1_c.specs.declared.private_key.OtherPrime.{OtherPrime}
 use Rattle.pkcs1_c.specs.declared.private_key.PrivateKey.{PrivateKey}
 use Rattle.pkcs1_c.specs.declared.public_key.PublicKey.{PublicKey}
-use Rattle.pkcs1_c.specs.Words.{given_octets_of, NoStatus, NumberError, NumbersError, given_numbers, numbers_of_primes, two_numbers, HasPublicNumbers, HasPrivateNumbers, HaveBytes, number_seen, numbers_of_key, numbers_of_prime, other_prime_seen, other_primes_seen, private_key_seen, public_key_seen, AreCounted, given_encoded}
-use Rattle.pkcs1_c.proofs.StructErrors.{numbers_have, numbers_none_apart, numbers_none_both, part_none}
-use Rattle.der_core.proofs.Writing.{counts_joined}
+use Rattle.pkcs1_c.specs.Words.{given_octets_of, NoStatus, NumberError, NumbersError, given_numbers, numbers_of_primes, two_numbers, HasPublicNumbers, HasPrivateNumbers, HaveBytes, number_seen, numbers_of_key, numbers_of_prime, other_prime_seen, other_primes_seen, private_key_seen, public_key_seen, AreCounted, AreTold, given_encoded}
+use Rattle.pkcs1_c.proofs.StructErrors.{numbers_have, numbers_none_apart, numbers_none_both, others_held_more, part_none}
+use Rattle.der_core.proofs.Writing.{counts_joined, tells_joined}
 use Rattle.der_core.proofs.Items.{encodings_behind_len, encodings_more}
 use Rattle.der_core.specs.declared.error.Error.{Error}
 use Rattle.pkcs1_params.proofs.Masks.{uncounted_overflows}
@@ -166,6 +166,18 @@ pub counted_more : (others : List OtherPrime) (i : ℕ) (d : OtherPrime) → i <
 counted_more others i d less a b p q =
     rw (encodings_more (λ _. Unit {0}) given_encoded others i d less)
     (counts_joined _ _ (λ _ _. tt) (λ _. (tt, tt)) a b p q)
+
+-- One more is told, whose numbers can be held.
+pub told_more : (others : List OtherPrime) (i : ℕ) (d : OtherPrime) → i < length others → (m n total : ℕ)
+    → AreTold (take i others) m → NoStatus (NumbersError (numbers_of_prime (get_or others i d)))
+    → Tells (Unit {0}) (given_encoded (get_or others i d)) n → (total ≤ limit → total ≡ m + n)
+    → AreTold (take (i + 1) others) total
+told_more others i d less m n total front held one sum few =
+    let all = tells_joined _ _ m n total front one sum few in (
+      others_held_more others i d less all.0.0 held,
+      all.1 ∙ ap length (sym (encodings_more (λ _. Unit {0}) given_encoded others i d less)),
+      few,
+    )
 
 -- What the compiler takes for an element that isn't there.
 abbrev pub empty_prime : OtherPrime

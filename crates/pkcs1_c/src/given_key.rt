@@ -51,9 +51,9 @@ impl<'a> GivenKey<'a> {
             exponent1: quick_number(key.exponent1)?,
             exponent2: quick_number(key.exponent2)?,
             coefficient: quick_number(key.coefficient)?,
-            other_prime_infos: match GivenPrimes::of(others) {
-                Ok(others) => others,
-                Err(_) => return None,
+            other_prime_infos: match GivenPrimes::quick(others) {
+                Some(others) => others,
+                None => return None,
             },
         }))
     }

@@ -1,15 +1,15 @@
 //! Other primes that the caller passes, written from the caller's array.
-ghost use Rattle.std.specs.Prelude.{◌≡◌, ◌+◌, ◌≤◌, ◌<◌, length, IsTrue, IfOk, IfErr, OnOk};
+ghost use Rattle.std.specs.Prelude.{◌≡◌, ◌+◌, ◌≤◌, ◌<◌, length, IsTrue, IfOk, IfErr, IfSome, OnOk, OnSome};
 ghost use Rattle.der_core.specs.Words.{Prepends, free_of, limit, Appends, Counts};
 ghost use Rattle.pkcs1.specs.Words.{held_other_prime};
 ghost use Rattle.pkcs1_c.specs.NumberValue.{given_octets_of};
-ghost use Rattle.pkcs1_c.specs.PrimeLists.{AreCounted, AreCounted-prop, given_encoded, prime_encoded};
+ghost use Rattle.pkcs1_c.specs.PrimeLists.{AreCounted, AreCounted-prop, AreTold, given_encoded, prime_encoded};
 ghost use Rattle.pkcs1_c.specs.Status.{NoStatus, status_of};
 ghost use Rattle.pkcs1_c.specs.StructErrors.{NumbersError, numbers_of_primes};
 ghost use Rattle.pkcs1_c.specs.Structs.{numbers_of_prime, other_prime_seen, other_primes_seen};
 
 use crate::given_number::Number;
-use crate::numbers::number;
+use crate::numbers::{number, quick_number};
 use crate::private_key::OtherPrime;
 use der_core::{
     BackWriter, Contents, Encode, EncodeValue, Error, ErrorKind, Length, Result, SequenceTag,
@@ -42,12 +42,44 @@ fn from_c_other_prime<'a>(other: &OtherPrime<'a>) -> pkcs1::Result<OtherPrimeInf
     })
 }
 
+/// The prime with these numbers, as of `quick_number`: `None` says nothing of them.
+#[inline(always)]
+fn quick_other_prime<'a>(other: &OtherPrime<'a>) -> Option<OtherPrimeInfo<Number<'a>>>
+    ensures some { IfSome result (λ info. held_other_prime given_octets_of info ≡ other_prime_seen other.now) }
+    ensures held { OnSome result (NoStatus (NumbersError (numbers_of_prime other.now))) }
+{
+    Some(OtherPrimeInfo {
+        prime: quick_number(other.prime)?,
+        exponent: quick_number(other.exponent)?,
+        coefficient: quick_number(other.coefficient)?,
+    })
+}
+
 /// The length of a prime's encoding.
 #[inline(always)]
 fn length_of(info: &OtherPrimeInfo<Number<'_>>) -> Result<Length>
     ensures { Counts (Unit {0}) (prime_encoded (held_other_prime given_octets_of info.now)) result }
 {
     info.encoded_len()
+}
+
+/// The total length of the primes' encodings, told quickly: then each number can be held. More than `Length::MAX` says
+/// nothing of them.
+#[inline(never)]
+fn quick_total(others: &[OtherPrime<'_>]) -> u64
+    ensures { AreTold others.now result }
+{
+    let mut total: u64 = 0;
+    for other in others {
+        let Some(info) = quick_other_prime(other) else {
+            return UNTOLD;
+        };
+        total = total.saturating_add(info.quick_len());
+        if total >= UNTOLD {
+            return UNTOLD;
+        }
+    }
+    total
 }
 
 /// Appends a prime.
@@ -84,8 +116,12 @@ fn prepend_given(other: &OtherPrime<'_>, least: usize, writer: &mut BackWriter<'
     ensures is { IsTrue result }
     ensures prepends { Prepends (given_encoded other.now) writer.old writer.new }
 {
-    let Ok(info) = from_c_other_prime(other) else {
-        return false;
+    let info = match quick_other_prime(other) {
+        Some(info) => info,
+        None => match from_c_other_prime(other) {
+            Ok(info) => info,
+            Err(_) => return false,
+        },
     };
     let left = writer.free() - least;
     if !is_surely_within(&info, left) {
@@ -118,6 +154,23 @@ impl<'a> GivenPrimes<'a> {
             len = joined_len(len, length_of(&info));
         }
         Ok(Some(GivenPrimes { others, len }))
+    }
+
+    /// The primes of the array, or `None` if it is empty. The outer `None` says nothing of them.
+    #[inline(always)]
+    pub(crate) fn quick(others: &'a [OtherPrime<'a>]) -> Option<Option<GivenPrimes<'a>>>
+        ensures some { IfSome result (λ given. option_map held_primes given ≡ other_primes_seen others.now) }
+        ensures held { OnSome result (NoStatus (NumbersError (numbers_of_primes others.now))) }
+    {
+        if others.is_empty() {
+            return Some(None);
+        }
+        let total = quick_total(others);
+        if total >= UNTOLD {
+            return None;
+        }
+        let len = Ok(Length::of(total as usize));
+        Some(Some(GivenPrimes { others, len }))
     }
 }
 
