@@ -16,6 +16,23 @@ use pkcs1::PrivateKeyOf;
 #[derive(Drop)]
 pub(crate) struct GivenKey<'a>(PrivateKeyOf<Number<'a>, GivenPrimes<'a>>);
 
+/// The key whose eight numbers are those of `$key` by `$number`, whose `None` or error the caller returns.
+macro_rules! key_of {
+    ($key:expr, $number:path, $others:expr) => {
+        GivenKey(PrivateKeyOf {
+            modulus: $number($key.modulus)?,
+            public_exponent: $number($key.public_exponent)?,
+            private_exponent: $number($key.private_exponent)?,
+            prime1: $number($key.prime1)?,
+            prime2: $number($key.prime2)?,
+            exponent1: $number($key.exponent1)?,
+            exponent2: $number($key.exponent2)?,
+            coefficient: $number($key.coefficient)?,
+            other_prime_infos: $others,
+        })
+    };
+}
+
 impl<'a> GivenKey<'a> {
     /// The key with these numbers, of which `others` has the other primes; or why the first number that can't be held
     /// can't be.
@@ -42,20 +59,14 @@ impl<'a> GivenKey<'a> {
         ensures some { IfSome result (λ made. held_given_key made.0 ≡ private_key_seen key.now others.now) }
         ensures held { OnSome result (NoStatus (NumbersError (given_numbers key.now others.now))) }
     {
-        Some(GivenKey(PrivateKeyOf {
-            modulus: quick_number(key.modulus)?,
-            public_exponent: quick_number(key.public_exponent)?,
-            private_exponent: quick_number(key.private_exponent)?,
-            prime1: quick_number(key.prime1)?,
-            prime2: quick_number(key.prime2)?,
-            exponent1: quick_number(key.exponent1)?,
-            exponent2: quick_number(key.exponent2)?,
-            coefficient: quick_number(key.coefficient)?,
-            other_prime_infos: match GivenPrimes::quick(others) {
+        Some(key_of!(
+            key,
+            quick_number,
+            match GivenPrimes::quick(others) {
                 Some(others) => others,
                 None => return None,
-            },
-        }))
+            }
+        ))
     }
 
     /// As `of`.
@@ -67,20 +78,14 @@ impl<'a> GivenKey<'a> {
         ensures err { let numbers = given_numbers key.now others.now in
             IfErr result (λ e. NumbersError numbers (status_of e)) }
     {
-        Ok(GivenKey(PrivateKeyOf {
-            modulus: number(key.modulus)?,
-            public_exponent: number(key.public_exponent)?,
-            private_exponent: number(key.private_exponent)?,
-            prime1: number(key.prime1)?,
-            prime2: number(key.prime2)?,
-            exponent1: number(key.exponent1)?,
-            exponent2: number(key.exponent2)?,
-            coefficient: number(key.coefficient)?,
-            other_prime_infos: match GivenPrimes::of(others) {
+        Ok(key_of!(
+            key,
+            number,
+            match GivenPrimes::of(others) {
                 Ok(others) => others,
                 Err(error) => return Err(error),
-            },
-        }))
+            }
+        ))
     }
 }
 
