@@ -1,5 +1,5 @@
 -- `append_value` of `EncodeValue` for `Number` appends the number's contents.
-use Rattle.std.proofs.Common.{arith, sym, subst, ◌∷◌, ◌++◌, ◌≡◌, ◌≤◌, ◌<◌, [], ℕ, length, slice_index, if◌then◌else◌, nat_lt, true, false, List, refl}
+use Rattle.std.proofs.Common.{arith, sym, subst, ◌∷◌, ◌++◌, ◌≡◌, ◌≤◌, ◌<◌, [], ℕ, length, slice_index, if◌then◌else◌, nat_lt, List}
 use Rattle.std.proofs.lemmas.Bool.Decides.{nat_tests}
 use Rattle.der_core.specs.Words.{integer_contents, holds_canonical, number_contents_as, limit, Appends}
 use Rattle.der_core.proofs.Writing.{appends_at_once, appends_behind}
