@@ -8,11 +8,12 @@ use crate::request::{Encodings, PairWord, Request, Word, request_of};
 use pkcs1::{RsaOaepParamsRef, RsaPssParamsRef};
 use std::alloc::{AllocError, Global};
 
-/// Appends the output for a word with one encoding to `out`.
+/// Appends the output for a word with one encoding to `out`. `buffer` may hold anything.
 fn answer_word(
     alloc: Global,
     word: Word,
     encoding: &[u8],
+    buffer: &mut Vec<u8>,
     out: &mut Vec<u8>,
 ) -> Result<(), AllocError>
     ensures { OnOk result (Puts (WordAnswer word encoding.now) out.old.items out.new.items) }
@@ -20,8 +21,8 @@ fn answer_word(
     match word {
         Word::Pub => answer_pub(encoding, out),
         Word::Priv => answer_priv(encoding, out),
-        Word::Pss => answer_parameters::<RsaPssParamsRef<'_>>(alloc, encoding, out),
-        Word::Oaep => answer_parameters::<RsaOaepParamsRef<'_>>(alloc, encoding, out),
+        Word::Pss => answer_parameters::<RsaPssParamsRef<'_>>(encoding, buffer, out),
+        Word::Oaep => answer_parameters::<RsaOaepParamsRef<'_>>(encoding, buffer, out),
         Word::P8 => answer_p8(encoding, out),
         Word::SpellPss => answer_spell::<RsaPssParamsRef<'_>>(alloc, b"spell-pss", encoding, out),
         Word::SpellOaep => answer_spell::<RsaOaepParamsRef<'_>>(
@@ -37,7 +38,6 @@ fn answer_word(
 
 /// Appends the output for a word with two encodings to `out`.
 fn answer_pair(
-    alloc: Global,
     word: PairWord,
     first: &[u8],
     second: &[u8],
@@ -46,12 +46,8 @@ fn answer_pair(
     ensures { OnOk result (Puts (PairAnswer word first.now second.now) out.old.items out.new.items) }
 {
     match word {
-        PairWord::SamePss => {
-            answer_same::<RsaPssParamsRef<'_>>(alloc, b"same-pss", first, second, out)
-        }
-        PairWord::SameOaep => {
-            answer_same::<RsaOaepParamsRef<'_>>(alloc, b"same-oaep", first, second, out)
-        }
+        PairWord::SamePss => answer_same::<RsaPssParamsRef<'_>>(b"same-pss", first, second, out),
+        PairWord::SameOaep => answer_same::<RsaOaepParamsRef<'_>>(b"same-oaep", first, second, out),
     }
 }
 
@@ -66,10 +62,10 @@ pub fn answer_line(
     ensures { OnOk result (PutsAnswer line.now out.old.items out.new.items) }
 {
     let request = request_of(line, encodings)?;
-    let (first, second) = (encodings.first.as_slice(), encodings.second.as_slice());
+    let first = encodings.first.as_slice();
     match request {
         Request::BadLine => out.extend_from_slice(b"bad line"),
-        Request::Word(word) => answer_word(alloc, word, first, out),
-        Request::Pair(word) => answer_pair(alloc, word, first, second, out),
+        Request::Word(word) => answer_word(alloc, word, first, &mut encodings.second, out),
+        Request::Pair(word) => answer_pair(word, first, encodings.second.as_slice(), out),
     }
 }

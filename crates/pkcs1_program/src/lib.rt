@@ -23,7 +23,6 @@ mod replace;
 mod replace_std;
 mod request;
 mod sequence;
-mod shortest;
 mod verdict;
 
 pub use answer::answer_line;

@@ -1,13 +1,13 @@
 //! How parameters are read of bytes, and their fields printed. `parameter_answers.rt` calls it.
-ghost use Rattle.std.specs.Prelude.{◌≡◌, ◌≤◌, ℕ, List, ◌++◌, ◌↔◌, length, IsTrue, OnOk, IfOk, IfSome, IfNone, IsErrAnd, option_map};
+ghost use Rattle.std.specs.Prelude.{◌≡◌, ◌≤◌, ℕ, List, ◌++◌, ◌↔◌, length, Decides, IsTrue, OnOk, IfOk, IfSome, IfNone, IsErrAnd, option_map};
 ghost use Rattle.der_core.specs.Words.{Spells};
-ghost use Rattle.spki_core.specs.Words.{FieldRecord, algorithm_of, any_of, mask_gen_of, own_octets_of, spelled_from, spelled_to};
+ghost use Rattle.spki_core.specs.Words.{algorithm_of, any_of, mask_gen_of, own_octets_of, spelled_from, spelled_to};
 ghost use Rattle.pkcs1_params.specs.Words.{EncodingOfFields, IsEncoded, encodings_in, oaep_of, oaep_record, pss_of, pss_record};
 ghost use Rattle.standard.specs.Statement.{Decodes, Defaults, Field, IsOaep, IsPss, IsShortest, Lists, OaepParameters, PssParameters, limit, longest, oaep_fields, pss_fields};
 ghost use Rattle.pkcs1_program.specs.Words.{IsMemoryError, any_digits, identifier_digits, plain_digits, bracketed_digits, mask_digits, hash_and_mask_fields, spelling_fields, pss_answer, oaep_answer};
 
 use crate::digits::{put_field, put_hex, put_number};
-use der_core::{Encode, ErrorKind};
+use der_core::{Encode, ErrorKind, equal};
 use pkcs1::{Error, ObjectIdentifier, RsaOaepParamsRef, RsaPssParamsRef};
 use spki_core::{AlgorithmIdentifier, AlgorithmIdentifierRef, AnyRef};
 use std::alloc::{AllocError, Global};
@@ -26,9 +26,6 @@ pub trait Parameters<'a>: Encode + Drop + Sized {
     /// The fields of their SEQUENCE.
     ghost fields_of: { Params → List Field };
 
-    /// The kinds of these fields, with their laws.
-    ghost form: { FieldRecord Is fields_of };
-
     /// The output for parameters, given how many of their fields have their defaults, and their encoding.
     ghost answer_of: { Params → ℕ → List ℕ → List ℕ };
 
@@ -39,6 +36,10 @@ pub trait Parameters<'a>: Encode + Drop + Sized {
     /// Whether the bytes are the shortest encoding of some parameters.
     fn is_strict(encoding: &'a [u8]) -> bool
         ensures { IsTrue result ↔ IsEncoded (IsShortest (EncodingOfFields Is fields_of)) encoding.now };
+
+    /// Whether both mean the same parameters.
+    fn is_same(&self, other: &Self) -> bool
+        ensures { Decides result (params self.now ≡ params other.now) };
 
     /// All encodings, ordered by mask, or `None` if the longest of them is longer than `Length::MAX`.
     fn all_encodings(&self, alloc: Global) -> Result<Option<Vec<Vec<u8>>>, AllocError>
@@ -206,8 +207,6 @@ impl<'a> Parameters<'a> for RsaPssParamsRef<'a> {
 
     ghost fields_of = { pss_fields };
 
-    ghost form = { pss_record };
-
     ghost answer_of = { pss_answer };
 
     fn read(encoding: &'a [u8]) -> Option<RsaPssParamsRef<'a>> {
@@ -216,6 +215,10 @@ impl<'a> Parameters<'a> for RsaPssParamsRef<'a> {
 
     fn is_strict(encoding: &'a [u8]) -> bool {
         RsaPssParamsRef::from_der_strict(encoding).is_ok()
+    }
+
+    fn is_same(&self, other: &RsaPssParamsRef<'a>) -> bool {
+        equal(self, other)
     }
 
     fn all_encodings(&self, alloc: Global) -> Result<Option<Vec<Vec<u8>>>, AllocError> {
@@ -243,8 +246,6 @@ impl<'a> Parameters<'a> for RsaOaepParamsRef<'a> {
 
     ghost fields_of = { oaep_fields };
 
-    ghost form = { oaep_record };
-
     ghost answer_of = { oaep_answer };
 
     fn read(encoding: &'a [u8]) -> Option<RsaOaepParamsRef<'a>> {
@@ -253,6 +254,10 @@ impl<'a> Parameters<'a> for RsaOaepParamsRef<'a> {
 
     fn is_strict(encoding: &'a [u8]) -> bool {
         RsaOaepParamsRef::from_der_strict(encoding).is_ok()
+    }
+
+    fn is_same(&self, other: &RsaOaepParamsRef<'a>) -> bool {
+        equal(self, other)
     }
 
     fn all_encodings(&self, alloc: Global) -> Result<Option<Vec<Vec<u8>>>, AllocError> {

@@ -40,7 +40,7 @@ pub enum Request {
 pub struct Encodings {
     /// The bytes of the first HEX part.
     pub first: Vec<u8>,
-    /// The bytes of the second HEX part.
+    /// The bytes of the second HEX part. Of a line with one part, it is only a buffer.
     pub second: Vec<u8>,
 }
 

@@ -8,18 +8,19 @@ use crate::tool::pkcs1_program::request::{Encodings, PairWord, Request, Word, re
 use crate::proved::pkcs1::{RsaOaepParamsRef, RsaPssParamsRef};
 use crate::rattle_std::alloc::{AllocError, Global};
 
-/// Appends the output for a word with one encoding to `out`.
+/// Appends the output for a word with one encoding to `out`. `buffer` may hold anything.
 fn answer_word(
     alloc: Global,
     word: Word,
     encoding: &[u8],
+    buffer: &mut Vec<u8>,
     out: &mut Vec<u8>,
 ) -> Result<(), AllocError> {
     match word {
         Word::Pub => answer_pub(encoding, out),
         Word::Priv => answer_priv(encoding, out),
-        Word::Pss => answer_parameters::<RsaPssParamsRef<'_>>(alloc, encoding, out),
-        Word::Oaep => answer_parameters::<RsaOaepParamsRef<'_>>(alloc, encoding, out),
+        Word::Pss => answer_parameters::<RsaPssParamsRef<'_>>(encoding, buffer, out),
+        Word::Oaep => answer_parameters::<RsaOaepParamsRef<'_>>(encoding, buffer, out),
         Word::P8 => answer_p8(encoding, out),
         Word::SpellPss => answer_spell::<RsaPssParamsRef<'_>>(alloc, b"spell-pss", encoding, out),
         Word::SpellOaep => answer_spell::<RsaOaepParamsRef<'_>>(
@@ -35,19 +36,14 @@ fn answer_word(
 
 /// Appends the output for a word with two encodings to `out`.
 fn answer_pair(
-    alloc: Global,
     word: PairWord,
     first: &[u8],
     second: &[u8],
     out: &mut Vec<u8>,
 ) -> Result<(), AllocError> {
     match word {
-        PairWord::SamePss => {
-            answer_same::<RsaPssParamsRef<'_>>(alloc, b"same-pss", first, second, out)
-        }
-        PairWord::SameOaep => {
-            answer_same::<RsaOaepParamsRef<'_>>(alloc, b"same-oaep", first, second, out)
-        }
+        PairWord::SamePss => answer_same::<RsaPssParamsRef<'_>>(b"same-pss", first, second, out),
+        PairWord::SameOaep => answer_same::<RsaOaepParamsRef<'_>>(b"same-oaep", first, second, out),
     }
 }
 
@@ -60,10 +56,10 @@ pub fn answer_line(
     out: &mut Vec<u8>,
 ) -> Result<(), AllocError> {
     let request = request_of(line, encodings)?;
-    let (first, second) = (encodings.first.as_slice(), encodings.second.as_slice());
+    let first = encodings.first.as_slice();
     match request {
         Request::BadLine => out.extend_from_slice(b"bad line"),
-        Request::Word(word) => answer_word(alloc, word, first, out),
-        Request::Pair(word) => answer_pair(alloc, word, first, second, out),
+        Request::Word(word) => answer_word(alloc, word, first, &mut encodings.second, out),
+        Request::Pair(word) => answer_pair(word, first, encodings.second.as_slice(), out),
     }
 }

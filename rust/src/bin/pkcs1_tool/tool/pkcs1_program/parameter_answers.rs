@@ -2,24 +2,25 @@
 //! What is answered to a line with parameters, for each word: `answer.rt` calls it. How parameters are read and printed
 //! is in `parameter_text.rt`.
 
-use crate::rattle_std::prelude::{Vec, vec};
+use crate::rattle_std::prelude::Vec;
 use crate::tool::pkcs1_program::digits::{put_field, put_number};
 use crate::tool::pkcs1_program::parameter_text::Parameters;
-use crate::tool::pkcs1_program::shortest::shortest;
 use crate::tool::pkcs1_program::verdict::{put_refused, put_verdict};
 use crate::rattle_std::alloc::{AllocError, Global};
 
-/// Appends the output for `pss` or `oaep` to `out`.
+/// Appends the output for `pss` or `oaep` to `out`. `buffer` may hold anything.
 pub fn answer_parameters<'a, T: Parameters<'a>>(
-    alloc: Global,
     encoding: &'a [u8],
+    buffer: &mut Vec<u8>,
     out: &mut Vec<u8>,
 ) -> Result<(), AllocError> {
     match T::read(encoding) {
         Some(params) => {
-            let mut buffer = vec![in alloc; 0u8; encoding.len()]?;
-            let again = shortest(encoding, &params, buffer.as_mut_slice());
-            params.put(params.defaults(), again, out)
+            buffer.resize(encoding.len(), 0)?;
+            match params.encode_to_slice(buffer.as_mut_slice()) {
+                Ok(again) => params.put(params.defaults(), again, out),
+                Err(_) => unreachable!(),
+            }
         }
         None => put_refused(out),
     }
@@ -68,22 +69,15 @@ pub fn answer_strict<'a, T: Parameters<'a>>(
     }
 }
 
-/// Appends to `out` whether both encodings mean the same parameters: whether these have the same shortest encoding.
+/// Appends to `out` whether both encodings mean the same parameters.
 pub fn answer_same<'a, T: Parameters<'a>>(
-    alloc: Global,
     word: &[u8],
     first: &'a [u8],
     second: &'a [u8],
     out: &mut Vec<u8>,
 ) -> Result<(), AllocError> {
     match (T::read(first), T::read(second)) {
-        (Some(params), Some(others)) => {
-            let mut first_buffer = vec![in alloc; 0u8; first.len()]?;
-            let mut second_buffer = vec![in alloc; 0u8; second.len()]?;
-            let again = shortest(first, &params, first_buffer.as_mut_slice());
-            let other = shortest(second, &others, second_buffer.as_mut_slice());
-            put_verdict(word, again == other, out)
-        }
+        (Some(params), Some(others)) => put_verdict(word, params.is_same(&others), out),
         _ => put_refused(out),
     }
 }

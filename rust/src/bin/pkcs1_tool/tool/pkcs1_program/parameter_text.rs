@@ -3,7 +3,7 @@
 
 use crate::rattle_std::prelude::Vec;
 use crate::tool::pkcs1_program::digits::{put_field, put_hex, put_number};
-use crate::proved::der_core::{Encode, ErrorKind};
+use crate::proved::der_core::{Encode, ErrorKind, equal};
 use crate::proved::pkcs1::{Error, ObjectIdentifier, RsaOaepParamsRef, RsaPssParamsRef};
 use crate::proved::spki_core::{AlgorithmIdentifier, AlgorithmIdentifierRef, AnyRef};
 use crate::rattle_std::alloc::{AllocError, Global};
@@ -15,6 +15,9 @@ pub trait Parameters<'a>: Encode + Sized {
 
     /// Whether the bytes are the shortest encoding of some parameters.
     fn is_strict(encoding: &'a [u8]) -> bool;
+
+    /// Whether both mean the same parameters.
+    fn is_same(&self, other: &Self) -> bool;
 
     /// All encodings, ordered by mask, or `None` if the longest of them is longer than `Length::MAX`.
     fn all_encodings(&self, alloc: Global) -> Result<Option<Vec<Vec<u8>>>, AllocError>;
@@ -148,6 +151,10 @@ impl<'a> Parameters<'a> for RsaPssParamsRef<'a> {
         RsaPssParamsRef::from_der_strict(encoding).is_ok()
     }
 
+    fn is_same(&self, other: &RsaPssParamsRef<'a>) -> bool {
+        equal(self, other)
+    }
+
     fn all_encodings(&self, alloc: Global) -> Result<Option<Vec<Vec<u8>>>, AllocError> {
         found(self.spellings(alloc))
     }
@@ -168,6 +175,10 @@ impl<'a> Parameters<'a> for RsaOaepParamsRef<'a> {
 
     fn is_strict(encoding: &'a [u8]) -> bool {
         RsaOaepParamsRef::from_der_strict(encoding).is_ok()
+    }
+
+    fn is_same(&self, other: &RsaOaepParamsRef<'a>) -> bool {
+        equal(self, other)
     }
 
     fn all_encodings(&self, alloc: Global) -> Result<Option<Vec<Vec<u8>>>, AllocError> {
