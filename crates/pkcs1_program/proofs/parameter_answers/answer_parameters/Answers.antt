@@ -11,8 +11,8 @@ use Rattle.pkcs1_program.proofs.parameter_answers.answer_parameters.Goals as goa
 
 -- What was written is the shortest encoding that T states, so that of the parameters. What `put` appends is the output
 -- for them: `defaults` counts the fields that have their defaults.
-pub returns-in_ok-resize-in-Some-in-Ok : goal.returns-in_ok-resize-in-Some-in-Ok
-returns-in_ok-resize-in-Some-in-Ok g c =
+pub returns-in-Ok : goal.returns-in-Ok
+returns-in-Ok g c =
     let claim : g.claim c.lifetimes = assumption in
     let s = g.T.Encoding in
     let t = g.T.Parameters in
@@ -33,5 +33,5 @@ unreachable-requires g c =
     let params = c.in-Some.params in
     let encoding = c.args.encoding.now in
     is_written s.valid s.printed s.means _ (s.value params) _ encoding (encode_error c.in-Err.field-0.kind)
-    (((g.met.T.Parameters c.lifetimes claim).encodings_are params encoding).1 c.in-Some.ensures.0) (omega arith)
-    c.in-Err.ensures.err
+    (((g.met.T.Parameters c.lifetimes claim).encodings_are params encoding).1 c.in-Some.ensures.0)
+    (omega (arith, c.as_mut_slice.ensures.len, c.in_ok-resize-in-Some.ensures.len)) c.in-Err.ensures.err
