@@ -1,5 +1,5 @@
 -- A number in decimal digits: its last digit, behind the number without it.
-use Rattle.std.proofs.Common.{◌≡◌, ◌<◌, ◌≤◌, ◌+◌, ◌++◌, ◌∷◌, ◌/◌, ◌%◌, ◌^◌, ℕ, [], map, arith}
+use Rattle.std.proofs.Common.{◌≡◌, ◌<◌, ◌≤◌, ◌+◌, ◌++◌, ◌∷◌, ◌/◌, ◌%◌, ◌^◌, ℕ, [], arith}
 use Rattle.std.specs.Fmt.{decimal}
 use Rattle.std.proofs.lemmas.Fmt.{decimal-digits_of, decimal_digit}
 use Rattle.std.proofs.lemmas.Int.Digits.{digits_of_step}
