@@ -1,7 +1,7 @@
 //! A record with a part that is there or not, in front of another.
-ghost use Rattle.std.specs.Prelude.{◌≡◌, ◌∷◌, [], IfErr, length, bytes_eq};
+ghost use Rattle.std.specs.Prelude.{◌≡◌, ◌⊎◌, ◌∷◌, [], IfErr, length, bytes_eq};
 ghost use Rattle.standard.specs.Statement as standard;
-ghost use Rattle.der_core.specs.Words.{Answers, Spells, Unwritten, encode_error, itself_once, nothing_asked, ok_of, one_spelling_shortest, reading_alike, whole};
+ghost use Rattle.der_core.specs.Words.{Answers, Spells, Unwritten, boolean_tag, encode_error, itself_once, nothing_asked, ok_of, one_spelling_shortest, reading_alike, whole};
 ghost use Rattle.examples.specs.Extension.{IsTrueOctet, critical_part, true_law, true_octets, true_read};
 
 use der_core::{
@@ -83,6 +83,8 @@ impl<'a, M: Memory> DecodeValue<&'a [u8], M> for True {
 }
 
 impl EncodeValue for True {
+    ghost refused = { λ _. ⊥ };
+
     fn value_len(&self) -> Result<Length> {
         Length::try_from(1)
     }
@@ -151,6 +153,8 @@ impl<V: Encode> Extension<V> {
 }
 
 impl<V: Encode> EncodeInParts for Extension<V> {
+    ghost refused = { λ tag. (tag ≡ boolean_tag) ⊎ V.Encode.refused tag };
+
     fn parts_len(&self) -> Result<Length> {
         let later = OptionalThen(self.critical_part(), (Borrowed(&self.value), ()));
         (Borrowed(&self.id), later).value_len()

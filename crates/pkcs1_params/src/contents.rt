@@ -1,7 +1,7 @@
 //! Contents octets of parameters, under a mask that says which of their defaults are written. `non_defaults` is what
 //! `non_defaults_in` returns.
 ghost use Rattle.std.specs.Prelude.{◌≡◌, ◌≤◌, ⊤, length};
-ghost use Rattle.der_core.specs.Words.{Appends, Counts, Prepends, Tells, free_of, limit};
+ghost use Rattle.der_core.specs.Words.{Appends, Counts, Prepends, RefusedAs, Tells, free_of, limit};
 ghost use Rattle.pkcs1_params.specs.DefaultBits.{bits_of};
 ghost use Rattle.spki_core.specs.Words.{AreSpelled, are_defaults, record_fields, record_under, spelling_printed};
 
@@ -13,8 +13,9 @@ use der_core::{BackWriter, Length, Result, Writer};
 #[inline(always)]
 pub(crate) fn contents_len<T: EncodeParams>(params: T, non_defaults: u8, mask: u8) -> Result<Length>
     requires { non_defaults ≡ bits_of (are_defaults (record_fields T.form (T.params params))) }
-    ensures { let s = record_under T.form mask (T.params params) in
+    ensures counts { let s = record_under T.form mask (T.params params) in
         Counts (AreSpelled T.form.kinds s) (spelling_printed T.form.kinds s) result }
+    ensures tag { RefusedAs (λ _. ⊥) result }
 {
     params.lemma_is_valid();
     if non_defaults == 0 && mask == 0 {

@@ -133,6 +133,8 @@ impl<O, P> TaggedBy for OaepParamsOf<O, P> {
 }
 
 impl<O: IdentifierValue, P: AnyValue> EncodeValue for OaepParamsOf<O, P> {
+    ghost refused = { λ _. ⊥ };
+
     fn value_len(&self) -> der_core::Result<Length> {
         contents_len(self, non_defaults_in(self), 0)
     }

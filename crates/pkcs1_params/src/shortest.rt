@@ -77,6 +77,8 @@ impl<T: EncodeParams> TaggedBy for Shortest<T> {
 }
 
 impl<T: EncodeParams> EncodeValue for Shortest<T> {
+    ghost refused = { λ _. ⊥ };
+
     fn value_len(&self) -> Result<Length> {
         contents_len(self.params, self.non_defaults, 0)
     }

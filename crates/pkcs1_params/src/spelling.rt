@@ -150,6 +150,8 @@ impl<T: EncodeParams> TaggedBy for Spelling<T> {
 }
 
 impl<T: EncodeParams> EncodeValue for Spelling<T> {
+    ghost refused = { λ _. ⊥ };
+
     fn value_len(&self) -> der_core::Result<Length> {
         contents_len(self.params, self.non_defaults, self.mask)
     }

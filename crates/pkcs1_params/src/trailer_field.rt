@@ -90,6 +90,8 @@ impl<'a, M: Memory> DecodeValue<&'a [u8], M> for TrailerField {
 }
 
 impl EncodeValue for TrailerField {
+    ghost refused = { λ _. ⊥ };
+
     fn value_len(&self) -> Result<Length> {
         (*self as u8).value_len()
     }

@@ -99,6 +99,8 @@ impl<'a, M: Memory> DecodeValue<&'a [u8], M> for Attributes<'a> {
 }
 
 impl EncodeValue for Attributes<'_> {
+    ghost refused = { λ _. ⊥ };
+
     fn value_len(&self) -> Result<Length> {
         Length::try_from(self.bytes.len())
     }

@@ -111,6 +111,8 @@ impl<'a, O: ReadIdentifier<'a>> InParts for PrivateKeyInfoOf<'a, O> {
 }
 
 impl<'a, O: ReadIdentifier<'a>> EncodeInParts for PrivateKeyInfoOf<'a, O> {
+    ghost refused = { λ _. ⊥ };
+
     fn parts_len(&self) -> Result<Length> {
         let key = (
             Borrowed(&self.private_key),
