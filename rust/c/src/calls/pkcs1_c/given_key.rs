@@ -11,6 +11,23 @@ use crate::proved::pkcs1::PrivateKeyOf;
 /// A key of the caller's numbers.
 pub(crate) struct GivenKey<'a>(PrivateKeyOf<Number<'a>, GivenPrimes<'a>>);
 
+/// The key whose eight numbers are those of `$key` by `$number`, whose `None` or error the caller returns.
+macro_rules! key_of {
+    ($key:expr, $number:path, $others:expr) => {
+        GivenKey(PrivateKeyOf {
+            modulus: $number($key.modulus)?,
+            public_exponent: $number($key.public_exponent)?,
+            private_exponent: $number($key.private_exponent)?,
+            prime1: $number($key.prime1)?,
+            prime2: $number($key.prime2)?,
+            exponent1: $number($key.exponent1)?,
+            exponent2: $number($key.exponent2)?,
+            coefficient: $number($key.coefficient)?,
+            other_prime_infos: $others,
+        })
+    };
+}
+
 impl<'a> GivenKey<'a> {
     /// The key with these numbers, of which `others` has the other primes; or why the first number that can't be held
     /// can't be.
@@ -29,40 +46,28 @@ impl<'a> GivenKey<'a> {
     /// more than to look twice at a number with zeros in front.
     #[inline(always)]
     fn quick(key: &PrivateKey<'a>, others: &'a [OtherPrime<'a>]) -> Option<GivenKey<'a>> {
-        Some(GivenKey(PrivateKeyOf {
-            modulus: quick_number(key.modulus)?,
-            public_exponent: quick_number(key.public_exponent)?,
-            private_exponent: quick_number(key.private_exponent)?,
-            prime1: quick_number(key.prime1)?,
-            prime2: quick_number(key.prime2)?,
-            exponent1: quick_number(key.exponent1)?,
-            exponent2: quick_number(key.exponent2)?,
-            coefficient: quick_number(key.coefficient)?,
-            other_prime_infos: match GivenPrimes::of(others) {
-                Ok(others) => others,
-                Err(_) => return None,
-            },
-        }))
+        Some(key_of!(
+            key,
+            quick_number,
+            match GivenPrimes::quick(others) {
+                Some(others) => others,
+                None => return None,
+            }
+        ))
     }
 
     /// As `of`.
     #[cold]
     #[inline(never)]
     fn exactly(key: &PrivateKey<'a>, others: &'a [OtherPrime<'a>]) -> crate::proved::pkcs1::Result<GivenKey<'a>> {
-        Ok(GivenKey(PrivateKeyOf {
-            modulus: number(key.modulus)?,
-            public_exponent: number(key.public_exponent)?,
-            private_exponent: number(key.private_exponent)?,
-            prime1: number(key.prime1)?,
-            prime2: number(key.prime2)?,
-            exponent1: number(key.exponent1)?,
-            exponent2: number(key.exponent2)?,
-            coefficient: number(key.coefficient)?,
-            other_prime_infos: match GivenPrimes::of(others) {
+        Ok(key_of!(
+            key,
+            number,
+            match GivenPrimes::of(others) {
                 Ok(others) => others,
                 Err(error) => return Err(error),
-            },
-        }))
+            }
+        ))
     }
 }
 

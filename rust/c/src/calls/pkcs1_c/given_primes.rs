@@ -2,7 +2,7 @@
 //! Other primes that the caller passes, written from the caller's array.
 
 use crate::calls::pkcs1_c::given_number::Number;
-use crate::calls::pkcs1_c::numbers::number;
+use crate::calls::pkcs1_c::numbers::{number, quick_number};
 use crate::calls::pkcs1_c::private_key::OtherPrime;
 use crate::proved::der_core::{
     BackWriter, Contents, Encode, EncodeValue, Error, ErrorKind, Length, Result, SequenceTag,
@@ -28,10 +28,37 @@ fn from_c_other_prime<'a>(other: &OtherPrime<'a>) -> crate::proved::pkcs1::Resul
     })
 }
 
+/// The prime with these numbers, as of `quick_number`: `None` says nothing of them.
+#[inline(always)]
+fn quick_other_prime<'a>(other: &OtherPrime<'a>) -> Option<OtherPrimeInfo<Number<'a>>> {
+    Some(OtherPrimeInfo {
+        prime: quick_number(other.prime)?,
+        exponent: quick_number(other.exponent)?,
+        coefficient: quick_number(other.coefficient)?,
+    })
+}
+
 /// The length of a prime's encoding.
 #[inline(always)]
 fn length_of(info: &OtherPrimeInfo<Number<'_>>) -> Result<Length> {
     info.encoded_len()
+}
+
+/// The total length of the primes' encodings, told quickly: then each number can be held. More than `Length::MAX` says
+/// nothing of them.
+#[inline(never)]
+fn quick_total(others: &[OtherPrime<'_>]) -> u64 {
+    let mut total: u64 = 0;
+    for other in others {
+        let Some(info) = quick_other_prime(other) else {
+            return UNTOLD;
+        };
+        total = total.saturating_add(info.quick_len());
+        if total >= UNTOLD {
+            return UNTOLD;
+        }
+    }
+    total
 }
 
 /// Appends a prime.
@@ -54,8 +81,12 @@ fn is_surely_within(info: &OtherPrimeInfo<Number<'_>>, left: usize) -> bool {
 /// Writes a prime in front of what is filled, and leaves `least` octets free. It is false only if another thread
 /// changed the octets.
 fn prepend_given(other: &OtherPrime<'_>, least: usize, writer: &mut BackWriter<'_>) -> bool {
-    let Ok(info) = from_c_other_prime(other) else {
-        return false;
+    let info = match quick_other_prime(other) {
+        Some(info) => info,
+        None => match from_c_other_prime(other) {
+            Ok(info) => info,
+            Err(_) => return false,
+        },
     };
     let left = writer.free() - least;
     if !is_surely_within(&info, left) {
@@ -81,6 +112,20 @@ impl<'a> GivenPrimes<'a> {
             len = joined_len(len, length_of(&info));
         }
         Ok(Some(GivenPrimes { others, len }))
+    }
+
+    /// The primes of the array, or `None` if it is empty. The outer `None` says nothing of them.
+    #[inline(always)]
+    pub(crate) fn quick(others: &'a [OtherPrime<'a>]) -> Option<Option<GivenPrimes<'a>>> {
+        if others.is_empty() {
+            return Some(None);
+        }
+        let total = quick_total(others);
+        if total >= UNTOLD {
+            return None;
+        }
+        let len = Ok(Length::of(total as usize));
+        Some(Some(GivenPrimes { others, len }))
     }
 }
 
