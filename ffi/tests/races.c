@@ -12,11 +12,11 @@
 
 #define COUNT(a) (sizeof(a) / sizeof(a)[0])
 
-enum { PAGE = 4096, BIG = 65536, OTHERS = 5 };
+enum { PAGE = 4096, BIG = 65536 };
 
 /* The octets that are changed. */
 static struct spot { volatile uint8_t *at; uint8_t own; } spots[512];
-static size_t spot_count, only_last; /* if it isn't 0: so many of the last ones alone */
+static size_t spot_count;
 static volatile int stop;
 
 static void add_spots(const uint8_t *at, size_t count) {
@@ -77,116 +77,28 @@ static struct pkcs1_bytes identifier(struct pkcs1_bytes oid) {
     return made;
 }
 
-/* What is written, and what is read. */
-static struct pkcs1_public_key public_key;
-static struct pkcs1_private_key private_key;
-static struct pkcs1_other_prime others[OTHERS], *read_others;
-static struct pkcs1_private_key_info info;
-static struct pkcs1_pss_params pss;
-static struct pkcs1_oaep_params oaep;
+/* What is written, and what is read, in front of a page that can't be used. */
+static union value given, *got;
 static struct pkcs1_bytes der;
 
-/* The encoders. */
-#define WRITE(name, ...)                                                                                              \
-    static uint32_t write_##name(uint8_t *out, size_t room, size_t *len) {                                            \
-        return pkcs1_##name##_encode(__VA_ARGS__, out, room, len);                                                    \
-    }
-WRITE(public_key, &public_key)
-WRITE(private_key, &private_key, others, private_key.other_primes)
-WRITE(private_key_info, &info)
-WRITE(pss_params, &pss)
-WRITE(pss_algorithm, &pss)
-WRITE(oaep_params, &oaep)
-WRITE(oaep_algorithm, &oaep)
-
-/* The decoders. A slice lies in the encoding, or it is a default in the library, of a few octets. */
+/* A slice lies in the encoding, or it is a default in the library, of a few octets. */
 static volatile uint8_t sum;
-static void inside(struct pkcs1_bytes given) {
-    bool near = given.data >= der.data - PAGE && given.data <= der.data + der.len + PAGE;
-    CHECK(given.data != NULL && (near || given.len < 64));
-    CHECK(!near || (given.data >= der.data && given.len <= (size_t)(der.data + der.len - given.data)));
-    for (size_t i = 0; i < given.len; i++)
-        sum ^= given.data[i];
+static void inside(struct pkcs1_bytes slice) {
+    bool near = slice.data >= der.data - PAGE && slice.data <= der.data + der.len + PAGE;
+    CHECK(slice.data != NULL && (near || slice.len < 64));
+    CHECK(!near || (slice.data >= der.data && slice.len <= (size_t)(der.data + der.len - slice.data)));
+    for (size_t i = 0; i < slice.len; i++)
+        sum ^= slice.data[i];
 }
 
-static void key_inside(const struct pkcs1_private_key *key) {
-    const struct pkcs1_bytes numbers[] = {key->modulus, key->public_exponent, key->private_exponent, key->prime1,
-                                          key->prime2,  key->exponent1,       key->exponent2,        key->coefficient};
-    for (size_t i = 0; i < COUNT(numbers); i++)
-        inside(numbers[i]);
-    for (size_t i = 0; i < OTHERS && i < key->other_primes; i++)
-        inside(read_others[i].prime), inside(read_others[i].exponent), inside(read_others[i].coefficient);
+/* Each slice that was read does, up to the first of the other primes that the key doesn't have. */
+static void all_inside(const char *kind) {
+    size_t count = got->priv.key.other_primes;
+    const void *end = count < LISTED ? &got->priv.others[count] : got->priv.others + LISTED;
+    const struct pkcs1_bytes *slice;
+    for (size_t i = 0; (slice = next_field(kind, got, &i)) != NULL && slice != end;)
+        inside(*slice);
 }
-
-static void params_inside(const struct pkcs1_algorithm *hash, const struct pkcs1_mask_gen *mask_gen) {
-    inside(hash->oid), inside(hash->parameters);
-    inside(mask_gen->oid), inside(mask_gen->hash.oid), inside(mask_gen->hash.parameters);
-}
-
-#define READ(name, kind, arguments, checks)                                                                           \
-    static uint32_t read_##name(uint8_t *out, size_t room, size_t *len) {                                             \
-        struct pkcs1_##kind value;                                                                                    \
-        struct pkcs1_private_key key = {.other_primes = 0};                                                           \
-        (void)out, (void)room, (void)len, (void)key;                                                                  \
-        uint32_t status = pkcs1_##name arguments;                                                                     \
-        if (status == PKCS1_OK) {                                                                                     \
-            checks;                                                                                                   \
-        }                                                                                                             \
-        return status;                                                                                                \
-    }
-READ(public_key_decode, public_key, (der.data, der.len, &value), inside(value.modulus); inside(value.public_exponent))
-READ(private_key_decode, private_key, (der.data, der.len, &value, read_others, OTHERS), key_inside(&value))
-READ(private_key_info_decode, private_key_info, (der.data, der.len, &value, &key, read_others, OTHERS),
-     inside(value.private_key); inside(value.attributes); key_inside(&key))
-#define READ_PSS(name) READ(name, pss_params, (der.data, der.len, &value), params_inside(&value.hash, &value.mask_gen))
-#define READ_OAEP(name)                                                                                               \
-    READ(name, oaep_params, (der.data, der.len, &value),                                                              \
-         params_inside(&value.hash, &value.mask_gen); inside(value.p_source.oid); inside(value.p_source.parameters))
-READ_PSS(pss_params_decode)
-READ_PSS(pss_params_decode_strict)
-READ_PSS(pss_algorithm_decode)
-READ_PSS(pss_algorithm_decode_strict)
-READ_OAEP(oaep_params_decode)
-READ_OAEP(oaep_params_decode_strict)
-READ_OAEP(oaep_algorithm_decode)
-READ_OAEP(oaep_algorithm_decode_strict)
-
-/* The values that are written. */
-static void make_public(size_t exponent, size_t modulus) {
-    public_key.modulus = number(modulus);
-    public_key.public_exponent = number(exponent);
-}
-
-static void make_private(size_t coefficient, size_t primes) {
-    struct pkcs1_bytes *numbers[] = {&private_key.modulus, &private_key.public_exponent, &private_key.private_exponent,
-                                     &private_key.prime1,  &private_key.prime2,          &private_key.exponent1,
-                                     &private_key.exponent2};
-    for (size_t i = 0; i < COUNT(numbers); i++)
-        *numbers[i] = number(128);
-    private_key.coefficient = number(coefficient);
-    private_key.other_primes = primes;
-    for (size_t i = 0; i < primes; i++)
-        others[i] = (struct pkcs1_other_prime){number(128), number(128), number(coefficient)};
-}
-
-/* Three other primes, of which alone so many octets are changed: each number's first one, or those of their headers. */
-static void make_five_primes(size_t coefficient, size_t changed) {
-    make_private(coefficient, 3);
-    only_last = changed;
-}
-
-/* Without another hash function, SHA-1, the default. */
-static void make_params(size_t label, size_t other_hash) {
-    pkcs1_pss_params_init(&pss, other_hash ? &pkcs1_oid_sha256 : &pkcs1_oid_sha1, 32);
-    pss.hash.oid = pss.mask_gen.hash.oid = identifier(pss.hash.oid);
-    pss.mask_gen.oid = identifier(pkcs1_oid_mgf1);
-    pkcs1_oaep_params_init(&oaep, &pss.hash.oid, NULL, 0);
-    oaep.mask_gen.oid = pss.mask_gen.oid;
-    oaep.p_source.oid = identifier(pkcs1_oid_p_specified);
-    oaep.p_source.parameters = number(label);
-}
-
-typedef uint32_t call(uint8_t *, size_t, size_t *);
 
 /* The octets of headers, and the first two of contents, also of those in an OCTET STRING, all shorter than 64 KiB. */
 static void add_headers(const uint8_t *at, size_t len) {
@@ -202,12 +114,12 @@ static void add_headers(const uint8_t *at, size_t len) {
     }
 }
 
-/* The encoding that a call writes, whose headers alone are changed from now on. */
-static struct pkcs1_bytes encoding(call *write) {
+/* The encoding of what is given, whose headers alone are changed from now on. */
+static struct pkcs1_bytes encoding(const char *kind) {
     struct pkcs1_bytes made = {NULL, 0};
-    CHECK(write(NULL, 0, &made.len) == PKCS1_NO_ROOM);
-    uint8_t *out = malloc(made.len);
-    CHECK(out != NULL && write(out, made.len, &made.len) == PKCS1_OK);
+    CHECK(write_row(kind, &given, NULL, 0, &made.len) == PKCS1_NO_ROOM);
+    uint8_t *out = filled(made.len);
+    CHECK(write_row(kind, &given, out, made.len, &made.len) == PKCS1_OK);
     made = copied(out, made.len);
     free(out);
     spot_count = 0;
@@ -215,45 +127,64 @@ static struct pkcs1_bytes encoding(call *write) {
     return made;
 }
 
-static void make_info(size_t coefficient, size_t primes) {
-    make_private(coefficient, primes);
-    info.private_key = encoding(write_private_key);
-    info.has_attributes = true;
-    info.attributes = copied("\x30\3\2\1\5", 5);
+/* The values that are written. Those behind the first eight numbers are of other primes, three of each. */
+static void make_private(size_t coefficient, size_t primes) {
+    given.priv.key.other_primes = primes;
+    for (size_t i = 0, n = 0; n < 8 + 3 * primes; n++)
+        *next_field("priv", &given, &i) = number(n >= 7 && n % 3 == 1 ? coefficient : 128);
 }
 
-/* With `read`, what `write` wrote is read. The calls that once did harm take longer. */
+/* Of no other hash function than SHA-1, the default, or of another. */
+static void make_params(const char *kind, size_t label_len, bool other_hash) {
+    struct pkcs1_bytes hash = identifier(other_hash ? pkcs1_oid_sha256 : pkcs1_oid_sha1);
+    if (kind[0] == 'p') {
+        pkcs1_pss_params_init(&given.pss, &hash, 32);
+        given.pss.mask_gen.oid = identifier(pkcs1_oid_mgf1);
+    } else {
+        struct pkcs1_bytes label = number(label_len);
+        pkcs1_oaep_params_init(&given.oaep, &hash, label.data, label.len);
+        given.oaep.mask_gen.oid = identifier(pkcs1_oid_mgf1);
+        given.oaep.p_source.oid = identifier(pkcs1_oid_p_specified);
+    }
+}
+
+static void make(const char *kind, size_t size, size_t more) {
+    if (strcmp(kind, "pub") == 0)
+        given.key = (struct pkcs1_public_key){number(more), number(size)};
+    else if (strcmp(kind, "priv") == 0 || strcmp(kind, "info") == 0)
+        make_private(size, more);
+    else
+        make_params(kind, size, more > 0);
+    if (strcmp(kind, "info") == 0)
+        given.priv.info = (struct pkcs1_private_key_info){encoding("priv"), true, copied("\x30\3\2\1\5", 5)};
+}
+
+/* What is written, or read. `size` are the octets of what stands last, `more` those of the modulus, or how many other
+ * primes there are, or whether there is another hash function. If `last` isn't 0, so many of the last octets alone are
+ * changed: each number's first one of three other primes, or those of their headers. */
+#define READ(word, number, call, type, part) {"read-" word, word, 5, 256, 0.5, 0},
 static const struct mode {
-    const char *name;
-    void (*make)(size_t, size_t);
+    const char *name, *kind;
     size_t size, more;
     double seconds;
-    call *write, *read;
+    size_t last;
 } modes[] = {
-    {"public", make_public, BIG, 256, 0.5, write_public_key, NULL},
-    {"public-small", make_public, 3, 256, 0.5, write_public_key, NULL},
-    {"private", make_private, BIG, 0, 0.5, write_private_key, NULL},
-    {"private-small", make_private, 128, 0, 0.5, write_private_key, NULL},
-    {"primes", make_private, BIG, OTHERS, 0.5, write_private_key, NULL},
-    {"five-primes", make_five_primes, 128, 9, 0.5, write_private_key, NULL},
-    {"container", make_info, 128, OTHERS, 0.2, write_private_key_info, NULL},
-    {"pss", make_params, 3 * PAGE, 0, 0.2, write_pss_params, NULL},
-    {"pss-algorithm", make_params, 3 * PAGE, 0, 0.2, write_pss_algorithm, NULL},
-    {"oaep", make_params, 3 * PAGE, 0, 0.2, write_oaep_params, NULL},
-    {"oaep-algorithm", make_params, 3 * PAGE, 0, 0.2, write_oaep_algorithm, NULL},
-    {"read-public", make_public, 3, 256, 0.2, write_public_key, read_public_key_decode},
-    {"read-private", make_private, 128, 0, 0.2, write_private_key, read_private_key_decode},
-    {"read-primes", make_private, 128, OTHERS, 0.2, write_private_key, read_private_key_decode},
-    {"read-five-primes", make_five_primes, 128, 63, 0.5, write_private_key, read_private_key_decode},
-    {"read-container", make_info, 128, OTHERS, 0.2, write_private_key_info, read_private_key_info_decode},
-    {"read-pss", make_params, 5, 1, 0.2, write_pss_params, read_pss_params_decode},
-    {"read-pss-strict", make_params, 5, 1, 0.2, write_pss_params, read_pss_params_decode_strict},
-    {"read-pss-algorithm", make_params, 5, 1, 0.2, write_pss_algorithm, read_pss_algorithm_decode},
-    {"read-pss-algorithm-strict", make_params, 5, 1, 0.5, write_pss_algorithm, read_pss_algorithm_decode_strict},
-    {"read-oaep", make_params, 5, 1, 0.2, write_oaep_params, read_oaep_params_decode},
-    {"read-oaep-strict", make_params, 5, 1, 0.2, write_oaep_params, read_oaep_params_decode_strict},
-    {"read-oaep-algorithm", make_params, 5, 1, 0.2, write_oaep_algorithm, read_oaep_algorithm_decode},
-    {"read-oaep-algorithm-strict", make_params, 5, 1, 0.5, write_oaep_algorithm, read_oaep_algorithm_decode_strict}};
+    {"public", "pub", BIG, 256, 0.5, 0},
+    {"public-small", "pub", 3, 256, 0.5, 0},
+    {"private", "priv", BIG, 0, 0.5, 0},
+    {"private-small", "priv", 128, 0, 0.5, 0},
+    {"primes", "priv", BIG, LISTED, 0.5, 0},
+    {"five-primes", "priv", 128, 3, 0.5, 9},
+    {"container", "info", 128, LISTED, 0.2, 0},
+    {"pss", "pss", 3 * PAGE, 0, 0.2, 0},
+    {"pss-algorithm", "pss-algorithm", 3 * PAGE, 0, 0.2, 0},
+    {"oaep", "oaep", 3 * PAGE, 0, 0.2, 0},
+    {"oaep-algorithm", "oaep-algorithm", 3 * PAGE, 0, 0.2, 0},
+    {"read-private", "priv", 128, 0, 0.2, 0},
+    {"read-primes", "priv", 128, LISTED, 0.2, 0},
+    {"read-five-primes", "priv", 128, 3, 0.5, 63},
+    {"read-container", "info", 128, LISTED, 0.2, 0},
+    DECODERS(READ)};
 
 static double now(void) {
     struct timespec time;
@@ -261,23 +192,33 @@ static double now(void) {
     return (double)time.tv_sec + (double)time.tv_nsec / 1e9;
 }
 
+/* Reads, into what was filled with other octets. */
+static uint32_t read_again(const char *kind) {
+    uint32_t status = read_row(kind, der.data, der.len, memset(got, 0xa5, sizeof *got));
+    if (status == PKCS1_OK)
+        all_inside(kind);
+    if (status == PKCS1_OK && strcmp(kind, "info") == 0)
+        all_inside("priv");
+    return status;
+}
+
 /* Calls with room for as many octets as are needed, one less, and one more, at the end of an area of whole pages. */
 static void race(const struct mode *it, double seconds) {
     size_t exact = 0, first_len = 0;
     uint32_t first = PKCS1_OK;
-    bool another = false;
+    bool another = false, reads = strncmp(it->name, "read-", 5) == 0;
     unsigned long calls = 0;
     uint8_t marks[512], *end;
     pthread_t thread;
-    it->make(it->size, it->more);
-    if (it->read != NULL)
-        der = encoding(it->write);
-    if (only_last > 0) {
-        CHECK(only_last < spot_count);
-        memmove(spots, spots + spot_count - only_last, only_last * sizeof *spots);
-        spot_count = only_last;
+    make(it->kind, it->size, it->more);
+    if (reads)
+        der = encoding(it->kind);
+    if (it->last > 0) {
+        CHECK(it->last < spot_count);
+        memmove(spots, spots + spot_count - it->last, it->last * sizeof *spots);
+        spot_count = it->last;
     }
-    CHECK(it->write(NULL, 0, &exact) == PKCS1_NO_ROOM);
+    CHECK(write_row(it->kind, &given, NULL, 0, &exact) == PKCS1_NO_ROOM);
     size_t area_len = exact + 2 * PAGE - exact % PAGE;
     end = guarded(area_len, true) + area_len;
     CHECK(pthread_create(&thread, NULL, change, NULL) == 0);
@@ -286,7 +227,7 @@ static void race(const struct mode *it, double seconds) {
         size_t room = exact + calls % 3 - 1, len = 0;
         uint8_t *out = end - room;
         memcpy(out - sizeof marks, marks, sizeof marks);
-        uint32_t status = (it->read ? it->read : it->write)(out, room, &len);
+        uint32_t status = reads ? read_again(it->kind) : write_row(it->kind, &given, out, room, &len);
         CHECK(status != PKCS1_OK || len <= room);
         CHECK(memcmp(out - sizeof marks, marks, sizeof marks) == 0);
         if (calls == 0)
@@ -299,7 +240,8 @@ static void race(const struct mode *it, double seconds) {
 }
 
 int main(int argc, char **argv) {
-    read_others = (struct pkcs1_other_prime *)guarded(OTHERS * sizeof *read_others, false);
+    got = (union value *)guarded(sizeof *got, false);
+    CHECK((void *)(got->priv.others + LISTED) == got + 1);
     for (size_t i = 0; i < COUNT(modes); i++) {
         if (argc == 1)
             puts(modes[i].name);

@@ -23,6 +23,12 @@ static const struct { const char *text; uint32_t status; } errors[] = {
     {"the tag octet ", PKCS1_TAG_UNKNOWN}, {"bytes follow the value", PKCS1_TRAILING_DATA},
     {" is not allowed", PKCS1_VALUE}};
 
+void *filled(size_t n) {
+    void *made = malloc(n);
+    CHECK(made != NULL);
+    return memset(made, 0xa5, n);
+}
+
 /* The status that follows from what a row says. Of a container that is accepted, it may say that its key is refused. */
 static uint32_t status_of(const char *text) {
     const char *refused = strstr(text, "refused: ");

@@ -13,12 +13,6 @@ static bool same(struct pkcs1_bytes b, const char *want, size_t n) {
     return b.data != NULL && b.len == n && memcmp(b.data, want, n) == 0;
 }
 
-void *filled(size_t n) {
-    void *made = malloc(n);
-    CHECK(made != NULL);
-    return memset(made, 0xa5, n);
-}
-
 /* Numbers with zero octets in front and without, and one of each bit length up to 4096. */
 static void bit_lengths(void) {
     uint8_t octets[512] = {0};

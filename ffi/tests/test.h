@@ -25,8 +25,8 @@ union value {
     struct {
         struct pkcs1_private_key key;
         struct pkcs1_private_key_info info;
+        struct pkcs1_bytes listed; /* where all other primes are encoded, for ffi/tests/fuzz/reference.h */
         struct pkcs1_other_prime others[LISTED];
-        struct pkcs1_bytes listed; /* where all of them are encoded, for ffi/tests/fuzz/reference.h */
     } priv;
     struct pkcs1_pss_params pss;
     struct pkcs1_oaep_params oaep;

@@ -64,7 +64,7 @@ done
 [ -z "$conduct" ] || "$conduct"
 
 # Octets that change during a call; two threads a mode.
-"$CC" -std=c99 "${flags[@]}" "$here/races.c" "$out/libpkcs1.a" -lpthread -o "$room/races"
+"$CC" -std=c99 "${flags[@]}" "$here"/{races,rows}.c "$out/libpkcs1.a" -lpthread -o "$room/races"
 "$room/races" | xargs -P $((($(nproc) + 1) / 2)) -n 1 timeout 60 "$room/races" > "$room/log" ||
     stop "octets that change during a call do harm"
 

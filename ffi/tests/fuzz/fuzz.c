@@ -30,13 +30,6 @@ static uint8_t *at_the_end(uint8_t **area, size_t len) {
     return *area + MOST - len;
 }
 
-void *filled(size_t n) {
-    void *made = malloc(n);
-    if (made == NULL)
-        abort();
-    return memset(made, 0xa5, n);
-}
-
 /* Written with too little room, then with just enough: the same octets, but for parameters with explicit defaults. */
 static void write_again(const char *kind, const union value *value) {
     static uint8_t *area;
