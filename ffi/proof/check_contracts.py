@@ -3,7 +3,8 @@
 types of the Rattle signature require: the exports have no clause `requires`. Each clause that it promises is named as
 the Rattle clause that says the same, and that one has the words for what it says. And Rattle says what it said when
 somebody last read both: ffi/proof/clauses has the signature and the clauses of each function, and each definition of
-Structs.antt. So a clause that gets weaker, or stronger, is read again. What differs is printed; the status is 1 then.
+Structs.antt. So a clause that gets weaker, or stronger, is read again. The types of each call are those of pkcs1_c.h, and
+the fields of structs and the statuses those of ffi/tests/abi. What differs is printed; the status is 1 then.
 
     check_contracts.py [--write] [ACSL]     ACSL: other contracts. --write: writes `clauses`, once both were read"""
 import difflib
@@ -19,7 +20,9 @@ import acsl  # noqa: E402
 CLAUSES = f"{TOP}/ffi/proof/clauses"
 CALL = r'#\[unsafe\(no_mangle\)\]\s*pub extern "C" fn (\w+)(.*?)\{\n'
 DEFINITION = r"^(?:abbrev pub|pub record|pub data) .*?(?=\n\n|\Z)"
-EXPORT = r'#\[unsafe\(no_mangle\)\]\s*pub extern "C" fn (\w+)(?:<[^>]*>)?\((.*?)\)(?: -> \w+)?\n(.*?)\n?\{\n'
+EXPORT = r'#\[unsafe\(no_mangle\)\]\s*pub extern "C" fn (\w+)(?:<[^>]*>)?\((.*?)\)(?: -> (\w+))?\n(.*?)\n?\{\n'
+STRUCT = r"#\[repr\(C\)\]\s*#\[derive\([^)]*\)\]\s*pub struct (\w+)(?:<'a>)? \{(.*?)\n\}"
+C_TYPES = {"u8": "uint8_t", "u32": "uint32_t", "u64": "uint64_t", "usize": "size_t", "bool": "bool", "": "void"}
 NAMES = {"PublicKey": "public_key", "PrivateKey": "private_key", "OtherPrime": "others", "PrivateKeyInfo": "info",
          "Algorithm": "algorithm", "MaskGen": "mask_gen", "PssParams": "pss", "OaepParams": "oaep", "Bytes": "bytes"}
 # What no clause of Rattle says: `types` its types say, the others where pointers lead.
@@ -74,15 +77,59 @@ def split(text, by):
     return [it.replace(" ", "") for it in parts + [text[start:]]]
 
 
+def parsed(word):
+    """A type of Rattle: whether it's a reference, and one that may be written; whether to several; and to what."""
+    word = re.sub(r"<[^>]*>|'\w+ ", "", word).strip()
+    return re.fullmatch(r"(&?)(mut )?(\[?)(\w*)\]?", word).groups()
+
+
+def in_c(word):
+    """What C passes for a type of Rattle: a slice as a pointer and a length."""
+    pointer, mut, several, of = parsed(word)
+    if of == "Global":
+        return []
+    of = C_TYPES.get(of) or "struct pkcs1_" + re.sub(r"(?<=[a-z])(?=[A-Z])", "_", of).lower()
+    if not pointer:
+        return [of]
+    return [f"{'' if mut else 'const '}{of} *", *(["size_t"] if several else [])]
+
+
+def field_in_c(name, word):
+    """The fields of C for a field of Rattle: a struct for a slice, but where that struct is declared."""
+    types = in_c(word)
+    if name == "octets":
+        return [f"{of} {it}".replace("* ", "*") for of, it in zip(types, ("data", "len"))]
+    return [f"{'struct pkcs1_bytes' if len(types) == 2 else types[0]} {name}"] if types else []
+
+
+def layout(source, exports):
+    """What Rattle declares, as ffi/tests/abi has it of C: calls, fields and statuses."""
+    for name, words, result, _ in exports:
+        types = [it for word in re.findall(r"\w+: ([^,]+)", words) for it in in_c(word)]
+        yield f"{in_c(result)[0]} {name}({', '.join(types)});"
+    for name, body in re.findall(STRUCT, source, re.S):
+        for field in re.findall(r"^ +pub (\w+): ([^,]+),", body, re.M):
+            yield from (f"{in_c(name)[0]}: {it}" for it in field_in_c(*field))
+    yield from (f"PKCS1_{name} = {it}" for name, it in re.findall(r"const (\w+): u32 = (\d+);", source))
+
+
+def layout_in_c():
+    """The same of C."""
+    for it in re.findall(r"^\w+ pkcs1_c_\w+\([^)]*\);", read(f"{TOP}/ffi/lib/include/pkcs1_c.h"), re.M):
+        yield re.sub(r" (\*?)\w+(?=[,)])", lambda name: name[1] and " *", " ".join(it.split()))
+    for it in read(f"{TOP}/ffi/tests/abi").splitlines():
+        if re.match(r"struct \w+: .* at |PKCS1_(?!ABI)\w+ = ", it):
+            yield it.split(" at ")[0]
+
+
 def wanted(words, names):
     """What the types require: of each place; which places are mutable, and all; and the octets that structs hold."""
     atoms, mutable, places, octets = set(), set(), [], []
     for word in re.findall(r"\w+: ([^,]+)", words):
-        word = re.sub(r"<[^>]*>|'\w+ ", "", word).strip()
-        if word in ("Global", "u32"):
-            names = names if word == "Global" else names[1:]
+        pointer, mut, several, of = parsed(word)
+        if not pointer:
+            names = names if of == "Global" else names[1:]
             continue
-        mut, several, of = re.fullmatch(r"&(mut )?(\[?)(\w+)\]?", word).groups()
         place, *names = names
         given = f"*{place}"
         if several:
@@ -161,6 +208,10 @@ def promised(call, clauses, named):
             yield "unchanged says what is old, but its clause doesn't"
 
 
+def differing(what, old, new):
+    return [f"{what}: {it.rstrip()}" for it in difflib.ndiff(old, new) if it[0] in "-+"]
+
+
 def main():
     path = next((it for it in sys.argv[1:] if it != "--write"), f"{TOP}/ffi/proof/pkcs1.acsl.h")
     text, (named, calls) = acsl.expanded(path), acsl.read(path)
@@ -168,7 +219,7 @@ def main():
     records = dict(re.findall(r"pub (\w+) : (.*)", re.search(r"record WritesOrTells .*? where\n(.*?)\n\n", structs, re.S)[1]))
     source = "\n".join(map(read, sorted(glob.glob(f"{TOP}/crates/pkcs1_c/src/*.rt"))))
     exports, wrong = re.findall(EXPORT, source, re.S), []
-    for name, words, clauses in exports:
+    for name, words, _, clauses in exports:
         found = re.search(r"CONTRACT((?:(?!CONTRACT).)*?)OF \w+ " + name + r"\((.*?)\);", text)
         if not found:
             wrong.append(f"{name}: has no contract")
@@ -178,15 +229,18 @@ def main():
         if re.search(r"^\s*requires", clauses, re.M):
             seen.append("has a clause `requires` in Rattle")
         wrong += [f"{name}: {it}" for it in seen]
-    more = {it for it in calls if it.startswith("pkcs1_c_")} - {name for name, _, _ in exports}
+    more = {it for it in calls if it.startswith("pkcs1_c_")} - {name for name, *_ in exports}
     wrong += [f"{name}: isn't in Rattle" for name in sorted(more)]
     now = [*lines_of(source, structs)]
     if "--write" in sys.argv:
         with open(CLAUSES, "w", encoding="utf-8") as it:
             it.writelines(now)
-    wrong += [f"ffi/proof/clauses: {it.rstrip()}" for it in difflib.ndiff([*open(CLAUSES, encoding="utf-8")], now)
-              if it[0] in "-+"]
-    print("\n".join([*wrong, f"{len(exports)} calls of {len(now)} clauses, in which {len(wrong)} things differ"]))
+    wrong += differing("ffi/proof/clauses", [*open(CLAUSES, encoding="utf-8")], now)
+    in_order = lambda lines: sorted(lines, key=lambda it: it.split(":")[0])  # the fields of a struct in theirs
+    declared = in_order(layout(source, exports))
+    wrong += differing("C (-) and Rattle (+)", in_order(layout_in_c()), declared)
+    print("\n".join([*wrong, f"{len(exports)} calls of {len(now)} clauses and {len(declared)} declarations, in which "
+                             f"{len(wrong)} things differ"]))
     sys.exit(len(wrong) > 0)
 
 

@@ -57,7 +57,6 @@ documents() {
 # declared: what C declares is what the proved calls take, as their contracts in ACSL have it.
 declared() {
     needs python3
-    ffi/tests/check_layout.py
     ffi/proof/check_contracts.py
 }
 # rows CRATE: what the program writes for its stored input.
