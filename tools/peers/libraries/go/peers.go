@@ -26,13 +26,9 @@ type oaepParams struct {
 	MaskGen maskGen                  `asn1:"optional,explicit,tag:1"`
 	Source  pkix.AlgorithmIdentifier `asn1:"optional,explicit,tag:2"`
 }
-type pssAlgorithm struct {
+type inAlgorithm[P any] struct {
 	Algorithm  asn1.ObjectIdentifier
-	Parameters pssParams
-}
-type oaepAlgorithm struct {
-	Algorithm  asn1.ObjectIdentifier
-	Parameters oaepParams
+	Parameters P
 }
 
 var oidPSS = asn1.ObjectIdentifier{1, 2, 840, 113549, 1, 1, 10}
@@ -41,8 +37,12 @@ var oidOAEP = asn1.ObjectIdentifier{1, 2, 840, 113549, 1, 1, 7}
 // A call tells whether the input is accepted and, if asked to write, what is written (nil: nothing).
 type call func(der []byte, write bool) (bool, []byte)
 
-func (value *pssParams) isValid() bool {
+func isPSS(value *pssParams) bool {
 	return value.Trailer == 1 && value.Salt >= 0
+}
+
+func isOAEP(*oaepParams) bool {
+	return true
 }
 
 func isWhole(der []byte, value interface{}) bool {
@@ -61,52 +61,30 @@ func marshal(value interface{}, write bool) []byte {
 	return made
 }
 
-func publicKey(der []byte, write bool) (bool, []byte) {
-	key, err := x509.ParsePKCS1PublicKey(der)
-	if err != nil || !write {
-		return err == nil, nil
+func key[K any](parse func([]byte) (*K, error), marshal func(*K) []byte) call {
+	return func(der []byte, write bool) (bool, []byte) {
+		key, err := parse(der)
+		if err != nil || !write {
+			return err == nil, nil
+		}
+		return true, marshal(key)
 	}
-	return true, x509.MarshalPKCS1PublicKey(key)
 }
 
-func privateKey(der []byte, write bool) (bool, []byte) {
-	key, err := x509.ParsePKCS1PrivateKey(der)
-	if err != nil || !write {
-		return err == nil, nil
+func alone[P any](isValid func(*P) bool) call {
+	return func(der []byte, write bool) (bool, []byte) {
+		var value P
+		if !isWhole(der, &value) || !isValid(&value) {
+			return false, nil
+		}
+		return true, marshal(value, write)
 	}
-	return true, x509.MarshalPKCS1PrivateKey(key)
 }
 
-func pss(der []byte, write bool) (bool, []byte) {
-	var value pssParams
-	if !isWhole(der, &value) || !value.isValid() {
-		return false, nil
-	}
-	return true, marshal(value, write)
-}
-
-func pssInAlgorithm(der []byte, write bool) (bool, []byte) {
-	var value pssAlgorithm
-	if !isWhole(der, &value) || !value.Algorithm.Equal(oidPSS) || !value.Parameters.isValid() {
-		return false, nil
-	}
-	return true, marshal(value, write)
-}
-
-func oaep(der []byte, write bool) (bool, []byte) {
-	var value oaepParams
-	if !isWhole(der, &value) {
-		return false, nil
-	}
-	return true, marshal(value, write)
-}
-
-func oaepInAlgorithm(der []byte, write bool) (bool, []byte) {
-	var value oaepAlgorithm
-	if !isWhole(der, &value) || !value.Algorithm.Equal(oidOAEP) {
-		return false, nil
-	}
-	return true, marshal(value, write)
+func under[P any](oid asn1.ObjectIdentifier, isValid func(*P) bool) call {
+	return alone(func(value *inAlgorithm[P]) bool {
+		return value.Algorithm.Equal(oid) && isValid(&value.Parameters)
+	})
 }
 
 func pkcs8(der []byte, write bool) (bool, []byte) {
@@ -125,7 +103,9 @@ func pkcs8(der []byte, write bool) (bool, []byte) {
 	return true, made
 }
 
-var calls = []call{publicKey, privateKey, privateKey, pss, pssInAlgorithm, oaep, oaepInAlgorithm, pkcs8}
+var privateKey = key(x509.ParsePKCS1PrivateKey, x509.MarshalPKCS1PrivateKey)
+var calls = []call{key(x509.ParsePKCS1PublicKey, x509.MarshalPKCS1PublicKey), privateKey, privateKey,
+	alone(isPSS), under(oidPSS, isPSS), alone(isOAEP), under(oidOAEP, isOAEP), pkcs8}
 
 func main() {
 	switch {
