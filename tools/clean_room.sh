@@ -326,8 +326,8 @@ one_file() {
     diff "$room/amalgamation/pkcs1_all.c" "$room/one file/pkcs1_all.c"
     cc ffi/examples/modulus.c "$room/one file/pkcs1_all.c" "-I$room/one file" -o "$room/own"
     prints "$room/own"
-    cc ffi/tests/{test,rows,large}.c "$room/one file/pkcs1_all.c" "-I$room/one file" -Iffi/lib/include \
-        -o "$room/own_test"
+    cc ffi/tests/{test,rows,large,fuzz/{reference,elements,compare}}.c "$room/one file/pkcs1_all.c" "-I$room/one file" \
+        -Iffi/lib/include -o "$room/own_test"
     "$room/own_test" crates/pkcs1_vectors/stdin
 }
 # parts FOLDER: the list of a release's parts has each crate that is built in, what rustc took in of Rust's own, and the

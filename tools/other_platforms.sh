@@ -14,7 +14,7 @@ leave() {
 }
 trap leave EXIT
 rows=$PWD/crates/pkcs1_vectors/stdin
-tests=(-Iffi/lib/include ffi/tests/{test,rows,large}.c)
+tests=(-Iffi/lib/include ffi/tests/{test,rows,large,fuzz/{reference,elements,compare}}.c)
 wasi=(clang --target=wasm32-wasi --sysroot=/usr -I/usr/include/wasm32-wasi)
 node=(node --no-warnings "$PWD/tools/wasi.mjs")
 

@@ -13,6 +13,8 @@ cd "$(dirname "$0")/../.."
 export LC_ALL=C
 CC=${CC:-cc} nm=${NM:-nm} readelf=${READELF:-readelf}
 tests=$out/tests
+sources='ffi/tests/test.c ffi/tests/rows.c ffi/tests/large.c'
+sources="$sources ffi/tests/fuzz/reference.c ffi/tests/fuzz/elements.c ffi/tests/fuzz/compare.c"
 mkdir -p "$tests"
 : > "$tests/none"
 # Where qemu, of which RUN may be one, finds the C library of the other machine.
@@ -35,7 +37,7 @@ c_test() {
     name=$1
     shift
     # shellcheck disable=SC2086 # words
-    $CC ${CFLAGS-} -std=c99 -Iffi/lib/include ffi/tests/test.c ffi/tests/rows.c ffi/tests/large.c "$@" -o "$tests/$name"
+    $CC ${CFLAGS-} -std=c99 -Iffi/lib/include $sources "$@" -o "$tests/$name"
     ${RUN-} "$tests/$name" crates/pkcs1_vectors/stdin
 }
 # windows and archive: the C test with what was built for these.

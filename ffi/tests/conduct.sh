@@ -53,7 +53,8 @@ stack_suffices() {
 }
 stack_suffices_in_tests() {
     # shellcheck disable=SC2046,SC2086
-    link "$1" stack "$room"/{stack,painted,test,rows,large}.o ${coders//pkcs1_/-Wl,--wrap=pkcs1_} &&
+    link "$1" stack "$room"/{stack,painted,test,rows,large,reference,elements,compare}.o \
+        ${coders//pkcs1_/-Wl,--wrap=pkcs1_} &&
         "$1/stack" crates/pkcs1_vectors/stdin > "$1/taken" && takes "$1" $(sed -n 's/^stack //p' "$1/taken")
 }
 keeps_nothing() {
@@ -74,9 +75,9 @@ notices() {
     grep -qE "$2" "$room/log" || stop "$1 notices $4 otherwise: $(cat "$room/log")"
 }
 
-for name in painted secrets stack test rows large; do
+for name in painted secrets stack test rows large fuzz/{reference,elements,compare}; do
     # shellcheck disable=SC2086
-    gcc $warned -O1 -g -c "ffi/tests/$name.c" -o "$room/$name.o"
+    gcc $warned -O1 -g -c "ffi/tests/$name.c" -o "$room/${name#*/}.o"
 done
 # holds FOLDER TEST..: the calls in this folder of the room pass the tests.
 holds() {

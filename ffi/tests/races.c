@@ -91,12 +91,9 @@ static void inside(struct pkcs1_bytes slice) {
         sum ^= slice.data[i];
 }
 
-/* Each slice that was read does, up to the first of the other primes that the key doesn't have. */
 static void all_inside(const char *kind) {
-    size_t count = got->priv.key.other_primes;
-    const void *end = count < LISTED ? &got->priv.others[count] : got->priv.others + LISTED;
     const struct pkcs1_bytes *slice;
-    for (size_t i = 0; (slice = next_field(kind, got, &i)) != NULL && slice != end;)
+    for (size_t i = 0; (slice = next_field(kind, got, &i)) != NULL;)
         inside(*slice);
 }
 

@@ -1,8 +1,8 @@
-/* The worked rows whose word is a kind. Decoding has the status that follows from a row. An error leaves the struct
- * unchanged, as does each beginning of what is accepted. An accepted value is encoded again, as the row says. It is also
- * encoded with too little room and with more, and with each of its fields empty. Each field points to where it stands in
- * the input. The rows that ask whether two values mean the same, too. */
-#include "test.h"
+/* The worked rows whose word is a kind. Decoding has the status that follows from a row, and the second reader's, which
+ * reads the same values at the same places. An error leaves the struct unchanged, as does each beginning of what is
+ * accepted. An accepted value is encoded again, as the row says. It is also encoded with too little room and with more,
+ * and with each of its fields empty. The rows that ask whether two values mean the same, too. */
+#include "fuzz/reference.h"
 #include <string.h>
 
 /* Octets that no row has more of. */
@@ -60,131 +60,47 @@ uint32_t write_row(const char *kind, const union value *v, uint8_t *out, size_t 
     return pkcs1_private_key_encode(&v->priv.key, v->priv.others, v->priv.key.other_primes, out, room, len);
 }
 
-/* The fields of octets: the first letters of their kinds, where they stand, and the status if one that isn't empty is.
- * Each letter of `path` leads from the contents of an encoding to those of an element in it. 0 is the first element.
- * a, b and c are those with the tags a0, a1 and a2. */
-#define FIELD(kind, path, field, status) {kind, path, offsetof(union value, field), status}
-#define OTHER(i)                                                      \
-    FIELD("priv", "9" #i "0", priv.others[i].prime, PKCS1_LENGTH),    \
-    FIELD("priv", "9" #i "1", priv.others[i].exponent, PKCS1_LENGTH), \
-    FIELD("priv", "9" #i "2", priv.others[i].coefficient, PKCS1_LENGTH)
-static const struct { const char *kind, *path; size_t at; uint32_t status; } fields[] = {
-    FIELD("pub", "0", key.modulus, PKCS1_LENGTH),
-    FIELD("pub", "1", key.public_exponent, PKCS1_LENGTH),
-    FIELD("priv", "1", priv.key.modulus, PKCS1_LENGTH),
-    FIELD("priv", "2", priv.key.public_exponent, PKCS1_LENGTH),
-    FIELD("priv", "3", priv.key.private_exponent, PKCS1_LENGTH),
-    FIELD("priv", "4", priv.key.prime1, PKCS1_LENGTH),
-    FIELD("priv", "5", priv.key.prime2, PKCS1_LENGTH),
-    FIELD("priv", "6", priv.key.exponent1, PKCS1_LENGTH),
-    FIELD("priv", "7", priv.key.exponent2, PKCS1_LENGTH),
-    FIELD("priv", "8", priv.key.coefficient, PKCS1_LENGTH),
-    OTHER(0), OTHER(1), OTHER(2), OTHER(3),
-    FIELD("info", "2", priv.info.private_key, PKCS1_INCOMPLETE),
-    FIELD("info", "a", priv.info.attributes, PKCS1_OK),
-    FIELD("pss", "a00", pss.hash.oid, PKCS1_OID_MALFORMED),
-    FIELD("pss", "a01", pss.hash.parameters, PKCS1_OK),
-    FIELD("pss", "b00", pss.mask_gen.oid, PKCS1_OID_MALFORMED),
-    FIELD("pss", "b010", pss.mask_gen.hash.oid, PKCS1_OID_MALFORMED),
-    FIELD("pss", "b011", pss.mask_gen.hash.parameters, PKCS1_OK),
-    FIELD("oaep", "a00", oaep.hash.oid, PKCS1_OID_MALFORMED),
-    FIELD("oaep", "a01", oaep.hash.parameters, PKCS1_OK),
-    FIELD("oaep", "b00", oaep.mask_gen.oid, PKCS1_OID_MALFORMED),
-    FIELD("oaep", "b010", oaep.mask_gen.hash.oid, PKCS1_OID_MALFORMED),
-    FIELD("oaep", "b011", oaep.mask_gen.hash.parameters, PKCS1_OK),
-    FIELD("oaep", "c00", oaep.p_source.oid, PKCS1_OID_MALFORMED),
-    FIELD("oaep", "c01", oaep.p_source.parameters, PKCS1_OK)};
+/* The fields of octets: how their kinds begin, where they stand, and the status if one that isn't empty is. */
+#define FIELD(kind, field, status) {kind, offsetof(union value, field), status}
+#define NUMBER(kind, field) FIELD(kind, field, PKCS1_LENGTH)
+#define OTHER(part) NUMBER("priv", part.prime), NUMBER("priv", part.exponent), NUMBER("priv", part.coefficient)
+#define IDENTIFIER(kind, field) FIELD(kind, field, PKCS1_OID_MALFORMED)
+#define ALGORITHM(kind, part) IDENTIFIER(kind, part.oid), FIELD(kind, part.parameters, PKCS1_OK)
+#define MASK_GEN(kind, part) IDENTIFIER(kind, part.oid), ALGORITHM(kind, part.hash)
+static const struct { const char *kind; size_t at; uint32_t status; } fields[] = {
+    NUMBER("pub", key.modulus), NUMBER("pub", key.public_exponent),
+    NUMBER("priv", priv.key.modulus), NUMBER("priv", priv.key.public_exponent),
+    NUMBER("priv", priv.key.private_exponent), NUMBER("priv", priv.key.prime1), NUMBER("priv", priv.key.prime2),
+    NUMBER("priv", priv.key.exponent1), NUMBER("priv", priv.key.exponent2), NUMBER("priv", priv.key.coefficient),
+    OTHER(priv.others[0]), OTHER(priv.others[1]), OTHER(priv.others[2]), OTHER(priv.others[3]),
+    FIELD("info", priv.info.private_key, PKCS1_INCOMPLETE), FIELD("info", priv.info.attributes, PKCS1_OK),
+    ALGORITHM("pss", pss.hash), MASK_GEN("pss", pss.mask_gen),
+    ALGORITHM("oaep", oaep.hash), MASK_GEN("oaep", oaep.mask_gen), ALGORITHM("oaep", oaep.p_source)};
 enum { FIELDS = sizeof fields / sizeof fields[0] };
 
-static bool has_field(const char *kind, size_t i) {
-    return strncmp(kind, fields[i].kind, strlen(fields[i].kind)) == 0;
+/* Whether the value has the field. Of other primes it has those that the key has. */
+static bool has_field(const char *kind, const union value *value, size_t i) {
+    size_t others = offsetof(union value, priv.others), at = fields[i].at;
+    return strncmp(kind, fields[i].kind, strlen(fields[i].kind)) == 0 &&
+           (at < others || (at - others) / sizeof value->priv.others[0] < value->priv.key.other_primes);
 }
 
-struct pkcs1_bytes *next_field(const char *kind, union value *value, size_t *i) {
-    while (*i < FIELDS && !has_field(kind, *i))
+struct pkcs1_bytes *next_field(const char *kind, const union value *value, size_t *i) {
+    while (*i < FIELDS && !has_field(kind, value, *i))
         ++*i;
     return *i < FIELDS ? (void *)((uint8_t *)value + fields[(*i)++].at) : NULL;
 }
 
-static struct pkcs1_bytes field_of(const union value *value, size_t i) {
-    struct pkcs1_bytes field;
-    memcpy(&field, (const uint8_t *)value + fields[i].at, sizeof field);
-    return field;
-}
-
 /* Each field in turn null with length 0. */
-static void try_empty_fields(const char *kind, const uint8_t *der, size_t len) {
-    for (size_t i = 0; i < FIELDS; i++) {
-        static const struct pkcs1_bytes null = {NULL, 0};
-        union value value;
+static void try_empty_fields(const char *kind, union value *value) {
+    struct pkcs1_bytes *field, before;
+    for (size_t i = 0, len; (field = next_field(kind, value, &i)) != NULL; *field = before) {
+        uint32_t want = field->len == 0 ? PKCS1_OK : fields[i - 1].status;
         uint8_t out[LONGEST];
-        size_t out_len;
-        if (!has_field(kind, i))
-            continue;
-        memset(&value, 0, sizeof value); /* no octets in the other primes that the key doesn't have */
-        CHECK(read_row(kind, der, len, &value) == PKCS1_OK);
-        uint32_t want = field_of(&value, i).len == 0 ? PKCS1_OK : fields[i].status;
-        memcpy((uint8_t *)&value + fields[i].at, &null, sizeof null);
-        CHECK(write_row(kind, &value, out, sizeof out, &out_len) == want);
+        before = *field;
+        *field = (struct pkcs1_bytes){NULL, 0};
+        CHECK(write_row(kind, value, out, sizeof out, &len) == want);
     }
-}
-
-/* The contents of an element in these octets, by a letter of `path`. Null if there is no such element. */
-static struct pkcs1_bytes element(struct pkcs1_bytes octets, char name) {
-    struct pkcs1_bytes found = {NULL, 0};
-    for (size_t at = 0, i = 0; at < octets.len; i++) {
-        const uint8_t *header = octets.data + at;
-        CHECK(header[1] <= 0x82); /* no row is longer */
-        size_t more = header[1] < 0x80 ? 0 : header[1] - 0x80, len = more == 0 ? header[1] : header[2];
-        if (more == 2)
-            len = len << 8 | header[3];
-        if ((size_t)name == '0' + i || name - 'a' == header[0] - 0xa0) {
-            found.data = header + 2 + more;
-            found.len = len;
-        }
-        at += 2 + more + len;
-    }
-    return found;
-}
-
-static bool lies_in(struct pkcs1_bytes octets, struct pkcs1_bytes part) {
-    uintptr_t before = (uintptr_t)part.data - (uintptr_t)octets.data; /* large if it lies below them */
-    return before <= octets.len && part.len <= octets.len - before;
-}
-
-/* Each field points into its element in these contents octets, even if it is empty. Only what isn't in the encoding may
- * point elsewhere: it has the octets of the default if the whole field of the parameters is left out, else none. */
-static void try_places(const char *kind, const union value *value, struct pkcs1_bytes contents) {
-    static const struct pkcs1_bytes none = {NULL, 0};
-    union value defaults;
-    memset(&defaults, 0, sizeof defaults);
-    if (strncmp(kind, "pss", 3) == 0) pkcs1_pss_params_init(&defaults.pss, &pkcs1_oid_sha1, 20);
-    if (strncmp(kind, "oaep", 4) == 0) pkcs1_oaep_params_init(&defaults.oaep, &pkcs1_oid_sha1, NULL, 0);
-    for (size_t i = 0; i < FIELDS; i++) {
-        if (!has_field(kind, i))
-            continue;
-        const char *path = fields[i].path;
-        struct pkcs1_bytes field = field_of(value, i), place = element(contents, *path);
-        struct pkcs1_bytes absent = place.data == NULL ? field_of(&defaults, i) : none;
-        while (*++path != '\0')
-            place = element(place, *path);
-        if (place.data != NULL)
-            CHECK(lies_in(place, field));
-        else
-            CHECK(pkcs1_oid_equal(&field, &absent));
-    }
-}
-
-static void try_pointers(const char *kind, const uint8_t *der, size_t len) {
-    struct pkcs1_bytes input = {der, len}, contents = element(input, '0'), label;
-    union value value;
-    memset(&value, 0, sizeof value); /* as above */
-    CHECK(read_row(kind, der, len, &value) == PKCS1_OK);
-    try_places(kind, &value, strstr(kind, "-algorithm") == NULL ? contents : element(contents, '1'));
-    if (strcmp(kind, "info") == 0)
-        try_places("priv", &value, element(value.priv.info.private_key, '0'));
-    if (strncmp(kind, "oaep", 4) == 0 && pkcs1_oaep_label(&value.oaep, &label) && label.len > 0)
-        CHECK(lies_in(value.oaep.p_source.parameters, label));
 }
 
 /* Too little room, as much as is needed, and where a size has more than 32 bits, so much that these can't tell it. That
@@ -238,6 +154,13 @@ static void try_beginnings(const char *kind, const uint8_t *der, size_t len) {
     free(old);
 }
 
+/* The label is what the source has. */
+static void try_label(const struct pkcs1_oaep_params *params) {
+    const struct pkcs1_bytes *source = &params->p_source.parameters;
+    struct pkcs1_bytes label;
+    CHECK(!pkcs1_oaep_label(params, &label) || (label.data == source->data && label.len == source->len));
+}
+
 /* An accepted value is written as these octets. */
 static void try_writing(const char *kind, union value *value, const uint8_t *want, size_t want_len) {
     uint8_t out[LONGEST];
@@ -252,23 +175,26 @@ static void try_row(const char *kind, const char *digits, const char *text) {
     size_t len, again_len;
     const char *other = strstr(text, " again=");
     uint8_t *der = octets_of(digits, &len), *again = octets_of(other ? other + 7 : digits, &again_len);
-    union value *value = filled(sizeof *value), *old = filled(sizeof *old);
+    union value *value = filled(sizeof *value), *old = filled(sizeof *old), want;
     CHECK(read_row(kind, NULL, 0, value) == PKCS1_INCOMPLETE);
     uint32_t status = read_row(kind, der, len, value);
     if (status != status_of(text)) {
         fprintf(stderr, "%s %s: %s\n", kind, digits, pkcs1_strerror(status));
         exit(1);
     }
+    CHECK(reference(kind, der, len, &want) == status);
     if (status != PKCS1_OK) {
         CHECK(memcmp(value, old, sizeof *value) == 0);
     } else {
-        try_pointers(kind, der, len);
+        CHECK(same_value(kind, value, &want, (struct pkcs1_bytes){der, len}));
+        if (strncmp(kind, "oaep", 4) == 0)
+            try_label(&value->oaep);
         if (len <= 160)
             try_beginnings(kind, der, len);
         /* More primes than are listed can't be written. */
         if (strcmp(kind, "priv") != 0 || value->priv.key.other_primes <= LISTED) {
             try_writing(kind, value, again, again_len);
-            try_empty_fields(kind, der, len);
+            try_empty_fields(kind, value);
         }
     }
     free(der);

@@ -51,7 +51,7 @@ union value {
     CALL("oaep-algorithm", oaep_algorithm_encode, oaep_params, oaep)                                                  \
     CALL("oaep", oaep_params_encode, oaep_params, oaep)
 /* The next field of octets in a value of this kind, from number `*i` on, or null. */
-struct pkcs1_bytes *next_field(const char *kind, union value *value, size_t *i);
+struct pkcs1_bytes *next_field(const char *kind, const union value *value, size_t *i);
 uint32_t read_row(const char *kind, const uint8_t *der, size_t len, union value *v);
 uint32_t write_row(const char *kind, const union value *v, uint8_t *out, size_t room, size_t *len);
 

@@ -19,7 +19,8 @@ have clang++ "the C++ test is compiled by $CXX alone" && clangxx='clang++' || cl
 
 # C and C++.
 flags=(-O1 -g -Wall -Wextra -Werror -pedantic "-I$ffi/lib/include")
-test=("$here/test.c" "$here/rows.c" "$here/large.c")
+second=("$here"/fuzz/{reference,elements,compare}.c)
+test=("$here"/{test,rows,large}.c "${second[@]}")
 printf '%s\n' '#include <pkcs1.h>' 'void ignore(struct pkcs1_public_key *key);' \
     'void ignore(struct pkcs1_public_key *key) { pkcs1_public_key_decode(0, 0, key); }' > "$room/ignored.c"
 # warns COMPILER..: it warns of a caller that ignores a status.
@@ -64,7 +65,7 @@ done
 [ -z "$conduct" ] || "$conduct"
 
 # Octets that change during a call; two threads a mode.
-"$CC" -std=c99 "${flags[@]}" "$here"/{races,rows}.c "$out/libpkcs1.a" -lpthread -o "$room/races"
+"$CC" -std=c99 "${flags[@]}" "$here"/{races,rows}.c "${second[@]}" "$out/libpkcs1.a" -lpthread -o "$room/races"
 "$room/races" | xargs -P $((($(nproc) + 1) / 2)) -n 1 timeout 60 "$room/races" > "$room/log" ||
     stop "octets that change during a call do harm"
 

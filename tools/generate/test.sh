@@ -130,7 +130,8 @@ objects_are_right() {
 # as one file that the link looks into.
 library_passes() {
     local compiler flags sanitized='-O0 -fsanitize=address,undefined -fno-sanitize-recover=all'
-    local files=("-I$ffi/lib/include" "$ffi/lib/pkcs1.c" "$ffi"/tests/{test,rows,large}.c)
+    local tests=("$ffi"/tests/{test,rows,large,fuzz/{reference,elements,compare}}.c)
+    local files=("-I$ffi/lib/include" "$ffi/lib/pkcs1.c" "${tests[@]}")
     gcc -O1 "${files[@]}" "$generated/$(uname -m)/pkcs1_c.s" -o "$room/test"
     "$room/test" "$rows" > /dev/null
     for compiler in gcc clang; do
@@ -144,7 +145,7 @@ library_passes() {
     "$ffi/lib/amalgamation.sh" "$generated" > "$room/pkcs1_all.c"
     for compiler in gcc clang; do
         $compiler -std=c99 -Wall -Wextra -Werror -pedantic -O3 -flto=auto -fstrict-aliasing "-I$ffi/lib/include" \
-            "$ffi"/tests/{test,rows,large}.c "$room/pkcs1_all.c" -o "$room/test"
+            "${tests[@]}" "$room/pkcs1_all.c" -o "$room/test"
         "$room/test" "$rows" > /dev/null
     done
 }
