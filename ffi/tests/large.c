@@ -47,13 +47,11 @@ static union value value_of(const char *kind, size_t len, uint8_t *key) {
         made.pss.hash.parameters = made.pss.mask_gen.hash.parameters = part;
     } else if (strncmp(kind, "oaep", 4) == 0) {
         pkcs1_oaep_params_init(&made.oaep, &pkcs1_oid_sha256, part.data, part.len);
-    } else if (strcmp(kind, "pub") == 0) {
-        made.key.modulus = made.key.public_exponent = part;
-    } else if (strcmp(kind, "priv") == 0) {
-        const struct pkcs1_private_key all = {part, part, part, part, part, part, part, part, 1};
-        const struct pkcs1_other_prime other = {part, part, part};
-        made.priv.key = all;
-        made.priv.others[0] = other;
+    } else if (strcmp(kind, "info") != 0) {
+        struct pkcs1_bytes *field;
+        made.priv.key.other_primes = 1;
+        for (size_t i = 0; (field = next_field(kind, &made, &i)) != NULL;)
+            *field = part;
     } else {
         inner = value_of("priv", len, NULL);
         made.priv.info.private_key.data = key;

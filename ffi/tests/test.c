@@ -214,7 +214,17 @@ static void pss(void) {
     }
 }
 
-/* The fields after a false `has_..` aren't read. */
+/* What stands after a false `has_..` isn't read. */
+static void without_parameters(struct pkcs1_algorithm *algorithm) {
+    algorithm->has_parameters = false;
+    algorithm->tag = 0xa5;
+    memset(&algorithm->parameters, 0xa5, sizeof algorithm->parameters);
+}
+static void without_hash(struct pkcs1_mask_gen *mask_gen) {
+    mask_gen->has_hash = false;
+    memset(&mask_gen->hash, 0xa5, sizeof mask_gen->hash);
+}
+
 static void absent_fields(void) {
     struct pkcs1_oaep_params oaep;
     struct pkcs1_pss_params params;
@@ -226,24 +236,13 @@ static void absent_fields(void) {
     info.private_key.len = sizeof two;
     info.has_attributes = false;
     CHECK(pkcs1_private_key_info_encode(&info, out, sizeof out, &len) == PKCS1_OK && len == 51);
-    memset(&params, 0xa5, sizeof params);
-    params.hash.oid = pkcs1_oid_sha1;
-    params.mask_gen.oid = pkcs1_oid_mgf1;
-    params.hash.has_parameters = params.mask_gen.has_hash = false;
-    params.trailer_field = 1;
-    params.salt_len = 200;
+    pkcs1_pss_params_init(&params, &pkcs1_oid_sha1, 200);
+    without_parameters(&params.hash), without_hash(&params.mask_gen);
     CHECK(pkcs1_pss_params_encode(&params, out, sizeof out, &len) == PKCS1_OK);
     CHECK(pkcs1_pss_params_decode_strict(out, len, &params) == PKCS1_OK && params.salt_len == 200);
-    memset(&oaep, 0xa5, sizeof oaep);
-    oaep.hash.oid = pkcs1_oid_sha256;
-    oaep.hash.has_parameters = false;
-    oaep.mask_gen.oid = pkcs1_oid_mgf1;
-    oaep.mask_gen.has_hash = false;
-    oaep.p_source.oid = pkcs1_oid_p_specified;
-    oaep.p_source.has_parameters = true;
-    oaep.p_source.tag = 4;
+    pkcs1_oaep_params_init(&oaep, &pkcs1_oid_sha256, NULL, 0);
+    without_parameters(&oaep.hash), without_hash(&oaep.mask_gen);
     oaep.p_source.parameters.data = NULL;
-    oaep.p_source.parameters.len = 0;
     CHECK(pkcs1_oaep_params_encode(&oaep, written, sizeof written, &len) == PKCS1_OK && len == 32);
     CHECK(pkcs1_oaep_params_decode_strict(written, len, &oaep) == PKCS1_OK);
     CHECK(!oaep.mask_gen.has_hash && oaep.mask_gen.hash.oid.len == 0);
@@ -319,10 +318,10 @@ static void a_hash_function(void) {
     size_t len = 77;
     pkcs1_pss_params_init(&params, &pkcs1_oid_sha256, 32);
     CHECK(pkcs1_algorithm_is(hash, &pkcs1_oid_sha256) && !pkcs1_algorithm_is(hash, &pkcs1_oid_sha384));
-    hash->has_parameters = false;
-    memset(&hash->parameters, 0xa5, sizeof hash->parameters);
+    without_parameters(hash);
     CHECK(pkcs1_algorithm_is(hash, &pkcs1_oid_sha256) && !pkcs1_algorithm_is(hash, &pkcs1_oid_sha1));
     hash->has_parameters = true;
+    hash->tag = 5;
     hash->parameters = pkcs1_oid_sha1;
     CHECK(!pkcs1_algorithm_is(hash, &pkcs1_oid_sha256));
     hash->parameters = none;
@@ -350,8 +349,7 @@ static void in_both_places(void) {
     pkcs1_oaep_params_init(&oaep, sha256, NULL, 0);
     CHECK(pkcs1_pss_is(&pss, sha256) && !pkcs1_pss_is(&pss, sha384) && !pkcs1_pss_is(&pss, &none));
     CHECK(pkcs1_oaep_is(&oaep, sha256) && !pkcs1_oaep_is(&oaep, sha384) && !pkcs1_oaep_is(&oaep, &none));
-    pss.hash.has_parameters = oaep.mask_gen.hash.has_parameters = false;
-    memset(&pss.hash.parameters, 0xa5, sizeof pss.hash.parameters);
+    without_parameters(&pss.hash), without_parameters(&oaep.mask_gen.hash);
     CHECK(pkcs1_pss_is(&pss, sha256) && pkcs1_oaep_is(&oaep, sha256));
     pss.hash.oid = oaep.hash.oid = *sha384;
     CHECK(!pkcs1_pss_is(&pss, sha256) && !pkcs1_pss_is(&pss, sha384));
@@ -359,8 +357,7 @@ static void in_both_places(void) {
     pss.mask_gen.hash.oid = oaep.mask_gen.hash.oid = *sha384;
     CHECK(pkcs1_pss_is(&pss, sha384) && pkcs1_oaep_is(&oaep, sha384));
     pss.mask_gen.oid = pkcs1_oid_p_specified;
-    oaep.mask_gen.has_hash = false;
-    memset(&oaep.mask_gen.hash, 0xa5, sizeof oaep.mask_gen.hash);
+    without_hash(&oaep.mask_gen);
     CHECK(!pkcs1_pss_is(&pss, sha384) && !pkcs1_oaep_is(&oaep, sha384));
 }
 
@@ -384,17 +381,14 @@ static void mean_the_same(void) {
     memset(&other.hash.has_parameters, 2, 1);
     other.hash.parameters.data = NULL;
     CHECK(ALIKE(pkcs1_algorithm_is_same_hash, pss.hash, other.hash));
-    other.hash.has_parameters = other_oaep.mask_gen.hash.has_parameters = false;
-    other.hash.tag = 4;
-    memset(&other.hash.parameters, 0xa5, sizeof other.hash.parameters);
+    without_parameters(&other.hash), without_parameters(&other_oaep.mask_gen.hash);
     CHECK(ALIKE(pkcs1_algorithm_is_same_hash, pss.hash, other.hash) && ALIKE(pkcs1_pss_means_same, pss, other));
     CHECK(ALIKE(pkcs1_oaep_means_same, oaep, other_oaep));
     other.trailer_field = 2;
     CHECK(UNLIKE(pkcs1_pss_means_same, pss, other));
     pss.trailer_field = 2;
     CHECK(ALIKE(pkcs1_pss_means_same, pss, other));
-    other.mask_gen.has_hash = other_oaep.mask_gen.has_hash = false;
-    memset(&other.mask_gen.hash, 0xa5, sizeof other.mask_gen.hash);
+    without_hash(&other.mask_gen), without_hash(&other_oaep.mask_gen);
     CHECK(UNLIKE(pkcs1_pss_means_same, pss, other) && UNLIKE(pkcs1_oaep_means_same, oaep, other_oaep));
     pss.mask_gen.has_hash = oaep.mask_gen.has_hash = false;
     CHECK(ALIKE(pkcs1_pss_means_same, pss, other) && ALIKE(pkcs1_oaep_means_same, oaep, other_oaep));
