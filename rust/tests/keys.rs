@@ -13,19 +13,7 @@ fn a_public_key_is_read_and_written() {
     let key = RsaPublicKeyRef::try_from(&der[..]).unwrap();
     assert_eq!(key.modulus.as_bytes(), [0xc1; 256]);
     assert_eq!((key.modulus.bit_len(), key.public_exponent.as_bytes()), (2048, &[1, 0, 1][..]));
-    let mut room = [0x55; 300];
-    assert_eq!(key.encode_to_slice(&mut room).unwrap(), der);
-    assert!(room[der.len()..].iter().all(|octet| *octet == 0x55));
-}
-
-#[test]
-fn a_slice_too_short_is_left_as_it_was() {
-    let der = made::public_key();
-    let key = RsaPublicKeyRef::from_der(&der).unwrap();
-    let mut short = vec![0x55; der.len() - 1];
-    assert_eq!(key.encode_to_slice(&mut short).unwrap_err().kind(), ErrorKind::NoRoom);
-    assert!(short.iter().all(|octet| *octet == 0x55));
-    assert_eq!(key.encoded_len().unwrap().to_usize(), der.len());
+    made::check_written(&key, &der);
 }
 
 #[test]
@@ -52,7 +40,7 @@ fn a_private_key_of_two_primes_takes_no_memory() {
     let key = RsaPrivateKeyRef::try_from(&der[..]).unwrap();
     assert_eq!((key.version(), key.prime2.as_bytes()), (Version::TwoPrime, &[0x92; 128][..]));
     assert!(key.other_prime_infos.is_none());
-    assert_eq!(key.clone().encode_to_slice(&mut [0; 1400]).unwrap(), der);
+    made::check_written(&key.clone(), &der);
     assert_eq!(key.public_key().modulus, key.modulus);
 }
 
@@ -132,20 +120,18 @@ mod with_alloc {
     };
 
     #[test]
-    fn other_primes_are_listed() {
-        let der = made::private_key(9);
-        let key = RsaPrivateKeyRef::try_from(&der[..]).unwrap();
-        assert_eq!((key.version(), key.other_prime_infos.as_ref().unwrap().len()), (Version::Multi, 9));
-        assert_eq!(key.to_der().unwrap(), der);
-    }
-
-    #[test]
     fn owned_keys_are_read_cloned_and_written() {
         for others in 0..=12 {
             let der = made::private_key(others);
             let key = RsaPrivateKeyOwned::from_pkcs1_der(&der).unwrap().clone();
             assert_eq!(key.to_pkcs1_der().unwrap().as_bytes(), der);
             assert_eq!(RsaPrivateKeyOwned::try_from(&der[..]).unwrap().to_der().unwrap(), der);
+            let key = RsaPrivateKeyRef::try_from(&der[..]).unwrap();
+            assert_eq!(
+                (key.version().is_multi(), key.other_prime_infos.as_ref().map_or(0, |it| it.len())),
+                (others > 0, others)
+            );
+            made::check_written(&key, &der);
             let container = made::container(&der, None);
             let key = RsaPrivateKeyOwned::from_pkcs8_der(&container).unwrap();
             assert_eq!(key.to_pkcs8_der().unwrap().as_bytes(), container);

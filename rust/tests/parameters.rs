@@ -24,7 +24,7 @@ fn defaults_are_filled_in() {
 fn parameters_of_a_hash_function_are_those_that_are_read() {
     let der = made::pss(made::SHA_256, 32);
     let params = RsaPssParamsRef::new::<Sha256>(32);
-    assert_eq!(params.encode_to_slice(&mut [0; 100]).unwrap(), der);
+    made::check_written(&params, &der);
     assert_eq!(params, RsaPssParamsRef::try_from(&der[..]).unwrap());
     assert_eq!(params.hash.oid.as_bytes(), made::SHA_256);
     assert_ne!(params, RsaPssParamsRef::new::<Sha256>(33));
@@ -54,7 +54,6 @@ fn no_octets_stand_at_an_address_that_may_be_read() {
         let owned = pkcs1_proved::RsaOaepParamsOwned::default();
         let (hash, label) = (owned.hash.parameters.as_ref().unwrap(), owned.label().unwrap());
         assert!(hash.value().is_empty() && hash.value().as_ptr().addr() > 4096 && label.as_ptr().addr() > 4096);
-        assert!(owned == pkcs1_proved::RsaOaepParamsOwned::try_from(&[0x30, 0][..]).unwrap());
     }
 }
 
@@ -143,25 +142,19 @@ fn other_masks_use_no_hash_function_and_other_sources_have_no_label() {
 }
 
 #[cfg(feature = "alloc")]
-/// What is written in each way is the same, with too little room nothing, and it is what is read.
-fn check<'a, T>(params: &T, der: &'a [u8])
-where
-    T: Encode + PartialEq + std::fmt::Debug + TryFrom<&'a [u8], Error = pkcs1_proved::Error>,
-{
-    assert_eq!((params.encoded_len().unwrap().to_usize(), T::try_from(der).as_ref()), (der.len(), Ok(params)));
-    let mut room = vec![0x55; der.len() + 1];
-    for count in [0, 1, der.len() - 1] {
-        assert_eq!(params.encode_to_slice(&mut room[..count]).unwrap_err().kind(), ErrorKind::NoRoom);
-        assert!(room.iter().all(|octet| *octet == 0x55));
-    }
-    assert_eq!(params.encode_to_slice(&mut room).unwrap(), der);
-    assert_eq!(room[der.len()], 0x55);
+/// It is what is read, and written.
+fn check<'a, T: Encode + PartialEq + std::fmt::Debug + TryFrom<&'a [u8]>>(params: &T, der: &'a [u8]) {
+    assert_eq!(T::try_from(der).ok().as_ref(), Some(params));
+    made::check_written(params, der);
 }
 
 #[cfg(feature = "alloc")]
 #[test]
 fn what_is_known_and_what_is_not_is_written_alike() {
-    use pkcs1_proved::{RsaPssParamsView, der::asn1::ObjectIdentifier};
+    use pkcs1_proved::der::asn1::ObjectIdentifier;
+    use pkcs1_proved::{RsaOaepParamsOwned, RsaPssParamsOwned};
+    check(&RsaPssParamsOwned::default(), &[0x30, 0]);
+    check(&RsaOaepParamsOwned::default(), &[0x30, 0]);
     let octets = vec![1; 70_000];
     for len in [0, 1, 62, 63, 64, 65, 127, 128, 255, 256, 70_000] {
         let params = RsaOaepParamsRef::new_with_label::<Sha384>(&octets[..len]);
@@ -185,15 +178,4 @@ fn what_is_known_and_what_is_not_is_written_alike() {
         let params = RsaOaepParamsRef { hash, mask_gen, ..RsaOaepParamsRef::default() };
         check(&params, &params.to_der().unwrap());
     }
-}
-
-#[cfg(feature = "alloc")]
-#[test]
-fn owned_parameters_are_those_that_are_read() {
-    use pkcs1_proved::{RsaOaepParamsOwned, RsaPssParamsOwned};
-    let der = made::pss(made::SHA_256, 32);
-    let params = RsaPssParamsOwned::try_from(&der[..]).unwrap();
-    assert_eq!(params.to_der().unwrap(), der);
-    assert_eq!(RsaPssParamsOwned::default().to_der().unwrap(), [0x30, 0]);
-    assert_eq!(RsaOaepParamsOwned::default().to_der().unwrap(), [0x30, 0]);
 }

@@ -1,12 +1,26 @@
 //! Encodings for the tests, and what reading them tells.
 #![allow(dead_code)]
 
+use pkcs1_proved::der::{Encode, ErrorKind};
+
 /// The kind of the error of reading.
-pub fn kind<T>(read: pkcs1_proved::Result<T>) -> pkcs1_proved::der::ErrorKind {
+pub fn kind<T>(read: pkcs1_proved::Result<T>) -> ErrorKind {
     match read.err() {
         Some(pkcs1_proved::Error::Asn1(error)) => error.kind(),
         other => panic!("{other:?}"),
     }
+}
+
+/// What is written is this, and with too little room nothing.
+pub fn check_written(value: &impl Encode, der: &[u8]) {
+    assert_eq!(value.encoded_len().unwrap().to_usize(), der.len());
+    let mut room = vec![0x55; der.len() + 9];
+    for count in [0, 1, der.len() - 1] {
+        assert_eq!(value.encode_to_slice(&mut room[..count]).unwrap_err().kind(), ErrorKind::NoRoom);
+        assert!(room.iter().all(|octet| *octet == 0x55));
+    }
+    assert_eq!(value.encode_to_slice(&mut room).unwrap(), der);
+    assert!(room[der.len()..].iter().all(|octet| *octet == 0x55));
 }
 
 /// An encoding of this tag and contents.
