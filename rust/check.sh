@@ -152,7 +152,8 @@ with_c() {
 }
 # with_built COMPILER FOLDER: the folder has what calls its library for programs.
 with_built() {
-    "$1" -std=c99 -O2 -Wall -Wextra -Werror -pedantic -Iffi/lib/include -c rust/check/built.c -o "$2/built.o"
+    "$1" -std=c99 -O2 -Wall -Wextra -Werror -pedantic -Iffi/lib/include -Iffi/tests -nostdlib -r rust/check/built.c \
+        ffi/tests/rows.c ffi/tests/fuzz/{reference,elements,compare}.c -o "$2/built.o"
     cp "$2/libpkcs1.a" "$2/libbuilt.a"
     ar rs "$2/libbuilt.a" "$2/built.o" 2> "$OUT/log"
 }
