@@ -3,8 +3,8 @@
 types of the Rattle signature require: the exports have no clause `requires`. Each clause that it promises is named as
 the Rattle clause that says the same, and that one has the words for what it says. And Rattle says what it said when
 somebody last read both: ffi/proof/clauses has the signature and the clauses of each function, and each definition of
-Structs.antt. So a clause that gets weaker, or stronger, is read again. The types of each call are those of pkcs1_c.h, and
-the fields of structs and the statuses those of ffi/tests/abi. What differs is printed; the status is 1 then.
+Structs.antt. So a clause that gets weaker, or stronger, is read again. The types of each call are those of pkcs1_c.h,
+and the fields of structs and the statuses those of ffi/tests/abi. What differs is printed; the status is 1 then.
 
     check_contracts.py [--write] [ACSL]     ACSL: other contracts. --write: writes `clauses`, once both were read"""
 import difflib
