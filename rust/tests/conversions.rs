@@ -123,13 +123,4 @@ mod with_alloc {
         assert_eq!((format!("{number:?} {number:x}"), number.as_ref()), ("0xc17f c17f".into(), &[0xc1, 0x7f][..]));
         assert_eq!((number.len().to_usize(), number.is_empty()), (2, false));
     }
-
-    #[test]
-    fn a_key_is_made_of_numbers() {
-        let der = made::private_key(1);
-        let key = RsaPrivateKeyRef::try_from(&der[..]).unwrap();
-        let list = key.other_prime_infos.as_ref().unwrap().to_vec();
-        let made = RsaPrivateKeyRef { other_prime_infos: Some(list.into()), ..key.clone() };
-        assert_eq!(made.to_der().unwrap(), der);
-    }
 }

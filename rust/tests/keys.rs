@@ -132,6 +132,8 @@ mod with_alloc {
                 (others > 0, others)
             );
             made::check_written(&key, &der);
+            let other_prime_infos = key.other_prime_infos.as_ref().map(|list| list.to_vec().into());
+            made::check_written(&RsaPrivateKeyRef { other_prime_infos, ..key.clone() }, &der);
             let container = made::container(&der, None);
             let key = RsaPrivateKeyOwned::from_pkcs8_der(&container).unwrap();
             assert_eq!(key.to_pkcs8_der().unwrap().as_bytes(), container);
