@@ -77,7 +77,7 @@ static struct pkcs1_bytes identifier(struct pkcs1_bytes oid) {
     return made;
 }
 
-/* What is written, and what is read, in front of a page that can't be used. */
+/* What is written; and in front of a page that can't be used, what is read. */
 static union value given, *got;
 static struct pkcs1_bytes der;
 
