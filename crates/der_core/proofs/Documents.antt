@@ -23,7 +23,7 @@ document_means b (few, p) v = (
 
 pub means_document : (b : List ℕ) (v : Unit {0}) → WithinLimit DocumentPrints v b → IsDocument b
 means_document b v (few, (o, e, bytes, is)) =
-    (few, subst (Tlv 48 AreBytes) (sym is) (tlv_made 48 o bytes (omega (arith, few, ap length is))))
+    (few, subst (Tlv 48 AreBytes) (sym is) (tlv_made 48 o bytes (omega (arith, ap length is))))
 
 -- Reading a SEQUENCE asks for no memory, so an error says that the bytes are no document.
 pub no_document : (e : ErrorKind) (b : List ℕ)

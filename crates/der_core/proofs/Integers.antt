@@ -1,6 +1,6 @@
 -- INTEGER: faults of its contents, worked examples, its length, bit lengths, numbers above 255. For `src/integer`.
 use Rattle.std.proofs.Common.{take_all, ℕ, suc, List, [], ◌∷◌, ◌≡◌, ◌<◌, ◌≤◌, ◌-◌, length, get_or, take, drop, arith, sym, ap, ◌∙◌, Err, true, false, nat_lt, ◌==◌, map, refl, Ok, ◌+◌, Result, IfOk, IfErr, slice_index, zero, ◌*◌, ◌^◌, inl, inr, lit<, mul-le-mul_right, zero-le, pow-add}
-use Rattle.der_core.specs.Words.{HoldsNumber, nat_tests, Tag, ErrorKind, integer_of, integer_tag, same_tag, limit, number_from_digits, integer_contents, Counts, Error, IsBitLength, are_bytes, after_ge, base256_ge, small_of}
+use Rattle.der_core.specs.Words.{HoldsNumber, Tag, ErrorKind, integer_of, integer_tag, same_tag, limit, number_from_digits, integer_contents, Counts, Error, IsBitLength, are_bytes, after_ge, base256_ge, small_of}
 use Rattle.der_core.specs.declared.error.ErrorKind.TheVariants as kind
 use Rattle.der_core.specs.declared.error.ErrorKind.TheVariants.{Length, Noncanonical, Value, Overflow}
 use Rattle.std.proofs.Math.Nat.{pow-suc, pow-le-pow_right}
@@ -13,39 +13,39 @@ use Rattle.std.proofs.lemmas.Int.Digits.{number_after_lt}
 -- What is left behind a padding zero.
 pub tail_holds_number : (xs : List ℕ) → 2 ≤ length xs → 128 ≤ get_or xs 1 0 → ((i : ℕ) → get_or xs i 0 < 256)
     → HoldsNumber (take (length xs - 1) (drop 1 xs))
-tail_holds_number [] n h b = absurd (omega (arith, n))
-tail_holds_number (x ∷ []) n h b = absurd (omega (arith, n))
+tail_holds_number [] n h b = absurd (omega arith)
+tail_holds_number (x ∷ []) n h b = absurd (omega arith)
 tail_holds_number (x ∷ y ∷ ys) n h b =
     let e : take (length (x ∷ y ∷ ys) - 1) (y ∷ ys) ≡ y ∷ ys =
     take_all (length (x ∷ y ∷ ys) - 1) (y ∷ ys) (omega arith) in
-    rw e (omega arith, (λ _. omega (arith, h)), λ i. b (suc i))
+    rw e (omega arith, (λ _. omega arith), λ i. b (suc i))
 
 -- The faults of the contents of an INTEGER, as its reader meets them.
 pub integer_of_empty : (xs : List ℕ) (k : ErrorKind) (t : Tag) → length xs < 1 → k ≡ kind.Length t → t.octet ≡ 2
     → integer_of xs ≡ Err k
 integer_of_empty [] k t n e o = ap (λ x. Err x) (sym (e ∙ ap kind.Length (same_tag t integer_tag o)))
-integer_of_empty (x ∷ xs) k t n e o = absurd (omega (arith, n))
+integer_of_empty (x ∷ xs) k t n e o = absurd (omega arith)
 
 pub integer_of_negative : (xs : List ℕ) (k : ErrorKind) (t : Tag) → 1 ≤ length xs → 128 ≤ get_or xs 0 0
     → k ≡ kind.Value t
     → t.octet ≡ 2 → integer_of xs ≡ Err k
-integer_of_negative [] k t n h e o = absurd (omega (arith, n))
+integer_of_negative [] k t n h e o = absurd (omega arith)
 integer_of_negative (x ∷ []) k t n h e o =
-    let big : nat_lt x 128 ≡ false = grind (arith, nat_tests, h) in
+    let big : nat_lt x 128 ≡ false = grind arith in
     rw big (ap (λ x. Err x) (sym (e ∙ ap kind.Value (same_tag t integer_tag o))))
 integer_of_negative (x ∷ y ∷ ys) k t n h e o =
-    let big : nat_lt x 128 ≡ false = grind (arith, nat_tests, h) in
+    let big : nat_lt x 128 ≡ false = grind arith in
     rw big (ap (λ x. Err x) (sym (e ∙ ap kind.Value (same_tag t integer_tag o))))
 
 pub integer_of_padded : (xs : List ℕ) (k : ErrorKind) (t : Tag) → 2 ≤ length xs → get_or xs 0 0 ≡ 0
     → get_or xs 1 0 < 128
     → k ≡ kind.Noncanonical t → t.octet ≡ 2 → integer_of xs ≡ Err k
-integer_of_padded [] k t n z h e o = absurd (omega (arith, n))
-integer_of_padded (x ∷ []) k t n z h e o = absurd (omega (arith, n))
+integer_of_padded [] k t n z h e o = absurd (omega arith)
+integer_of_padded (x ∷ []) k t n z h e o = absurd (omega arith)
 integer_of_padded (x ∷ y ∷ ys) k t n z h e o =
-    let less : nat_lt x 128 ≡ true = grind (arith, nat_tests, z) in
-    let zero : (x == 0) ≡ true = grind (arith, nat_tests, z) in
-    let low : nat_lt y 128 ≡ true = grind (arith, nat_tests, h) in
+    let less : nat_lt x 128 ≡ true = grind arith in
+    let zero : (x == 0) ≡ true = grind arith in
+    let low : nat_lt y 128 ≡ true = grind arith in
     rw (less, zero, low) (ap (λ x. Err x) (sym (e ∙ ap kind.Noncanonical (same_tag t integer_tag o))))
 
 -- == Worked rows: contents octets, with the octets of the number or the kind of the fault ==
@@ -79,19 +79,19 @@ integer_faults_read = refl
 pub contents_length_small : (bytes : List ℕ) → slice_index bytes 0 < 128
     → length bytes + 0 ≡ length (integer_contents bytes)
 contents_length_small bytes h =
-    let e : nat_lt (slice_index bytes 0) 128 ≡ true = grind (arith, nat_tests) in rw e (omega arith)
+    let e : nat_lt (slice_index bytes 0) 128 ≡ true = grind arith in rw e (omega arith)
 
 pub contents_length_large : (bytes : List ℕ) → 128 ≤ slice_index bytes 0
     → length bytes + 1 ≡ length (integer_contents bytes)
 contents_length_large bytes h =
-    let e : nat_lt (slice_index bytes 0) 128 ≡ false = grind (arith, nat_tests) in rw e (omega arith)
+    let e : nat_lt (slice_index bytes 0) 128 ≡ false = grind arith in rw e (omega arith)
 
 -- A call that returns a length, or `Overflow` where it passes the limit, counts the octets of this length.
 pub counts_length : (octets : List ℕ) (r : Result ℕ Error) (n : ℕ) → n ≡ length octets
     → IfOk r (λ m. (m ≡ n) × (n ≤ limit)) → IfErr r (λ e. (e.kind ≡ Overflow) × (limit < n))
     → Counts (Unit {0}) octets r
-counts_length octets (Ok m) n e ok err = (tt, omega (arith, ok, e), omega (arith, ok))
-counts_length octets (Err f) n e ok err = rw err.0 (tt, omega (arith, err.1, e))
+counts_length octets (Ok m) n e ok err = (tt, omega arith, omega arith)
+counts_length octets (Err f) n e ok err = rw err.0 (tt, omega arith)
 
 -- The bit length of a number is that of its first byte, and eight bits for each other one.
 power_of_256_in_bits : (k : ℕ) → 256 ^ k ≡ 2 ^ (8 * k)
@@ -126,9 +126,9 @@ bit_length_from_first first j k n low high least most = (below, fewest)
 -- So it is eight bits for each byte, without the zero bits in front of the first one.
 pub number_bit_length : (bytes : List ℕ) → HoldsNumber bytes
     → IsBitLength (number_from_digits 256 bytes) (8 * length bytes - count_leading_zeros 8 (slice_index bytes 0))
-number_bit_length [] h = absurd (omega (arith, h.0))
+number_bit_length [] h = absurd (omega arith)
 number_bit_length (zero ∷ []) h = rw (leading_of_zero 8) (lit< tt, λ fewer l. zero-le)
-number_bit_length (zero ∷ y ∷ ys) h = absurd (omega (arith, h.1))
+number_bit_length (zero ∷ y ∷ ys) h = absurd (omega arith)
 number_bit_length (suc x ∷ rest) h =
     let first : ℕ = 0 * 256 + suc x in
     let top = leading_top 8 (suc x) (omega arith) (h.2 0) in
@@ -136,9 +136,9 @@ number_bit_length (suc x ∷ rest) h =
     let most : number_from_digits 256 (suc x ∷ rest) < (first + 1) * 256 ^ length rest =
     number_after_lt 256 first rest (are_bytes (suc x ∷ rest) h.2).1 in
     let bits : suc top.0 + 8 * length rest ≡ 8 * length (suc x ∷ rest) - count_leading_zeros 8 (suc x) =
-    omega (arith, top.1) in
-    let low : 2 ^ top.0 ≤ first = omega (arith, top.2) in
-    let high : first < 2 ^ suc top.0 = omega (arith, top.3) in
+    omega arith in
+    let low : 2 ^ top.0 ≤ first = omega arith in
+    let high : first < 2 ^ suc top.0 = omega arith in
     rw (sym bits) (bit_length_from_first first top.0 (length rest) _ low high least most)
 
 -- == An INTEGER above 255 is no number from 0 to 255 ==
@@ -160,5 +160,5 @@ pub small_of_large : (xs bytes : List ℕ) (k : ErrorKind) (t : Tag) → integer
     → 1 < length bytes → k ≡ kind.Value t → t.octet ≡ 2 → small_of xs ≡ Err k
 small_of_large xs bytes k t read h l e o =
     let big : 256 ≤ number_from_digits 256 bytes = number_of_bytes_large bytes h l in
-    let test : nat_lt (number_from_digits 256 bytes) 256 ≡ false = grind (arith, nat_tests) in
+    let test : nat_lt (number_from_digits 256 bytes) 256 ≡ false = grind arith in
     rw (read, test) (ap (λ x. Err x) (sym (e ∙ ap kind.Value (same_tag t integer_tag o))))

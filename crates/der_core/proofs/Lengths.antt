@@ -103,7 +103,7 @@ module _ {Y : Type 0} (f : List ℕ → Result (Y × List ℕ) ErrorKind) (encod
     (tells : (i : List ℕ) (k : ErrorKind) → f i ≡ Err k → TellsOfBytes k) where
   pub exact_reads : {X : Type 0} (view : X → Y) (r : Result X Error) (before after : Input) → AreBytes (left_in before)
       → ReadsOrFails view r before after f → ReadsEncoding view encoding (λ _. ⊥) r before after
-  exact_reads view (Ok x) None after bytes h = let no = h.1 in cc
+  exact_reads view (Ok x) None after bytes h = cc
   exact_reads view (Ok x) (Some i) after bytes h =
       let p = sound i h.0 (view x) bytes h.1 in
       (p.0, h.0, ap (λ l. Some l) p.1, h.2, p.2)
@@ -117,7 +117,7 @@ module _ {Y : Type 0} (f : List ℕ → Result (Y × List ℕ) ErrorKind) (encod
           tells i e.kind h.0,
           λ y b rest split t.
               let found : f i ≡ Ok (y, rest) = ap f (same ∙ split) ∙ complete y b rest t in
-              let no = sym h.0 ∙ found in cc,
+              cc,
         ),
   )
 

@@ -36,23 +36,23 @@ asks_read law s (Some c) bytes p = (s, (law.gives c s bytes p).1)
 -- Behind a first part, what the chain gives is what follows it.
 pub chain_read_from : {A B : Type 0} (at : FrontReading A) (behind : A → Reading B) (x : A) (before mid : Input)
     → ReadingGives at x before mid → read_from before (chain at behind) ≡ read_from mid (behind x)
-chain_read_from at behind x None mid (rest, p, is) = let never = p in cc
+chain_read_from at behind x None mid (rest, p, is) = cc
 chain_read_from at behind x (Some i) mid (rest, p, is) = ap (λ r. r >>= λ q. behind q.0 q.1) p ∙ (rw is refl)
 
 -- A value that was read and doesn't pass the test.
 pub such_refuses_value : {V : Type 0} (read : Reading V) (test : V → Bool) (failure e : ErrorKind) (v : V)
     (before : Input)
     → read_from before read ≡ Ok v → test v ≡ false → e ≡ failure → read_from before (such test failure read) ≡ Err e
-such_refuses_value read test failure e v None p isnt kind = let q = p in cc
+such_refuses_value read test failure e v None p isnt kind = cc
 such_refuses_value read test failure e v (Some c) p isnt kind =
     ap (λ r. r >>= λ v. if test v then Ok v else Err failure) p ∙ rw isnt (ap (λ k. Err k) (sym kind))
 
 -- A number that isn't the expected one.
 pub expected_refuses_value : (n v : ℕ) (e : ErrorKind) (before : Input) → read_from before small_of ≡ Ok v → v ≢ n
     → e ≡ Value integer_tag → read_from before (expected n) ≡ Err e
-expected_refuses_value n v e None p ne kind = let q = p in cc
+expected_refuses_value n v e None p ne kind = cc
 expected_refuses_value n v e (Some c) p ne kind =
-    let no : (v == n) ≡ false = grind (arith, nat_tests, ne) in
+    let no : (v == n) ≡ false = grind arith in
     ap (λ r. (r >>= λ v. if v == n then Ok v else Err (Value integer_tag)) >>= λ _. Ok tt) p
     ∙ rw no (ap (λ k. Err k) (sym kind))
 
@@ -68,7 +68,7 @@ pub row_fails : {A B : Type 0} {First : A → List ℕ → Type 0} {at : FrontRe
     → (row : FrontReading B) (first rest : List ℕ → Type 0) (a : A) (e : ErrorKind) (before mid after : Input)
     → AreBytes (left_in before) → ReadingGives at a before mid → ReadingFails row rest e mid after
     → ReadingFails (front_parts at row) (AllocatesInParts First first rest) e before after
-row_fails law row first rest a e None mid after bytes (left, p, is) fails = let no = p in cc
+row_fails law row first rest a e None mid after bytes (left, p, is) fails = cc
 row_fails law row first rest a e (Some i) mid after bytes (left, p, is) (failed, inl w) =
     let s = law.gives i left a bytes p in (failed, inl (w.0, inr (a, (s.0, left, s.2, rw is at w.1, s.1))))
 row_fails law row first rest a e (Some i) mid after bytes (left, p, is) (failed, inr q) = (
@@ -97,31 +97,31 @@ parts_fail gives rest first later a e (Some i) mid after bytes (left, p, is) (fa
 module _ {V : Type 0} {encoding : V → List ℕ → Type 0} {at : FrontReading V} (law : ReadsFronts encoding at) where
   pub front_gives : (x : V) (before after : Input) → AreBytes (left_in before) → ReadingGives at x before after
       → (b : List ℕ) × (rest : List ℕ) × (before ≡ Some (b ++ rest)) × (after ≡ Some rest) × encoding x b
-  front_gives x None after bytes (rest, p, is) = let no = p in cc
+  front_gives x None after bytes (rest, p, is) = cc
   front_gives x (Some i) after bytes (rest, p, is) =
       let s = law.gives i rest x bytes p in (s.0, rest, ap (λ l. Some l) s.1, is, s.2)
 
   pub front_asks : (x : V) (before after : Input) → AreBytes (left_in before) → ReadingGives at x before after
       → InputAllocates (AllocatesAtFront (λ b. (v : V) × encoding v b)) before
-  front_asks x None after bytes (rest, p, is) = let no = p in cc
+  front_asks x None after bytes (rest, p, is) = cc
   front_asks x (Some i) after bytes (rest, p, is) =
       let s = law.gives i rest x bytes p in (s.0, rest, s.1, (x, s.2))
 
 pub front_errs : {V : Type 0} (at : FrontReading V) (e : ErrorKind) (before : Input) (b : List ℕ) → before ≡ Some b
     → FaultOrMemory e (InputAllocates (AllocatesAtFront (λ _. ⊥)) before) (read_from before at ≡ Err e) → at b ≡ Err e
-front_errs at e None b is faulty = let no = is in cc
+front_errs at e None b is faulty = cc
 front_errs at e (Some i) b is (inl w) = absurd w.1.3
 front_errs at e (Some i) b is (inr p) = ap at (sym (input_injective i b is)) ∙ p
 
 -- All that is left is the front.
 pub front_of_all : (mid : Input) (r c rest : List ℕ) (n : ℕ) → mid ≡ Some r → n ≡ length (left_in mid)
     → read_from mid (front_of n) ≡ Ok (c, rest) → c ≡ r
-front_of_all None r c rest n is len e = let no = is in cc
+front_of_all None r c rest n is len e = cc
 front_of_all (Some l) r c rest n is len e =
     let same : l ≡ r = input_injective l r is in
-    ⊎_elim (λ w. let no = w.1 in cc)
+    ⊎_elim (λ w. cc)
     (λ w.
-    let parts = ok_pair (take n l) c (drop n l) rest w.1 in sym parts.0 ∙ take_all n l (omega (arith, len)) ∙ same)
+    let parts = ok_pair (take n l) c (drop n l) rest w.1 in sym parts.0 ∙ take_all n l (omega arith) ∙ same)
     (cond_cases (nat_lt (length l) n) _ _ _ e)
 
 -- A value that is copied once it was read whole.
@@ -149,17 +149,17 @@ not_false false e = cc
 
 pub unequal_test_true : (r : Bool) (a b t : ℕ) → r ≡ true → r ≡ not (eqb a b) → b ≡ t → a ≢ t
 unequal_test_true r a b t e f g h =
-    let no : eqb a b ≡ false = not_true (eqb a b) (sym (sym e ∙ f)) in grind (arith, nat_tests)
+    grind arith
 
 pub unequal_test_false : (r : Bool) (a b t : ℕ) → r ≡ false → r ≡ not (eqb a b) → b ≡ t → a ≡ t
 unequal_test_false r a b t e f g =
-    let yes : eqb a b ≡ true = not_false (eqb a b) (sym (sym e ∙ f)) in grind (arith, nat_tests)
+    grind arith
 
 -- Contents are split off, if there are as many octets as the header says.
 inner_of_splits : (n : ℕ) (left rest : List ℕ) (inner : Input) → inner_of n left ≡ Ok (inner, rest)
     → (nat_lt (length left) n ≡ false) × (inner ≡ Some (take n left)) × (rest ≡ drop n left)
 inner_of_splits n left rest inner is =
-    ⊎_elim (λ w. let no = w.1 in cc)
+    ⊎_elim (λ w. cc)
     (λ w. let parts = ok_pair (Some (take n left)) inner (drop n left) rest w.1 in (w.0, sym parts.0, sym parts.1))
     (cond_cases (nat_lt (length left) n) _ _ _ is)
 
@@ -168,7 +168,7 @@ module _ {V : Type 0} (tag : Tag) (read : Reading V) (may : List ℕ → Type 0)
   pub tag_fails : {n : ℕ} (before mid after : Input) (e : ErrorKind) (actual : Tag)
       → ReadingGives header_at (actual.octet, n) before mid → actual.octet ≢ tag.octet → e ≡ TagUnexpected tag actual
       → after ≡ None → ReadingFails (tagged tag read) (AllocatesAtFront (Tlv tag.octet may)) e before after
-  tag_fails None mid after e actual (rest, p, is) ne kind failed = let no = p in cc
+  tag_fails None mid after e actual (rest, p, is) ne kind failed = cc
   tag_fails {n} (Some i) mid after e actual (rest, p, is) ne kind failed = (
     failed,
     inr
@@ -182,7 +182,7 @@ module _ {V : Type 0} (tag : Tag) (read : Reading V) (may : List ℕ → Type 0)
   front_of_tlv i left n bytes p room asks =
       let head = header_at-sound i left tag.octet n bytes p in
       let c = take n left in
-      let enough : n ≤ length left = grind (arith, nat_tests, room) in
+      let enough : n ≤ length left = grind arith in
       let len : length c ≡ n = simp length-take (omega arith) in
       let all : i ≡ (tag.octet ∷ head.0 ++ c) ++ drop n left =
       head.2 ∙ ap (λ l. tag.octet ∷ head.0 ++ l) (sym (take-append-drop n left))
@@ -199,11 +199,11 @@ module _ {V : Type 0} (tag : Tag) (read : Reading V) (may : List ℕ → Type 0)
       → ReadingFails read may e inner ended → after ≡ None
       → ReadingFails (tagged tag read) (AllocatesAtFront (Tlv tag.octet may)) e before after
   value_fails None mid inner mid2 ended after e t n bytes (left, p, is) same (rest, q, are) fails failed =
-      let no = p in cc
+      cc
   value_fails (Some i) mid inner mid2 ended after e t n bytes (left, p, is) same (rest, q, are) fails failed =
       let s = inner_of_splits n left rest inner (rw is at q) in
       let head : header_at i ≡ Ok ((tag.octet, n), left) = p ∙ ap (λ o. Ok ((o, n), left)) same in
-      let octet : (tag.octet == tag.octet) ≡ true = grind (arith, nat_tests) in
+      let octet : (tag.octet == tag.octet) ≡ true = grind arith in
       let here : contents_behind tag ((tag.octet, n), left) ≡ Ok (take n left, drop n left) = rw (octet, s.0) refl in (
         failed,
         ⊎_elim
@@ -219,7 +219,7 @@ module _ {V : Type 0} (tag : Tag) (read : Reading V) (may : List ℕ → Type 0)
 -- Bytes behind an encoding that has to be alone, and behind that of a whole slice.
 ended_fails : {V : Type 0} (v : V) {e : ErrorKind} (rest : List ℕ) → end_of rest ≡ Err e → ended v rest ≡ Err e
 ended_fails v [] p = cc
-ended_fails v (x ∷ xs) p = let q = p in cc
+ended_fails v (x ∷ xs) p = cc
 
 pub alone_fails : {V : Type 0} (at : FrontReading V) (asked : List ℕ → Type 0) (before mid after : Input)
     (e : ErrorKind) (v : V) → ReadingGives at v before mid → read_from mid end_of ≡ Err e → after ≡ None

@@ -1,22 +1,22 @@
 -- What functions read: whole slices, other tags, documents, a list with a fault, values that spellings mean. For
 -- `from_der` of each type, `decode_as`, and `lemma_encodings_are_read`.
 use Rattle.std.proofs.Common.{ℕ, false, List, ◌≡◌, ◌≤◌, length, arith, ⊎_elim, nat_lt, zero, suc, [], ◌∷◌, ◌++◌, ◌≢◌, ◌<◌, ◌==◌, refl, ap, ◌∙◌, length-append, append_assoc, Ok, Err, subst, Result}
-use Rattle.der_core.specs.Words.{nat_tests, WithinLimit, cond_cases, limit, FrontReading, Reading, limited, whole, InFront, ReadsContents, ReadsFronts, alone_reads, ErrorKind, Tag, AreBytes, behind_within, any_contents_reads, same_tag, ◌>>=◌, made, items_within, unexpected, contents_behind, read_document, ItemsContents, is_allowed, sequence_tag, Tlv, checked_as, tagged_reads, ReadsFrontAlike, ReadsFrontPrinted, Spells, Answers, Error, ok_of, value_in, values_alike, whole_alike, meant_decodes}
+use Rattle.der_core.specs.Words.{WithinLimit, cond_cases, limit, FrontReading, Reading, limited, whole, InFront, ReadsContents, ReadsFronts, alone_reads, ErrorKind, Tag, AreBytes, behind_within, any_contents_reads, same_tag, ◌>>=◌, made, items_within, unexpected, contents_behind, read_document, ItemsContents, is_allowed, sequence_tag, Tlv, checked_as, tagged_reads, ReadsFrontAlike, ReadsFrontPrinted, Spells, Answers, Error, ok_of, value_in, values_alike, whole_alike, meant_decodes}
 use Rattle.standard.specs.Statement.{Decodes}
-use Rattle.der_core.specs.declared.error.ErrorKind.TheVariants.{Overflow, TagUnexpected, TagUnknown}
+use Rattle.der_core.specs.declared.error.ErrorKind.TheVariants.{TagUnexpected, TagUnknown}
 
 -- A slice within the limit.
 pub limited_is : {V : Type 0} (read : Reading V) (b : List ℕ) → length b ≤ limit → limited read b ≡ read b
-limited_is read b few = let no : nat_lt limit (length b) ≡ false = grind (arith, nat_tests, few) in rw no refl
+limited_is read b few = let no : nat_lt limit (length b) ≡ false = grind arith in rw no refl
 
 pub limited_reads : {V : Type 0} {contents : V → List ℕ → Type 0} {read : Reading V} → ReadsContents contents read
     → ReadsContents (WithinLimit contents) (limited read)
 limited_reads {read = read} law = record {
   gives = λ b v bytes e. ⊎_elim (λ w. let no = w.1 in cc)
-      (λ w. let within : length b ≤ limit = grind (arith, nat_tests, w.0) in (within, law.gives b v bytes w.1))
+      (λ w. let within : length b ≤ limit = grind arith in (within, law.gives b v bytes w.1))
       (cond_cases (nat_lt limit (length b)) _ _ _ e);
   takes = λ b v w m. limited_is read b m.0 ∙ law.takes b v w m.1;
-  tells = λ b k e. ⊎_elim (λ w. let same : Overflow ≡ k = let is = w.1 in cc in (λ no. cc, λ no. cc, λ no. cc))
+  tells = λ b k e. ⊎_elim (λ w. (λ no. cc, λ no. cc, λ no. cc))
       (λ w. law.tells b k w.1) (cond_cases (nat_lt limit (length b)) _ _ _ e);
 }
 
@@ -46,7 +46,7 @@ unexpected_tag_read tag actual =
 pub contents_behind_other_tag : (tag actual : Tag) (n : ℕ) (rest : List ℕ) → actual.octet ≢ tag.octet
     → contents_behind tag ((actual.octet, n), rest) ≡ Err (TagUnexpected tag actual)
 contents_behind_other_tag tag actual n rest ne =
-    let no : (actual.octet == tag.octet) ≡ false = grind (arith, nat_tests, ne) in
+    let no : (actual.octet == tag.octet) ≡ false = grind arith in
     rw no (unexpected_tag_read tag actual)
 
 -- One whole SEQUENCE.
@@ -64,17 +64,17 @@ module _ {V : Type 0} {encoding : V → List ℕ → Type 0} {at : FrontReading 
   items_err [] n k c read rest l w p is more e = one n c (is ∙ ap (λ y. y ++ rest) p) l
     where
       one : (n : ℕ) (c : List ℕ) → c ≡ rest → length c ≤ n → items_within n at c ≡ Err k
-      one n [] same l = absurd (omega (arith, more, ap length same))
-      one zero (x ∷ xs) same l = absurd (omega (arith, l))
+      one n [] same l = absurd (omega (arith, ap length same))
+      one zero (x ∷ xs) same l = absurd (omega arith)
       one (suc n) (x ∷ xs) same l =
           ap (λ r. r >>= λ p. made (λ vs. p.0 ∷ vs) (items_within n at) p.1) (ap at same ∙ e)
   items_err (v ∷ vs) n k [] read rest l w p is more e =
-      absurd (omega (arith, more, ap length is, length-append read rest))
-  items_err (v ∷ vs) zero k (z ∷ zs) read rest l w p is more e = absurd (omega (arith, l))
+      absurd (omega (arith, ap length is, length-append read rest))
+  items_err (v ∷ vs) zero k (z ∷ zs) read rest l w p is more e = absurd (omega arith)
   items_err (v ∷ vs) (suc n) k (z ∷ zs) read rest l w (x, y, p, q, are) is more e =
       let split : z ∷ zs ≡ x ++ (y ++ rest) = is ∙ ap (λ y. y ++ rest) are ∙ append_assoc x y rest in
       let full = some v x p in
-      let few : length (y ++ rest) ≤ n = omega (arith, l, full, ap length split, length-append x (y ++ rest)) in
+      let few : length (y ++ rest) ≤ n = omega (arith, ap length split, length-append x (y ++ rest)) in
       ap (λ r. r >>= λ p. made (λ vs. p.0 ∷ vs) (items_within n at) p.1) (law.takes (z ∷ zs) x (y ++ rest) v w split p)
       ∙ ap (λ r. r >>= λ vs. Ok (v ∷ vs))
       (items_err vs n k (y ++ rest) y rest few (behind_within x (y ++ rest) split w) q refl more e)

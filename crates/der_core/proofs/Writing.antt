@@ -15,9 +15,9 @@ module _ {S V : Type 0} {valid : S → Type 0} {printed : S → List ℕ} {means
   -- where the spelling that is written passes the limit, each does
   written_too_long : limit < length (printed (written v)) → (encoding : List ℕ)
       → Spells valid printed means v encoding → ⊥
-  written_too_long long encoding (few, (s, e, ok, is)) = elim (law.least s ok (omega (arith, few, ap length is))) [
-    | inl same ↦ omega (arith, long, few, ap length is, ap (λ u. length (printed u)) (same ∙ ap written e))
-    | inr less ↦ omega (arith, long, few, ap length is, less, ap (λ u. length (printed (written u))) e)
+  written_too_long long encoding (few, (s, e, ok, is)) = elim (law.least s ok (omega (arith, ap length is))) [
+    | inl same ↦ omega (arith, ap length is, ap (λ u. length (printed u)) (same ∙ ap written e))
+    | inr less ↦ omega (arith, ap length is, ap (λ u. length (printed (written u))) e)
   ]
 
   -- why its octets aren't counted is why the value isn't
@@ -65,8 +65,8 @@ module _ {S V : Type 0} {valid : S → Type 0} {printed : S → List ℕ} {means
   room_below_encodings room no_encoding h bytes p = absurd (h bytes p.1)
   room_below_encodings room too_long h bytes p = absurd (h.1 bytes p)
   room_below_encodings room no_room h bytes p = elim (h.1.1 bytes p) [
-    | inl same ↦ omega (arith, h.2, ap length same)
-    | inr longer ↦ omega (arith, h.2, longer)
+    | inl same ↦ omega (arith, ap length same)
+    | inr longer ↦ omega arith
   ]
   room_below_encodings room another h bytes p = absurd h
 
@@ -100,10 +100,9 @@ module _ {S V : Type 0} {valid : S → Type 0} {printed : S → List ℕ} {means
 pub tells_joined : {A B : Type 0} (x y : List ℕ) (m n total : ℕ) → Tells A x m → Tells B y n
     → (total ≤ limit → total ≡ m + n) → Tells (A × B) (x ++ y) total
 tells_joined x y m n total p q sum few =
-    let is = sum few in
-    let first = p (omega (arith, is, few)) in
-    let second = q (omega (arith, is, few)) in
-    ((first.0, second.0), omega (arith, is, first.1, second.1, length-append x y), few)
+    let first = p (omega arith) in
+    let second = q (omega arith) in
+    ((first.0, second.0), omega (arith, length-append x y), few)
 
 -- The length of an encoding, by that of its contents.
 pub tlv_length : (n t : ℕ) (c encoding : List ℕ) → length c ≡ n → Tlv t (IsExactly c) encoding
@@ -113,7 +112,7 @@ tlv_length n t c encoding e p =
     let count : length p.contents ≡ n = ap length same ∙ e in
     let counted : IsLength n p.octets = rw count at p.counted in
     let form : p.octets ≡ length_octets n = length_octets-only n p.octets counted in
-    omega (arith, ap length p.written, ap length form, count, length-append p.octets p.contents)
+    omega (arith, ap length p.written, ap length form, length-append p.octets p.contents)
 
 -- No octets take no room.
 pub takes_none : (room : Option ℕ) → TakesRoom 0 room room
@@ -128,19 +127,19 @@ takes_both m n None None (Some c) e p q = absurd q
 takes_both m n None (Some b) left e p q = absurd p
 takes_both m n (Some a) None left e p q = absurd p
 takes_both m n (Some a) (Some b) None e p q = absurd q
-takes_both m n (Some a) (Some b) (Some c) e p q = omega (arith, e, p, q)
+takes_both m n (Some a) (Some b) (Some c) e p q = omega arith
 
 -- Where there is too little room for what is left, there is too little for all.
 lacks_behind : {all : ℕ} (m n : ℕ) (room mid : Option ℕ) → all ≡ m + n → TakesRoom m room mid → LacksRoom n mid
     → LacksRoom all room
 lacks_behind m n room None e p q = absurd q
 lacks_behind m n None (Some b) e p q = absurd p
-lacks_behind m n (Some a) (Some b) e p q = omega (arith, e, p, q)
+lacks_behind m n (Some a) (Some b) e p q = omega arith
 
 -- Where there is too little room, there is too little for more.
 pub lacks_more : {m n : ℕ} (room : Option ℕ) → m ≤ n → LacksRoom m room → LacksRoom n room
 lacks_more None l p = absurd p
-lacks_more (Some left) l p = omega (arith, l, p)
+lacks_more (Some left) l p = omega arith
 
 -- Octets were written by both their parts.
 pub receives_both : {octets : List ℕ} (front back : List ℕ) (old mid new : List ℕ → Type 0) → octets ≡ front ++ back
@@ -254,13 +253,13 @@ module _ {P Q R : Type 0} (xs ys : List ℕ) (there : P → Q → R) (back : R �
   -- one of them isn't counted, and the other has octets
   second_uncounted : (k : EncodeError) → P → WhyOctetsNotCounted Q ys k → WhyOctetsNotCounted R (xs ++ ys) k
   second_uncounted no_encoding p u = λ r. u (back r).1
-  second_uncounted too_long p u = (there p u.0, omega (arith, u.1, length-append xs ys))
+  second_uncounted too_long p u = (there p u.0, omega (arith, length-append xs ys))
   second_uncounted no_room p u = absurd u
   second_uncounted another p u = absurd u
 
   first_uncounted : (k : EncodeError) → Q → WhyOctetsNotCounted P xs k → WhyOctetsNotCounted R (xs ++ ys) k
   first_uncounted no_encoding q u = λ r. u (back r).0
-  first_uncounted too_long q u = (there u.0 q, omega (arith, u.1, length-append xs ys))
+  first_uncounted too_long q u = (there u.0 q, omega (arith, length-append xs ys))
   first_uncounted no_room q u = absurd u
   first_uncounted another q u = absurd u
 
@@ -286,9 +285,9 @@ module _ {P Q R : Type 0} (xs ys : List ℕ) (there : P → Q → R) (back : R �
       elim (nat_le (m + n) limit) as (λ t. nat_le (m + n) limit ≡ t
       → Counts R (xs ++ ys) (if t then Ok (m + n) else Err (record { kind = kind.Overflow }))) [
         | true ↦ λ e. let le : m + n ≤ limit =
-            grind arith in (there p.0 q.0, omega (arith, p.1, q.1, length-append xs ys), le)
+            grind arith in (there p.0 q.0, omega (arith, length-append xs ys), le)
         | false ↦ λ e. let gt : limit < m + n =
-            grind arith in (there p.0 q.0, omega (arith, p.1, q.1, length-append xs ys))
+            grind arith in (there p.0 q.0, omega (arith, length-append xs ys))
       ] refl
   counts_joined (Ok m) (Err f) p q = second_uncounted (encode_error f.kind) p.0 q
   counts_joined (Err e) (Ok n) p q = first_uncounted (encode_error e.kind) q.0 p
@@ -306,25 +305,13 @@ pub counts_encoding : {P : Type 0} (tag : ℕ) (contents : List ℕ) (n : ℕ) (
     → Counts P (tlv tag contents) r
 counts_encoding tag contents n (Ok m) p e ok err = (
   p,
-  omega (
-    arith,
-    ok.0,
-    e,
-    ap (λ k. length (length_octets k)) e,
-    length-append (length_octets (length contents)) contents,
-  ),
+  omega (arith, ap (λ k. length (length_octets k)) e, length-append (length_octets (length contents)) contents),
   ok.1,
 )
 counts_encoding tag contents n (Err x) p e ok err =
     rw err.0 (
       p,
-      omega (
-        arith,
-        err.1,
-        e,
-        ap (λ k. length (length_octets k)) e,
-        length-append (length_octets (length contents)) contents,
-      ),
+      omega (arith, ap (λ k. length (length_octets k)) e, length-append (length_octets (length contents)) contents),
     )
 
 -- The kind of the error.
@@ -358,4 +345,4 @@ not_refused Tags (Err e) has appends tag same =
 
 -- An error made with a tag is refused with this one.
 pub refused_with : {A : Type 0} (t : Tag) (e : Error) → e.kind ≡ kind.Value t → RefusedAs {A = A} (λ tag. tag ≡ t) (Err e)
-refused_with t e is tag same = let both : kind.Value t ≡ kind.Value tag = sym is ∙ ap kind_in same in cc
+refused_with t e is tag same = cc

@@ -1,7 +1,7 @@
 -- `boolean` gives the first fault: `Length` of another number of octets than one, `Value` of another octet.
 use Rattle.std.proofs.Common.{ℕ, List, [], ◌∷◌, ◌≡◌, ◌≢◌, ◌==◌, false, length, slice_index_or, refl, sym, ap, ◌∙◌, arith, Err}
 use Rattle.der_core.specs.declared.error.ErrorKind.TheVariants.{Length, Value}
-use Rattle.der_core.specs.Words.{ErrorKind, Tag, boolean_of, boolean_tag, nat_tests, same_tag}
+use Rattle.der_core.specs.Words.{ErrorKind, Tag, boolean_of, boolean_tag, same_tag}
 use Rattle.der_core.proofs.boolean.boolean.Goals as goal
 
 -- Contents of another length than 1 have the fault `Length`.
@@ -15,13 +15,13 @@ boolean_of_length (x ∷ y ∷ ys) k t l o is =
 -- One octet that is neither ff nor 00 has the fault `Value`.
 boolean_of_octet : (c : List ℕ) (k : ErrorKind) (t : Tag) → length c ≡ 1 → slice_index_or c 0 0 ≢ 255
     → slice_index_or c 0 0 ≢ 0 → t.octet ≡ 1 → k ≡ Value t → boolean_of c ≡ Err k
-boolean_of_octet [] k t l high low o is = absurd (omega (arith, l))
+boolean_of_octet [] k t l high low o is = absurd (omega arith)
 boolean_of_octet (x ∷ []) k t l high low o is =
-    let isnt_true : (x == 255) ≡ false = grind (arith, nat_tests, high) in
-    let isnt_false : (x == 0) ≡ false = grind (arith, nat_tests, low) in
+    let isnt_true : (x == 255) ≡ false = grind arith in
+    let isnt_false : (x == 0) ≡ false = grind arith in
     rw (isnt_true, isnt_false)
     (ap (λ t. Err (Value t)) (same_tag boolean_tag t (sym o)) ∙ ap (λ k. Err k) (sym is))
-boolean_of_octet (x ∷ y ∷ ys) k t l high low o is = absurd (omega (arith, l))
+boolean_of_octet (x ∷ y ∷ ys) k t l high low o is = absurd (omega arith)
 
 -- At the `Err` for another length than 1.
 pub returns-then-contents-ne1 : goal.returns-then-contents-ne1

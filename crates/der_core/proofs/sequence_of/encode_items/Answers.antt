@@ -40,7 +40,7 @@ returns-in_err-encode-clause-appends g c =
     let whole = encodings_around_item valid printed xs i x c.loop-item-test.true c.item-item.is in
     let rest = all_encodings printed (drop (i + 1) xs) in
     let front = length-append (all_encodings printed (take i xs)) (printed x ++ rest) in
-    let less : length (printed x ++ rest) ≤ limit = omega (arith, few, ap length whole, front) in
+    let less : length (printed x ++ rest) ≤ limit = omega (arith, ap length whole) in
     rw (p.1, p.2) (appends_behind _ _ _ has all whole few c.loop-item.invariant.written c.loop-item.invariant.room
     (appends_in_front _ _ rest has has refl less c.in_err-encode.ensures.appends))
 

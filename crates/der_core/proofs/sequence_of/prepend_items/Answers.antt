@@ -11,12 +11,7 @@ item_fits : {T : Type 0} (has : T → Type 0) (encoding : T → List ℕ) (xs : 
 item_fits has encoding xs left x p l e =
     let next : left - 1 + 1 ≡ left = omega arith in
     let same = ap (λ y. length (encoding y)) e in
-    omega (
-      arith,
-      same,
-      ap (λ k. length (all_encodings encoding (drop k xs))) next,
-      encodings_behind_len has encoding xs (left - 1) x (omega arith),
-    )
+    omega (arith, ap (λ k. length (all_encodings encoding (drop k xs))) next, encodings_behind_len has encoding xs (left - 1) x (omega arith))
 
 -- `prepend` of an item asks that its encoding is within the limit: those of all items are.
 pub prepend-requires-clause-fits : goal.prepend-requires-clause-fits
@@ -26,7 +21,7 @@ prepend-requires-clause-fits g c =
     let less =
     item_fits valid printed c.args.items.now c.loop-left.left c.index-items-left.result c.loop-left-test.true
     c.loop-left.invariant.0 c.index-items-left.is in
-    omega (arith, c.requires.fits, less)
+    omega arith
 
 -- It asks for room: there was room for all items, and only those behind it have taken theirs.
 pub prepend-requires-clause-room : goal.prepend-requires-clause-room
@@ -36,4 +31,4 @@ prepend-requires-clause-room g c =
     let less =
     item_fits valid printed c.args.items.now c.loop-left.left c.index-items-left.result c.loop-left-test.true
     c.loop-left.invariant.0 c.index-items-left.is in
-    omega (arith, c.requires.room, c.loop-left.invariant.1.1, less)
+    omega arith

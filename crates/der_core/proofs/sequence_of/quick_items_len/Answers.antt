@@ -10,4 +10,4 @@ loop-item-preserved g c =
     let printed = λ (x : g.row.T.Denot). g.T.Encoding.printed (g.T.Encoding.written (g.T.Encoding.value x)) in
     let item = subst (λ x. Tells (valid x) (printed x) c.quick_len.result) c.item-item.is c.quick_len.ensures in
     tells_more valid printed c.args.items.now c.loop-item.item-index c.item-item.result c.loop-item-test.true _ _ _
-    c.loop-item.invariant item (λ few. omega (arith, few, c.saturating_add-total.ensures))
+    c.loop-item.invariant item (λ few. omega arith)

@@ -1,6 +1,5 @@
 -- `in-len1-up` is the arm `[first, ..]`, and `in-0` an arm for 0 and a second octet.
 use Rattle.std.proofs.Common.{refl, ap, arith, length, ◌<◌}
-use Rattle.der_core.specs.Words.{nat_tests}
 use Rattle.der_core.proofs.Integers.{tail_holds_number, integer_of_empty, integer_of_negative, integer_of_padded}
 use Rattle.der_core.proofs.integer.uint.integer.Goals as goal
 
@@ -24,5 +23,5 @@ returns-in-0 c =
 -- There are no contents: the fault is `Length`.
 pub returns-then-is_empty : goal.returns-then-is_empty
 returns-then-is_empty c =
-    let none : length c.args.contents.now < 1 = grind (arith, nat_tests, c.if-is_empty.true, c.is_empty.ensures) in
+    let none : length c.args.contents.now < 1 = grind arith in
     integer_of_empty _ _ _ none (ap (λ e. e.kind) c.new.ensures) refl

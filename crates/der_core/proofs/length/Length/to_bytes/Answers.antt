@@ -5,4 +5,4 @@ use Rattle.der_core.specs.Words.{length_octets-within}
 use Rattle.der_core.proofs.length.Length.to_bytes.Goals as goal
 
 pub returns-clause-counted : goal.returns-clause-counted
-returns-clause-counted c = rw c.octets.ensures.written (length_octets-within _ (omega (arith, c.octets.ensures.within)))
+returns-clause-counted c = rw c.octets.ensures.written (length_octets-within _ (omega arith))

@@ -2,7 +2,7 @@
 -- says that `contents` are both, `i.3` that `left` is `i.1`, and `i.4` that the encodings of the items, joined, are
 -- `i.0`.
 use Rattle.std.proofs.Common.{[], ◌∷◌, refl, ap, sym, ◌∙◌, ◌≡◌, ◌++◌, ◌==◌, ℕ, List, true, false, is_ok, is_some, length, Ok, Some, arith, subst}
-use Rattle.der_core.specs.Words.{AreBytes, FrontReading, Input, ReadsFronts, back_bytes, left_in, nat_tests, prints_some, front_reading_reads, Prints, are_bytes}
+use Rattle.der_core.specs.Words.{AreBytes, FrontReading, Input, ReadsFronts, back_bytes, left_in, prints_some, front_reading_reads, Prints, are_bytes}
 use Rattle.der_core.proofs.Items.{EncodingGives, items_more, items_end, item_taken}
 use Rattle.der_core.proofs.ReadSteps.{front_gives}
 use Rattle.der_core.proofs.sequence_of.VecDecodeValueRefSliceU8Global.quick_value.Goals as goal
@@ -19,7 +19,7 @@ item_read law v contents left behind read rest bytes from is given =
 -- The loop ended because `left` is empty.
 no_items_left : (left rest : List ℕ) → Some left ≡ Some rest → true ≡ (length left == 0) → rest ≡ []
 no_items_left [] rest is ends = sym (ap left_in is)
-no_items_left (x ∷ xs) rest is ends = let no : true ≡ false = grind (arith, nat_tests, ends) in cc
+no_items_left (x ∷ xs) rest is ends = let no : true ≡ false = grind arith in cc
 
 -- At first nothing was read.
 pub loop-left-init : goal.loop-left-init

@@ -1,6 +1,6 @@
 -- `append_value` of `u8`. `is` says that what is printed of the number is what is made of its one byte.
-use Rattle.std.proofs.Common.{rules, sym, subst, [], ◌∷◌, ◌<◌, ◌≤◌, length}
-use Rattle.der_core.specs.Words.{integer_contents, small_contents_as, limit, Appends}
+use Rattle.std.proofs.Common.{rules, sym, subst, [], ◌∷◌, ◌<◌}
+use Rattle.der_core.specs.Words.{integer_contents, small_contents_as, Appends}
 use Rattle.der_core.proofs.integer.small.U8EncodeValue.append_value.Goals as goal
 
 -- At the first `write`: the number is below 128, so the contents are its byte.
@@ -8,7 +8,6 @@ pub returns-then-self-lt128-clause-appends : goal.returns-then-self-lt128-clause
 returns-then-self-lt128-clause-appends g c =
     let n = c.args.self.now in
     let is = small_contents_as n c.requires.has in
-    let fits : length (integer_contents (n ∷ [])) ≤ limit = rw is at c.requires.fits in
     let told : Appends (n < 256) (integer_contents (n ∷ [])) g.W.Writer.room g.W.Writer.written c.args.writer.now
     c.write.new.self c.write.result = search rules in
     subst (λ octets. Appends (n < 256) octets g.W.Writer.room g.W.Writer.written c.args.writer.now c.write.new.self
@@ -19,7 +18,6 @@ pub returns-else-self-lt128-clause-appends : goal.returns-else-self-lt128-clause
 returns-else-self-lt128-clause-appends g c =
     let n = c.args.self.now in
     let is = small_contents_as n c.requires.has in
-    let fits : length (integer_contents (n ∷ [])) ≤ limit = rw is at c.requires.fits in
     let told : Appends (n < 256) (integer_contents (n ∷ [])) g.W.Writer.room g.W.Writer.written c.args.writer.now
     c.write-else-self-lt128.new.self c.write-else-self-lt128.result = search rules in
     subst (λ octets. Appends (n < 256) octets g.W.Writer.room g.W.Writer.written c.args.writer.now c.write-else-self-lt128.new.self

@@ -1,7 +1,7 @@
 -- `prepend_value` of `UintRef`. `is` says that what is printed of the number is what is made of its bytes.
-use Rattle.std.proofs.Common.{arith, rules, sym, subst, ◌≤◌, ◌∷◌, ◌∙◌, length}
+use Rattle.std.proofs.Common.{arith, rules, sym, subst, ◌∷◌, ◌∙◌}
 use Rattle.std.proofs.lemmas.Grind.{common_steps}
-use Rattle.der_core.specs.Words.{Prepends, free_of, integer_contents, holds_canonical, written_large, number_contents_as}
+use Rattle.der_core.specs.Words.{Prepends, integer_contents, holds_canonical, written_large, number_contents_as}
 use Rattle.der_core.proofs.integer.uint.UintRefEncodeValue.prepend_value.Goals as goal
 
 -- There is room for the contents, and so for the bytes.
@@ -9,7 +9,6 @@ pub prepend-requires : goal.prepend-requires
 prepend-requires c =
     let bytes = c.args.self.now.bytes.now in
     let is = number_contents_as bytes (holds_canonical bytes c.args.self.now.canonical) in
-    let room : length (integer_contents bytes) ≤ free_of c.args.writer.now = rw is at c.requires.room in
     search rules
 
 -- The first byte is 128 or more, so the contents have 0 in front, and there is room for it too.
@@ -17,7 +16,6 @@ pub prepend-requires-then-self-ge128 : goal.prepend-requires-then-self-ge128
 prepend-requires-then-self-ge128 c =
     let bytes = c.args.self.now.bytes.now in
     let is = number_contents_as bytes (holds_canonical bytes c.args.self.now.canonical) in
-    let room : length (integer_contents bytes) ≤ free_of c.args.writer.now = rw is at c.requires.room in
     search rules
 
 -- At the end, with a first byte of 128 or more: the bytes were written, and 0 in front of them.
