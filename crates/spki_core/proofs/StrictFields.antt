@@ -97,7 +97,7 @@ module _ {V : Type 0} {Is : V → Type 0} {fields : V → List Field} (r : Field
       let (few, (s, e, ok, is)) = spelled_from r v bytes p in
       let c = spelling_printed r.kinds s in
       let held : AreBytes c = contents_bytes 48 c (subst AreBytes is are) in
-      let within : length c ≤ limit = omega (arith, few, ap length is, tlv_fit 48 c) in
+      let within : length c ≤ limit = omega (arith, ap length is, tlv_fit 48 c) in
       let same : spelling_means r.kinds s ≡ r.split v = sym (r.parted (spelling_means r.kinds s)) ∙ ap r.split e in
       let read = whole_takes (record_front_law r) s bytes (few, ok, is) in
       let any_of : TagAndContents = record { tag = 48; contents = c } in
@@ -145,7 +145,7 @@ module _ {V : Type 0} {Is : V → Type 0} {fields : V → List Field} (r : Field
           let is : bytes ≡ encoding_under r v
           0 = elim (q.1 (encoding_under r v 0) (under_is_one r v 0 (encoding_under r v 0) under)) [
             | inl e ↦ sym e
-            | inr longer ↦ absurd (omega (arith, longer, least))
+            | inr longer ↦ absurd (omega arith)
           ] in
           let same : record_under r 0 v ≡ s = p.1 (record_under r 0 v) (q.0.1, valid_under r v 0 q.0.0, is) in
           let none : first_written r.kinds s ≡ None =

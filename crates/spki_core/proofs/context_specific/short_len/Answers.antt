@@ -6,4 +6,4 @@ use Rattle.spki_core.proofs.context_specific.short_len.Goals as goal
 pub returns-then-contents-lt128 : goal.returns-then-contents-lt128
 returns-then-contents-lt128 c =
     let octets = ap length (length_octets-short c.args.contents c.if-contents-lt128.true) in
-    λ few. (omega (arith, few), omega (arith, octets))
+    λ few. (omega arith, omega arith)
