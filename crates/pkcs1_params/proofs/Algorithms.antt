@@ -135,7 +135,7 @@ module _ (oid : List ℕ) (valid : is_identifier oid ≡ true) where
         → whole_algorithm oid (record_read r) bytes ≡ Ok w
     whole_algorithm_read w bytes are (few, p, (ok, within, c, held, same), is) =
         let whole = is ∙ ap (wrapped oid) same in
-        let less : length c ≤ limit = omega (arith, within, ap length same, tlv_fit 48 c) in
+        let less : length c ≤ limit = omega (arith, ap length same, tlv_fit 48 c) in
         whole_algorithm_is (record_read r) c bytes are few whole
         ∙ (record_reads r).takes c w less (ok, held)
 
@@ -147,7 +147,7 @@ module _ (oid : List ℕ) (valid : is_identifier oid ≡ true) where
         (λ v was.
         let (c, few, held, is, read) = algorithm_holds (record_read r) v bytes are was in
         let law = (record_reads r).gives c v held read in
-        let within : length (sequence c) ≤ limit = omega (arith, few, ap length is, wrapped_fit oid (sequence c)) in
+        let within : length (sequence c) ≤ limit = omega (arith, ap length is, wrapped_fit oid (sequence c)) in
         (few, sequence c, (law.0, within, c, law.1, refl), is))
         (λ v e. whole_algorithm_read v bytes are e)
 
@@ -162,11 +162,11 @@ module _ (oid : List ℕ) (valid : is_identifier oid ≡ true) where
         → bytes ≡ wrapped oid p
         → whole_algorithm oid (record_strictly r) bytes ≡ strict_whole r p
     strict_algorithm_in v bytes p are (few, q, x, is) given =
-        let one : q ≡ p = wrapped_one oid q p (omega (arith, few, ap length is)) (sym is ∙ given) in
+        let one : q ≡ p = wrapped_one oid q p (omega (arith, ap length is)) (sym is ∙ given) in
         let (within, (s, e, ok, there)) = spelled_from r v q x in
         let c = spelling_printed r.kinds s in
-        let less : length c ≤ limit = omega (arith, within, ap length there, tlv_fit 48 c) in
-        let fit : length p ≤ limit = omega (arith, within, ap length one) in
+        let less : length c ≤ limit = omega (arith, ap length there, tlv_fit 48 c) in
+        let fit : length p ≤ limit = omega (arith, ap length one) in
         whole_algorithm_is (record_strictly r) c bytes are few (is ∙ ap (wrapped oid) there)
         ∙ ap (λ x. x >>= strict_value r.kinds r.join)
         ((record_law r).takes s ok less ∙ sym (whole_takes (record_front_law r) s p (fit, ok, sym one ∙ there)))
@@ -197,7 +197,7 @@ module _ (oid : List ℕ) (valid : is_identifier oid ≡ true) where
         algorithm_errs (record_read r) (record_strictly r) (λ c e p.
         elim (bind_err (spelling_read r.kinds c) _ ((record_alike r).same c ∙ p)) [
           | inl q ↦ ap (λ x. x >>= strict_value r.kinds r.join) q
-          | inr q ↦ let never = q.2 in cc
+          | inr q ↦ cc
         ]) oid bytes k
 
     -- What strict reading is promised to give.
@@ -212,7 +212,7 @@ module _ (oid : List ℕ) (valid : is_identifier oid ≡ true) where
         go (Ok v) was ((few, p, holds, is), one) =
             let octets = back_bytes (tlv 6 oid) p (contents_bytes 48 (tlv 6 oid ++ p) (subst AreBytes is are)) in
             rw (strict_algorithm_in v bytes p are (few, p, holds, is) is, is)
-            (wrapped_shortest_decodes oid ParametersEncoding p (omega (arith, few, ap length is))
+            (wrapped_shortest_decodes oid ParametersEncoding p (omega (arith, ap length is))
             (value_in (strict_whole r p))
             (strict_decodes r p octets))
         go (Err k) was none = rw (strict_algorithm_errs bytes k was) (λ v s. none v s.0)
@@ -257,7 +257,7 @@ module _ (oid : List ℕ) (identifier : IsIdentifier oid) where
             go (Some s) means ok all =
                 let p = sequence (spelling_printed r.kinds s) in
                 let one : record_means r s ≡ v = cc in
-                (few, p, spelled_to r v p (omega (arith, few, ap length all, wrapped_fit oid p), (s, one, ok, refl)), all)
+                (few, p, spelled_to r v p (omega (arith, ap length all, wrapped_fit oid p), (s, one, ok, refl)), all)
 
         from : HoldingEncoding v bytes → AlgorithmSpelled (with_parameters oid v) bytes
         from (few, p, q, is) =
@@ -279,7 +279,7 @@ module _ (oid : List ℕ) (identifier : IsIdentifier oid) where
     -- Two to the number of defaults.
     pub algorithm_counted : TwoToTheDefaultsIn oid Is fields
     algorithm_counted v k ok d few =
-        let less : length (longest (fields v)) ≤ limit = omega (arith, few, wrapped_fit oid (longest (fields v))) in
+        let less : length (longest (fields v)) ≤ limit = omega (arith, wrapped_fit oid (longest (fields v))) in
         subst (λ n. (all : List (List ℕ)) × AreAll (AlgorithmEncoding oid) Is fields v n all)
         (sym (default_count_only r v k d)) (
           map (wrapped oid) (upto (2 ^ default_count r v) (encoding_under r v)),

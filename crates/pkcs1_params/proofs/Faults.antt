@@ -2,9 +2,9 @@
 -- calls that decode parameters, and their laws.
 use Rattle.std.proofs.Common.{ℕ, Bool, true, false, List, ◌≡◌, ⊎_elim, Option, Some, None, Err, Result, length, ◌==◌, nat_lt, bytes_eq, Ok, IfErr, OnErr, ◌∙◌, ap, inl, inr, refl, subst, sym, ◌↔◌, [], ◌∷◌, ◌++◌, ◌<◌, ◌+◌, drop, arith, if◌then◌else◌}
 use Rattle.der_core.specs.declared.error.ErrorKind.{ErrorKind}
-use Rattle.der_core.specs.declared.error.ErrorKind.TheVariants.{Noncanonical, OidUnknown, Overflow, ParametersMissing, TagUnknown}
+use Rattle.der_core.specs.declared.error.ErrorKind.TheVariants.{Noncanonical, TagUnknown}
 use Rattle.der_core.specs.declared.tag.Tag.{Tag}
-use Rattle.der_core.specs.Words.{cond_cases, alone_law, bind_err, unexpected_tells, limit, ReadsFrontPrinted, TellsOfBytes, FrontReading, checked, tagged, whole, context_octet, is_allowed, ok_of, value_in, ◌>>=◌, nat_tests, whole_takes, is_next}
+use Rattle.der_core.specs.Words.{cond_cases, alone_law, bind_err, unexpected_tells, limit, ReadsFrontPrinted, TellsOfBytes, FrontReading, checked, tagged, whole, context_octet, is_allowed, ok_of, value_in, ◌>>=◌, whole_takes, is_next}
 use Rattle.der_core.specs.Tags as tags
 use Rattle.spki_core.specs.Words.{FieldRecord, first_written, record_means, record_strictly, spelling_read, strict_whole, record_front_law, record_law, noncanonical, unless_found, AreLawful, AreNumbered, Kind, Spelling, Values, fields_of, spelling_means, field_printed, spelling_printed, strict_value, spelled_from, spelled_not_next, is_identifier}
 use Rattle.pkcs1_params.specs.Words.{identified, parameters_as, whole_algorithm, plain_law, FaultsTell, plain_front, Error, IsAsn1, AnswersAsn1, IsEncoded, fault_in, fault_told, NamesFirstDefaultIn, FirstWritten, NamesFirstDefault}
@@ -27,13 +27,13 @@ noncanonical_tells n = go (is_allowed (context_octet n)) (λ ok. record { octet 
 
 found_tells : {V : Type 0} (found : Option ℕ) (v : V) (k : ErrorKind) → unless_found found v ≡ Err k → TellsOfBytes k
 found_tells None v k e = cc
-found_tells (Some n) v k e = let same : noncanonical n ≡ k = let q = e in cc in rw same at (noncanonical_tells n)
+found_tells (Some n) v k e = let same : noncanonical n ≡ k = cc in rw same at (noncanonical_tells n)
 
 -- A fault of a whole slice.
 pub whole_tells : {S : Type 0} {valid : S → Type 0} {printed : S → List ℕ} {at : FrontReading S}
     → ReadsFrontPrinted valid printed at → FaultsTell (whole at)
 whole_tells law bytes k e =
-    ⊎_elim (λ w. let same : Overflow ≡ k = let is = w.1 in cc in (λ no. cc, λ no. cc, λ no. cc))
+    ⊎_elim (λ w. (λ no. cc, λ no. cc, λ no. cc))
     (λ w. (alone_law law).tells bytes k w.1) (cond_cases (nat_lt limit (length bytes)) _ _ _ e)
 
 module _ {V : Type 0} {Is : V → Type 0} {fields : V → List Field} (r : FieldRecord Is fields) where
@@ -56,7 +56,7 @@ whole_algorithm_tells {V} {read} tell oid b k e =
     ⊎_elim (whole_tells plain_law b k) (λ s. identified_tells s.0 k s.2) (bind_err (whole plain_front b) _ e)
   where
     parameters_tell : (p : Option TagAndContents) (k : ErrorKind) → parameters_as read p ≡ Err k → TellsOfBytes k
-    parameters_tell None k e = let same : ParametersMissing ≡ k = let q = e in cc in (λ no. cc, λ no. cc, λ no. cc)
+    parameters_tell None k e = (λ no. cc, λ no. cc, λ no. cc)
     parameters_tell (Some any) k e =
         ⊎_elim (λ w. tell any.contents k w.1) (λ w. unexpected_tells tags.sequence_tag any.tag k w.1)
         (cond_cases (any.tag == 48) _ _ _ e)
@@ -64,7 +64,7 @@ whole_algorithm_tells {V} {read} tell oid b k e =
     identified_tells : (a : Algorithm TagAndContents) (k : ErrorKind) → identified oid read a ≡ Err k → TellsOfBytes k
     identified_tells a k e =
         ⊎_elim (λ w. parameters_tell a.parameters k w.1)
-        (λ w. let same : OidUnknown ≡ k = let q = w.1 in cc in (λ no. cc, λ no. cc, λ no. cc))
+        (λ w. (λ no. cc, λ no. cc, λ no. cc))
         (cond_cases (bytes_eq a.oid oid) _ _ _ e)
 
 -- == What holds of errors, whatever the call ==
@@ -148,11 +148,11 @@ later_tag_not_next : (ks : List Kind) (m n : ℕ) → m < n → AreLawful n ks �
     → FirstWritten (fields_of ks v) i c → is_next (160 + m) c ≡ false
 later_tag_not_next [] m n less law v i c p = absurd p
 later_tag_not_next (k ∷ ks) m n less law (x, v) i c (inl (d, e, later, is, rest)) =
-    let other : m < k.number = omega (arith, less, law.0) in rw is (grind (arith, nat_tests, other))
+    let other : m < k.number = omega arith in rw is (grind arith)
 later_tag_not_next (k ∷ ks) m n less law (x, v) i c (inr (inl (d, j, e, p))) =
-    later_tag_not_next ks m (k.number + 1) (omega (arith, less, law.0)) law.4 v j c p
+    later_tag_not_next ks m (k.number + 1) (omega arith) law.4 v j c p
 later_tag_not_next (k ∷ ks) m n less law (x, v) i c (inr (inr (d, j, e, later, is, p))) =
-    let other : m < k.number = omega (arith, less, law.0) in rw is (grind (arith, nat_tests, other))
+    rw is (grind arith)
 
 -- So what is found in a spelling is the first one there.
 first_written_found : (ks : List Kind) (m : ℕ) → AreLawful m ks → AreNumbered m ks → (s : Spelling ks) (n : ℕ)
@@ -160,28 +160,28 @@ first_written_found : (ks : List Kind) (m : ℕ) → AreLawful m ks → AreNumbe
 first_written_found [] m law numbered s n p = absurd p
 first_written_found (k ∷ ks) m law numbered (None, s) n (inl (d, e, later, is, rest)) =
     let other = spelled_not_next ks (k.number + 1) k.number (omega arith) law.4 s in
-    let here : is_next (160 + k.number) (spelling_printed ks s) ≡ true = rw is (grind (arith, nat_tests)) in
+    let here : is_next (160 + k.number) (spelling_printed ks s) ≡ true = rw is (grind arith) in
     let never : true ≡ false = sym here ∙ other in cc
 first_written_found (k ∷ ks) m law numbered (None, s) n (inr (inl (d, j, e, p))) =
-    let step : k.number + 1 ≡ m + 1 = omega (arith, numbered.0) in
+    let step : k.number + 1 ≡ m + 1 = omega arith in
     first_written_found ks (m + 1) (subst (λ i. AreLawful i ks) step law.4) numbered.1 s j p
-    ∙ ap (λ i. Some i) (omega (arith, e))
+    ∙ ap (λ i. Some i) (omega arith)
 first_written_found (k ∷ ks) m law numbered (None, s) n (inr (inr (d, j, e, later, is, p))) = absurd (d refl)
 first_written_found (k ∷ ks) m law numbered (Some x, s) n (inl (d, e, later, is, rest)) =
-    let yes : k.is_default x ≡ true = (law.2 x).1 d in rw yes (ap (λ i. Some i) (omega (arith, numbered.0, e)))
+    let yes : k.is_default x ≡ true = (law.2 x).1 d in rw yes (ap (λ i. Some i) (omega arith))
 first_written_found (k ∷ ks) m law numbered (Some x, s) n (inr (inl (d, j, e, p))) =
     let other = later_tag_not_next ks k.number (k.number + 1) (omega arith) law.4 (spelling_means ks s) j _ p in
     let here : is_next (160 + k.number) (field_printed k x ++ spelling_printed ks s) ≡ true =
-    grind (arith, nat_tests) in
-    let never : true ≡ false = sym here ∙ other in cc
+    grind arith in
+    cc
 first_written_found (k ∷ ks) m law numbered (Some x, s) n (inr (inr (d, j, e, later, is, p))) =
-    let step : k.number + 1 ≡ m + 1 = omega (arith, numbered.0) in
+    let step : k.number + 1 ≡ m + 1 = omega arith in
     let rest : later ≡ spelling_printed ks s =
     sym (drop-append_seam (field_printed k x) later) ∙ ap (drop (length (field_printed k x))) (sym is)
     ∙ drop-append_seam (field_printed k x) (spelling_printed ks s) in
     go (k.is_default x) refl
     (first_written_found ks (m + 1) (subst (λ i. AreLawful i ks) step law.4) numbered.1 s j
-    (subst (FirstWritten (fields_of ks (spelling_means ks s)) j) rest p) ∙ ap (λ i. Some i) (omega (arith, e)))
+    (subst (FirstWritten (fields_of ks (spelling_means ks s)) j) rest p) ∙ ap (λ i. Some i) (omega arith))
   where
     go : (b : Bool) → k.is_default x ≡ b → first_written ks s ≡ Some (m + n)
         → (if b then Some k.number else first_written ks s) ≡ Some (m + n)
@@ -194,7 +194,7 @@ module _ {V : Type 0} {Is : V → Type 0} {fields : V → List Field} (r : Field
   first_named v n tag contents bytes p is first octet =
       let (few, (s, e, ok, same)) = spelled_from r v bytes p in
       let one : contents ≡ spelling_printed r.kinds s =
-      same_contents contents (spelling_printed r.kinds s) (omega (arith, few, ap length is)) (sym is ∙ same) in
+      same_contents contents (spelling_printed r.kinds s) (omega (arith, ap length is)) (sym is ∙ same) in
       let means : spelling_means r.kinds s ≡ r.split v = sym (r.parted (spelling_means r.kinds s)) ∙ ap r.split e in
       let here : FirstWritten (fields_of r.kinds (spelling_means r.kinds s)) n (spelling_printed r.kinds s) =
       subst (λ u. FirstWritten (fields_of r.kinds u) n (spelling_printed r.kinds s)) (sym means)
@@ -212,6 +212,6 @@ module _ {V : Type 0} {Is : V → Type 0} {fields : V → List Field} (r : Field
   first_named_in oid valid v n tag contents bytes are p is first octet =
       let (few, q, there, same) = p in
       let one : q ≡ sequence contents =
-      wrapped_one oid q (sequence contents) (omega (arith, few, ap length same)) (sym same ∙ is) in
+      wrapped_one oid q (sequence contents) (omega (arith, ap length same)) (sym same ∙ is) in
       strict_algorithm_in oid valid r v bytes (sequence contents) are p is
       ∙ first_named v n tag contents (sequence contents) (subst (SequenceOf Is fields Fields v) one there) refl first octet

@@ -62,7 +62,7 @@ labelled_encoding_is oid label = ap sequence (sym (octets_under_spelled oaep_rec
 pub label_counted : (label : List ℕ) (n : ℕ) (r : Result ℕ Error) → length label ≡ n
     → IfOk r (λ m. (m ≡ n) × (n ≤ limit)) → IfErr r (λ e. (e.kind ≡ kind.Overflow) × (limit < n)) → Counts ⊤ label r
 label_counted label n (Ok m) e ok err = (tt, omega arith, omega arith)
-label_counted label n (Err x) e ok err = rw err.0 (tt, omega (arith, err.1))
+label_counted label n (Err x) e ok err = rw err.0 (tt, omega arith)
 
 -- Its field is counted, by both parts of its contents.
 pub source_counted : (label : List ℕ) (identifier octets : Result ℕ Error)
@@ -105,7 +105,7 @@ no_label_fits_where_uncounted oid n (Ok m) ok all label bytes e encoding means =
 no_label_fits_where_uncounted oid n (Err x) ok all label bytes e encoding means =
     let least = (zero_least oaep_record (labelled oid label) encoding means).1 in
     let long = uncounted_overflows (sequence (written_labelled oid label)) x.kind means.0 (all label bytes e) in
-    omega (arith, least, means.1, long.1, ap length (labelled_encoding_is oid label))
+    omega (arith, ap length (labelled_encoding_is oid label))
 
 -- A label is no longer than the encoding that holds it.
 source_longer : (label : List ℕ) → length label ≤ length (written_source label)
@@ -127,13 +127,4 @@ label_within oid label bytes fits =
     let means = fits label bytes refl in
     let least = (zero_least oaep_record (labelled oid label) means.0 means.1).1 in
     let written = labelled_written oid label in
-    omega (
-      arith,
-      source_longer label,
-      ap length written,
-      length-append (written_before oid) (written_source label),
-      tlv_fit 48 (written_labelled oid label),
-      ap length (labelled_encoding_is oid label),
-      least,
-      means.1.1,
-    )
+    omega (arith, source_longer label, ap length written, length-append (written_before oid) (written_source label), tlv_fit 48 (written_labelled oid label), ap length (labelled_encoding_is oid label))

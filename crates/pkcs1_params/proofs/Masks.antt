@@ -8,7 +8,6 @@ use Rattle.der_core.specs.declared.error.ErrorKind.{ErrorKind}
 use Rattle.der_core.specs.declared.error.ErrorKind.TheVariants.{Overflow}
 use Rattle.der_core.specs.declared.error.ErrorKind.TheVariants as kinds
 use Rattle.pkcs1_params.specs.Words.{Refuses, Error, bit_of, bits_of, EncodingOfFields, EncodingUnderMask, MaskIsInRange, IsMask, AreDelimited, EachHasMaskZero, DefaultsAreCounted, EachHasOneMask, EachMaskHasOne, ShortestHasNoDefaults, PlainEncoding}
-use Rattle.pkcs1_params.specs.declared.error.Error.TheVariants as error
 use Rattle.standard.specs.Statement.{AlgorithmEncoding, Encodes, IsShortest, Field, sequence, Fields, SameByShortest, SequenceOf, IsOaep, IsPss, OaepAlgorithmEncoding, OaepEncoding, OaepParameters, PssEncoding, PssAlgorithmEncoding, PssParameters, id_rsaes_oaep, id_rsassa_pss, length_octets, oaep_fields, pss_fields, tlv}
 use Rattle.spki_core.specs.Words.{AreSpelled, FieldRecord, WrittenField, are_defaults, octets_under, out_under, record_fields, record_under, rest_under, spelling_printed, Spelling, under_valid, octets_spelled, record_means, record_front_law, spelled_from}
 use Rattle.spki_core.proofs.RecordEncodings.{default_count_only, default_count_there, default_count, encoding_under, mask_below_count, under_spelled, zero_least, zero_shortest, encoding_has_one_mask, encoding_under_only, under_is_one}
@@ -90,8 +89,8 @@ octets_under_none (f ∷ fs) none = go f.is_default (octets_under_none fs) none
     go : (b : Bool) → (bits_of (are_defaults fs) ≡ 0 → octets_under 0 fs ≡ [])
         → bit_of b + 2 * bits_of (are_defaults fs) ≡ 0
         → (if out_under b 0 then [] else f.octets) ++ octets_under (rest_under b 0) fs ≡ []
-    go true later is = later (omega (arith, is))
-    go false later is = absurd (omega (arith, is))
+    go true later is = later (omega arith)
+    go false later is = absurd (omega arith)
 
 module _ {V : Type 0} {Is : V → Type 0} {fields : V → List Field} (r : FieldRecord Is fields) (v : V) (mask : ℕ) where
   pub record_is_spelled : Is v → AreSpelled r.kinds (record_under r mask v)
@@ -184,19 +183,19 @@ module _ {V : Type 0} {Is : V → Type 0} {fields : V → List Field} (r : Field
       let (within, (t, f, right, same)) = spelled_from r w (bytes ++ rest) y in
       let all = ap (λ z. z ++ rest) (sym is) ∙ same ∙ sym (append-nil (sequence (spelling_printed r.kinds t))) in
       let one =
-      prints_one (record_front_law r) s t rest [] ok right (omega (arith, within, ap (λ z. length (z ++ rest)) is)) all in
+      prints_one (record_front_law r) s t rest [] ok right (omega (arith, ap (λ z. length (z ++ rest)) is)) all in
       (sym e ∙ ap (record_means r) one.0 ∙ f, one.1)
 
   pub record_delimited : AreDelimited (SequenceOf Is fields Fields)
-  record_delimited = ((λ v p. let never = p.4 in cc), record_follow)
+  record_delimited = ((λ v p. cc), record_follow)
 
   -- So are those of identifiers with parameters.
   pub algorithm_delimited : (oid : List ℕ) → AreDelimited (AlgorithmEncoding oid (SequenceOf Is fields Fields))
   algorithm_delimited oid = (
-    (λ v p. let never = p.3 in cc),
+    (λ v p. cc),
     λ v w bytes rest (few, p, x, is) (within, q, y, same).
         let one =
-        wrapped_front oid p q rest (omega (arith, few, ap length is)) (omega (arith, within, ap length same))
+        wrapped_front oid p q rest (omega (arith, ap length is)) (omega (arith, ap length same))
         (ap (λ z. z ++ rest) (sym is) ∙ same) in
         let other : SequenceOf Is fields Fields w (p ++ []) =
         subst (SequenceOf Is fields Fields w) (sym (append-nil p ∙ one.0)) y in
@@ -224,7 +223,7 @@ module _ {V : Type 0} {Is : V → Type 0} {fields : V → List Field} (r : Field
         let z = zero_least r v bytes s.0 in
         elim (s.1 (encoding_under r v 0) (under_is_one r v 0 (encoding_under r v 0) z.0)) [
           | inl same ↦ subst (EncodingUnderMask 0 Is fields v) same z.0
-          | inr l ↦ absurd (omega (arith, l, z.1))
+          | inr l ↦ absurd (omega arith)
         ],
   )
 
@@ -235,7 +234,7 @@ module _ {V : Type 0} (Encoding : V → List ℕ → Type 0) where
   one_shortest : (v : V) (s t : List ℕ) → IsShortest Encoding v s → IsShortest Encoding v t → s ≡ t
   one_shortest v s t p q = elim (p.1 t q.0) [
     | inl e ↦ sym e
-    | inr l ↦ elim (q.1 s p.0) [ inl e ↦ e | inr k ↦ absurd (omega (arith, l, k)) ]
+    | inr l ↦ elim (q.1 s p.0) [ inl e ↦ e | inr k ↦ absurd (omega arith) ]
   ]
 
   pub same_by_shortest : AreDelimited Encoding → SameByShortest Encoding
@@ -258,8 +257,8 @@ fields_begin_high (f ∷ fields) tag rest low ok (inl p) = fields_begin_high fie
 fields_begin_high (f ∷ fields) tag rest low ok (inr (later, is, more)) = go f.written ok.0 is
   where
     go : (w : List ℕ) → 160 ≤ slice_index w 0 → tag ∷ rest ≡ w ++ later → ⊥
-    go [] high e = omega (arith, high)
-    go (x ∷ xs) high e = let same : tag ≡ x = ap (λ b. slice_index b 0) e in omega (arith, high, same, low)
+    go [] high e = omega arith
+    go (x ∷ xs) high e = let same : tag ≡ x = ap (λ b. slice_index b 0) e in omega arith
 
 pub pss_fields_begin_high : (v : PssParameters) → FieldsBeginHigh (pss_fields v)
 pss_fields_begin_high v = (omega arith, (omega arith, (omega arith, (omega arith, tt))))
@@ -273,7 +272,7 @@ pub record_differs : {V : Type 0} (Is : V → Type 0) (fields : V → List Field
 record_differs Is fields v tag bytes rest low ok is (valid, few, c, holds, same) =
     fields_begin_high (fields v) tag rest low ok
     (subst (Fields (fields v))
-    (same_contents c (tag ∷ rest) (omega (arith, few, ap length same)) (sym same ∙ is)) holds)
+    (same_contents c (tag ∷ rest) (omega (arith, ap length same)) (sym same ∙ is)) holds)
 
 pub pss_no_identifier : Excludes PssEncoding PlainEncoding
 pss_no_identifier v a bytes p q =
@@ -288,6 +287,6 @@ unfolding length_octets
 algorithms_differ v w bytes p q =
     let same =
     same_contents (tlv 6 id_rsassa_pss ++ p.1) (tlv 6 id_rsaes_oaep ++ q.1)
-    (omega (arith, p.0, ap length p.3)) (sym p.3 ∙ q.3) in
+    (omega (arith, ap length p.3)) (sym p.3 ∙ q.3) in
     let last : 10 ≡ 7 = ap (λ (l : List ℕ). slice_index l 10) same in
     omega (arith, last)

@@ -52,7 +52,7 @@ module _ {k : Kind} {ks : List Kind} {given : k.Value} {n : ℕ} (same : given �
         go : (input : Input) → ReadingGives (field_at k) v input mid
             → ReadingFails (values_read ks) (λ _. ⊥) e mid after
             → ReadingFails (values_read (k ∷ ks)) (λ _. ⊥) e input after
-        go None (left, p, there) fails = let no = p in cc
+        go None (left, p, there) fails = cc
         go (Some i) (left, p, there) (failed, inl w) = let asked = rw there at w.1 in absurd asked
         go (Some i) (left, p, there) (failed, inr q) = (
           failed,
@@ -76,13 +76,13 @@ pub end_gives : (before : Input) {after : Input} → ReadingGives end_of tt befo
 end_gives None (rest, p, is) = let no = p in cc
 end_gives (Some []) (rest, p, is) =
     (record { gives = refl }, is ∙ ap (λ l. Some l) (sym (ok_pair tt tt [] rest p).1))
-end_gives (Some (x ∷ xs)) (rest, p, is) = let no = p in cc
+end_gives (Some (x ∷ xs)) (rest, p, is) = cc
 
 pub end_fails : {e : ErrorKind} (before : Input) {after : Input} → (read_from before end_of ≡ Err e) × (after ≡ None)
     → FieldsFail [] e before after
 end_fails None (p, failed) = record { fails = (failed, inr (let q = p in cc)) }
-end_fails (Some []) (p, failed) = let no = p in cc
-end_fails (Some (x ∷ xs)) (p, failed) = record { fails = (failed, inr (let q = p in cc)) }
+end_fails (Some []) (p, failed) = cc
+end_fails (Some (x ∷ xs)) (p, failed) = record { fails = (failed, inr (cc)) }
 
 -- Nothing asks for memory.
 pub absurd_never : (b : List ℕ) → ⊥ → ⊥
@@ -120,7 +120,7 @@ module _ {V : Type 0} {Is : V → Type 0} {fields : V → List Field} (r : Field
   -- What was read is parameters, for which memory may be asked for.
   copy_asks : (v : V) (input : Input) → AreBytes (left_in input) → read_from input (record_read r) ≡ Ok v
       → ((c : List ℕ) → Is v → Fields (fields v) c → may c) → InputAllocates may input
-  copy_asks v None bytes p asks = let no = p in cc
+  copy_asks v None bytes p asks = cc
   copy_asks v (Some c) bytes p asks = let h = (record_reads r).gives c v bytes p in asks c h.0 h.1
 
   pub copy_fails : (v : V) → AreBytes (left_in before) → read_from before (record_read r) ≡ Ok v

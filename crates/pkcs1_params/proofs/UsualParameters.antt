@@ -1,7 +1,7 @@
 -- Whole slices that are read as parameters. Those that begin with the usual two fields: what reads parameters computes
 -- them, strictly too. For `usual` of either type, and `src/reading.rt`.
-use Rattle.std.proofs.Common.{ℕ, Bool, List, [], ◌∷◌, ◌++◌, ◌==◌, ◌&&◌, ◌≡◌, ◌≤◌, ◌<◌, ◌∙◌, refl, ap, sym, Ok, true, false, arith, length, take, drop, eqb, nat_lt, if◌then◌else◌, Result, take_all}
-use Rattle.der_core.specs.Words.{number_from_digits, nat_tests, header_at, length_at, limit, Reading, tagged, whole, ◌>>=◌, sequence_tag, AreBytes, bind_ok, ok_of}
+use Rattle.std.proofs.Common.{ℕ, Bool, List, [], ◌∷◌, ◌++◌, ◌==◌, ◌&&◌, ◌≡◌, ◌<◌, ◌∙◌, refl, ap, sym, Ok, true, false, arith, length, take, drop, eqb, nat_lt, if◌then◌else◌, Result, take_all}
+use Rattle.der_core.specs.Words.{number_from_digits, header_at, length_at, limit, Reading, tagged, whole, ◌>>=◌, sequence_tag, AreBytes, bind_ok, ok_of}
 use Rattle.std.proofs.lemmas.List.{drop_all}
 use Rattle.spki_core.specs.Words.{null_value, record_read, record_strictly, FieldRecord, record_whole, spelling_read, strict_value, strict_whole}
 use Rattle.pkcs1_params.specs.Words.{hash_algorithm, oaep_record, pss_record, with_parameters, IsUsualOaep, IsUsualPss, fields_with_hash, oaep_with_hash, pss_with_hash, salt_field, AnswersAsn1, EncodingOfFields, Error}
@@ -16,9 +16,9 @@ whole_sequence : {V : Type 0} (read : Reading V) (v : V) (c b : List ℕ) → le
 unfolding header_at length_at
 whole_sequence read v c b few is value =
     let n = length c in
-    let test : nat_lt n 128 ≡ true = grind (arith, nat_tests) in
-    let within : nat_lt limit (length (0x30 ∷ n ∷ c)) ≡ false = grind (arith, nat_tests) in
-    let there : nat_lt (length c) n ≡ false = grind (arith, nat_tests) in
+    let test : nat_lt n 128 ≡ true = grind arith in
+    let within : nat_lt limit (length (0x30 ∷ n ∷ c)) ≡ false = grind arith in
+    let there : nat_lt (length c) n ≡ false = grind arith in
     let all : take n c ≡ c = take_all n c (omega arith) in
     let none : drop n c ≡ [] = drop_all n c (omega arith) in
     rw (is, within, test, there, all, none, value) refl
@@ -26,13 +26,13 @@ whole_sequence read v c b few is value =
 -- A salt length of one octet is read as that octet.
 module _ (s : ℕ) (small : s < 128) where
   pub salt_small : nat_lt s 128 ≡ true
-  salt_small = grind (arith, nat_tests)
+  salt_small = grind arith
 
   pub salt_number : number_from_digits 256 (s ∷ []) ≡ s
   salt_number = omega arith
 
   pub salt_byte : nat_lt (number_from_digits 256 (s ∷ [])) 256 ≡ true
-  salt_byte = let byte : nat_lt s 256 ≡ true = grind (arith, nat_tests) in rw salt_number byte
+  salt_byte = let byte : nat_lt s 256 ≡ true = grind arith in rw salt_number byte
 
   -- Alone, it leaves the other fields at their defaults.
   pub salt_usual : (strict : Bool) → (strict && eqb s 20) ≡ false
@@ -45,10 +45,10 @@ module _ (s : ℕ) (small : s < 128) where
 -- The two fields are read as the hash function that they begin with, and no default is written in them.
 module _ (n : ℕ) (few : n < 128) where
   pub oid_ends : nat_lt n 128 ≡ true
-  oid_ends = grind (arith, nat_tests)
+  oid_ends = grind arith
 
   pub oid_starts : (n == 128) ≡ false
-  oid_starts = grind (arith, nat_tests)
+  oid_starts = grind arith
 
   pub pss_fields_read : (s : ℕ) → s < 128 → (strict : Bool) → (strict && eqb s 20) ≡ false
       → (if strict then record_strictly pss_record else record_read pss_record)

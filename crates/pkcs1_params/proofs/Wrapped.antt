@@ -4,7 +4,7 @@ use Rattle.std.proofs.Common.{ℕ, List, [], ◌++◌, ◌≡◌, ◌<◌, ◌�
 use Rattle.std.proofs.Math.Seq.{drop-append_seam}
 use Rattle.std.proofs.lemmas.Bool.{cases_lt}
 use Rattle.std.proofs.lemmas.List.{get_or-map, length-map}
-use Rattle.der_core.specs.Words.{nat_tests, octets_grow, tlv_fit, tlv_made, tlv_split, limit}
+use Rattle.der_core.specs.Words.{octets_grow, tlv_fit, tlv_made, tlv_split, limit}
 use Rattle.standard.specs.Statement.{AlgorithmEncoding, AreAll, Decodes, Field, Fields, FieldsUnder, IsShortest, SequenceOf, length_octets, longest, sequence, tlv}
 
 -- A SEQUENCE is no proper beginning of another, and the same one has the same contents.
@@ -18,7 +18,7 @@ front_contents c d x y few less is =
 
 pub same_contents : (c d : List ℕ) → length (sequence c) ≤ limit → sequence c ≡ sequence d → c ≡ d
 same_contents c d few is =
-    (front_contents c d [] [] few (omega (arith, few, ap length is)) (ap (λ x. x ++ []) is)).0
+    (front_contents c d [] [] few (omega (arith, ap length is)) (ap (λ x. x ++ []) is)).0
 
 module _ (oid : List ℕ) where
   abbrev pub wrapped : List ℕ → List ℕ
@@ -35,8 +35,8 @@ module _ (oid : List ℕ) where
       let d = tlv 6 oid ++ q in
       let first : length c ≡ length (tlv 6 oid) + length p = length-append (tlv 6 oid) p in
       let second : length d ≡ length (tlv 6 oid) + length q = length-append (tlv 6 oid) q in
-      let g = octets_grow (length c) (length d) (omega (arith, less)) (omega (arith, few, tlv_fit 48 d)) in
-      omega (arith, g, length-append (length_octets (length c)) c, length-append (length_octets (length d)) d)
+      let g = octets_grow (length c) (length d) (omega arith) (omega (arith, tlv_fit 48 d)) in
+      omega (arith, length-append (length_octets (length c)) c, length-append (length_octets (length d)) d)
 
   -- None is a proper beginning of another, and the same one has the same parameters.
   pub wrapped_front : (p q rest : List ℕ) → length (wrapped p) ≤ limit → length (wrapped q) ≤ limit
@@ -50,7 +50,7 @@ module _ (oid : List ℕ) where
 
   pub wrapped_one : (p q : List ℕ) → length (wrapped p) ≤ limit → wrapped p ≡ wrapped q → p ≡ q
   wrapped_one p q few is =
-      (wrapped_front p q [] few (omega (arith, few, ap length is)) (append-nil (wrapped p) ∙ is)).0
+      (wrapped_front p q [] few (omega (arith, ap length is)) (append-nil (wrapped p) ∙ is)).0
 
   -- What the identifier holds encodes its parameters.
   pub wrapped_inner_encodes : {V : Type 0} (E : V → List ℕ → Type 0) (v : V) (bytes p : List ℕ)
@@ -67,8 +67,8 @@ module _ (oid : List ℕ) where
       λ other (within, q, holds, is). elim (s.1 q holds) [
         | inl same ↦ inl (is ∙ ap wrapped same)
         | inr less ↦ inr (
-            let g = wrapped_grows p q (omega (arith, less)) (omega (arith, within, ap length is)) in
-            omega (arith, g, less, ap length is))
+            let g = wrapped_grows p q (omega arith) (omega (arith, ap length is)) in
+            omega (arith, ap length is))
       ],
     )
 
@@ -78,10 +78,10 @@ module _ (oid : List ℕ) where
       λ q holds. elim (cases_lt (length p) (length q)) [
         | inl less ↦ inr less
         | inr more ↦
-            let g = wrapped_grows q p (omega (arith, more)) few in
-            elim (s.1 (wrapped q) (omega (arith, g, more, few), q, holds, refl)) [
+            let g = wrapped_grows q p (omega arith) few in
+            elim (s.1 (wrapped q) (omega (arith, few), q, holds, refl)) [
               | inl same ↦ inl (sym (wrapped_one p q few (sym same)))
-              | inr l ↦ absurd (omega (arith, l, g, more))
+              | inr l ↦ absurd (omega arith)
             ]
       ],
     )
@@ -99,11 +99,11 @@ module _ (oid : List ℕ) where
       (each : (i : ℕ) → i < 2 ^ k → length (slice_index_or all i []) ≤ length (longest (fields v)))
       (a : AreAll (λ E. E) Is fields v k all) where
     wrapped_at : (i : ℕ) → i < 2 ^ k → slice_index_or (map wrapped all) i [] ≡ wrapped (slice_index_or all i [])
-    wrapped_at i h = get_or-map wrapped all i [] [] (omega (arith, h, a.count))
+    wrapped_at i h = get_or-map wrapped all i [] [] (omega (arith, a.count))
 
     wrapped_at_fits : (i : ℕ) → i < 2 ^ k → length (wrapped (slice_index_or all i [])) ≤ limit
     wrapped_at_fits i h =
-        let g = wrapped_grows (slice_index_or all i []) (longest (fields v)) (each i h) few in omega (arith, g, each i h, few)
+        let g = wrapped_grows (slice_index_or all i []) (longest (fields v)) (each i h) few in omega (arith, each i h, few)
 
     wrapped_at_encodes : (E : V → List ℕ → Type 0) (i : ℕ) → i < 2 ^ k → E v (slice_index_or all i [])
         → AlgorithmEncoding oid E v (slice_index_or (map wrapped all) i [])
@@ -130,6 +130,6 @@ module _ (oid : List ℕ) where
 pub behind_oid : (oid p : List ℕ) → length oid ≤ 39 → drop (2 + length oid) (tlv 6 oid ++ p) ≡ p
 unfolding length_octets
 behind_oid oid p few =
-    let short : nat_lt (length oid) 128 ≡ true = grind (arith, nat_tests) in
+    let short : nat_lt (length oid) 128 ≡ true = grind arith in
     let is : length (tlv 6 oid) ≡ 2 + length oid = rw short (omega arith) in
     ap (λ n. drop n (tlv 6 oid ++ p)) (sym is) ∙ drop-append_seam (tlv 6 oid) p

@@ -1,6 +1,6 @@
 -- `contents_len` counts what is printed of the spelling.
 use Rattle.std.proofs.Common.{arith, subst, sym, ◌≡◌, ◌∙◌, refl}
-use Rattle.der_core.specs.Words.{nat_tests, Counts}
+use Rattle.der_core.specs.Words.{Counts}
 use Rattle.spki_core.specs.Words.{AreSpelled, record_under}
 use Rattle.pkcs1_params.proofs.Masks.{record_is_spelled, nothing_spelled, octets_under_spelled, counts_as}
 use Rattle.pkcs1_params.proofs.contents.contents_len.Goals as goal
@@ -9,7 +9,7 @@ use Rattle.pkcs1_params.proofs.contents.contents_len.Goals as goal
 pub returns-then-mask-eq0-clause-counts : goal.returns-then-mask-eq0-clause-counts
 returns-then-mask-eq0-clause-counts g c =
     let t = g.T.EncodeParams in
-    let mask : c.args.mask ≡ 0 = grind (arith, nat_tests) in
+    let mask : c.args.mask ≡ 0 = grind arith in
     let v = t.params c.args.params in
     let none = nothing_spelled t.form v c.args.mask mask (sym c.requires ∙ c.if-non_defaults-eq0.true) in
     rw none (record_is_spelled t.form v c.args.mask c.lemma_is_valid.ensures, refl, omega arith)

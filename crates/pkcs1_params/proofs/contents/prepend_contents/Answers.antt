@@ -1,6 +1,6 @@
 -- `prepend_contents` writes what is printed of the spelling.
 use Rattle.std.proofs.Common.{arith, rules, subst, sym, length, ◌≡◌, ◌≤◌, ◌∙◌, refl, take-append-drop}
-use Rattle.der_core.specs.Words.{nat_tests, Prepends, free_of, limit}
+use Rattle.der_core.specs.Words.{Prepends, free_of, limit}
 use Rattle.pkcs1_params.proofs.Masks.{nothing_spelled, octets_under_spelled}
 use Rattle.pkcs1_params.proofs.contents.prepend_contents.Goals as goal
 
@@ -8,7 +8,7 @@ use Rattle.pkcs1_params.proofs.contents.prepend_contents.Goals as goal
 pub returns-then-mask-eq0 : goal.returns-then-mask-eq0
 returns-then-mask-eq0 g c =
     let t = g.T.EncodeParams in
-    let mask : c.args.mask ≡ 0 = grind (arith, nat_tests) in
+    let mask : c.args.mask ≡ 0 = grind arith in
     let none =
     nothing_spelled t.form (t.params c.args.params) c.args.mask mask
     (sym c.requires.non_defaults ∙ c.if-non_defaults-eq0.true) in

@@ -1,6 +1,5 @@
 -- `is_pkcs1`: of nine octets, it compares the first eight and the last.
 use Rattle.std.proofs.Common.{ℕ, List, [], ◌∷◌, ◌≡◌, ◌∙◌, ap, arith, length, refl, slice_index, bytes_eq}
-use Rattle.der_core.specs.Words.{nat_tests}
 use Rattle.spki_core.specs.Words.{upto}
 use Rattle.pkcs1_params.specs.Words.{pkcs1_algorithm}
 use Rattle.pkcs1_params.proofs.hash_fields.is_pkcs1.Goals as goal
@@ -14,6 +13,6 @@ octets_upto (x ∷ xs) = ap (λ ys. x ∷ ys) (octets_upto xs)
 pub returns-then-front : goal.returns-then-front
 returns-then-front c =
     let octets = c.args.octets.now in
-    let nine : length octets ≡ 9 = omega (arith, c.in-len9.len_at_least, c.in-len9.len_below) in
+    let nine : length octets ≡ 9 = omega arith in
     let is = octets_upto octets ∙ ap (λ n. upto n (slice_index octets)) nine in
-    grind (arith, nat_tests, c.if-front.true, ap (λ x. bytes_eq x (pkcs1_algorithm c.args.number)) is)
+    grind (arith, ap (λ x. bytes_eq x (pkcs1_algorithm c.args.number)) is)

@@ -15,7 +15,7 @@ module _ {V : Type 0} {Is : V → Type 0} {fields : V → List Field} (r : Field
       let (w, ok, has, octets) = t.holds in
       let alone : Tlv 48 (λ c. c ≡ t.contents) b = tlv_recast b t refl in
       let same : b ≡ sequence t.contents = tlv_is 48 t.contents b (λ c e. e) alone in
-      let few : length b ≤ limit = omega (arith, encodes.1, ap length is, length-append b rest) in
+      let few : length b ≤ limit = omega (arith, ap length is, length-append b rest) in
       let there : SequenceOf Is fields Fields w b = (ok, few, t.contents, has, same) in
       let one = (record_delimited r).1 w v b rest there (subst (SequenceOf Is fields Fields v) is encodes) in
       octets (subst IsBare (sym one.0) bare)

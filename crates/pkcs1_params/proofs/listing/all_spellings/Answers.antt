@@ -28,7 +28,7 @@ module _ {V : Type 0} {Is : V → Type 0} {fields : V → List Field} (r : Field
 
   -- Where `len` counts the encoding under the greatest mask, the longest is within the limit.
   longest_within : (n : ℕ) → (n ≡ length (encoding_under r v (1 * 2 ^ k % 256 - 1))) × (n ≤ limit) → length (longest (fields v)) ≤ limit
-  longest_within n p = omega (arith, p.0, p.1, ap length greatest_mask_longest)
+  longest_within n p = omega (arith, ap length greatest_mask_longest)
 
 -- The `ghost range` and `ghost known` of the `Spelling` that is made: its mask is one of these parameters', and
 -- `non_defaults` is what `non_defaults_in` returned.
@@ -39,7 +39,7 @@ invariant_of-longest g c =
     let known = c.count_defaults-count.ensures in
     let l = greatest_mask_and_one k known.few in
     record {
-      range = mask_in_range t.form (t.params c.args.params) (1 * 2 ^ k % 256 - 1) (k, known.count, omega (arith, l));
+      range = mask_in_range t.form (t.params c.args.params) (1 * 2 ^ k % 256 - 1) (k, known.count, omega arith);
       known = c.non_defaults_in-non_defaults.ensures;
     }
 
@@ -51,7 +51,7 @@ returns-in_err-len-clause-err g c =
     let e = err_from_is_err_and c.from_residual.result c.from_residual.ensures.1 in
     let why = c.in_err-len.ensures.err in
     let same = greatest_mask_longest t.form (t.params c.args.params) _ known.count known.few in
-    rw (e.1, e.2) (inr (why.0, omega (arith, why.1, ap length same)))
+    rw (e.1, e.2) (inr (why.0, omega (arith, ap length same)))
 
 -- `encodings_under` asks that `count` is the number of masks, and that the longest encoding is within the limit, which
 -- `len` counted.

@@ -30,7 +30,7 @@ returns-in_err-to_vec-clause-err g c =
       | inl memory ↦ memory
       | inr long ↦
           let few = encoding_under_fits t.form (t.params c.args.params) c.loop-mask.mask c.requires.fit in
-          absurd (omega (arith, few, long.1))
+          absurd (omega arith)
     ])
 
 -- The encoding under this mask is pushed behind those under the lower ones.

@@ -1,7 +1,7 @@
 -- `decode_value` of `DecodeValue<&[u8], M> for TrailerField`, in the arm `_`: a number `n` was read, which isn't 1
 -- (`isnt`). The error of the reader is `Value` with the tag INTEGER (`named`).
 use Rattle.std.proofs.Common.{◌≡◌, ◌==◌, ◌∙◌, false, refl, ap, inr, arith}
-use Rattle.der_core.specs.Words.{nat_tests, small_of, same_tag, integer_tag}
+use Rattle.der_core.specs.Words.{small_of, same_tag, integer_tag}
 use Rattle.der_core.specs.declared.error.ErrorKind.TheVariants as kind
 use Rattle.der_core.proofs.ReadSteps.{such_refuses_value}
 use Rattle.pkcs1_params.proofs.trailer_field.TrailerFieldDecodeValueRefSliceU8.decode_value.Goals as goal
@@ -9,7 +9,7 @@ use Rattle.pkcs1_params.proofs.trailer_field.TrailerFieldDecodeValueRefSliceU8.d
 pub returns-in_default : goal.returns-in_default
 returns-in_default g c =
     let n = c.in_ok-decode_value.field-0 in
-    let isnt : (n == 1) ≡ false = grind (arith, nat_tests) in
+    let isnt : (n == 1) ≡ false = grind arith in
     let named = c.error.ensures.value ∙ ap kind.Value (same_tag _ integer_tag refl) in
     let read = c.in_ok-decode_value.ensures.0 in (
       c.error.ensures.failed,
