@@ -37,7 +37,7 @@ module _ {S V : Type 0} {valid : S → Type 0} {printed : S → List ℕ} {at : 
       let theirs : c ≡ front_printed printed f ++ y = joined ∙ ap (λ l. l ++ y) begun in
       let one =
       prints_one (front_law law) f (private_front_parts s) y [] right (read_valid law s ok).0
-      (omega (arith, few, ap length theirs)) (sym theirs ∙ mine) in
+      (omega (arith, ap length theirs)) (sym theirs ∙ mine) in
       omega (
         arith,
         tlv_not_empty begins.0 begins.3,
@@ -52,12 +52,12 @@ module _ {S V : Type 0} {valid : S → Type 0} {printed : S → List ℕ} {at : 
       → AllocatesAtFront (Tlv 48 (AllocatesForKey valid printed means may)) whole → ⊥
   two_primes_ask key two none whole (few, (s, m, ok, is)) (b, rest, e, q) =
       let contents = private_printed printed s in
-      let within : length (tlv 48 contents) ≤ limit = omega (arith, few, ap length is) in
+      let within : length (tlv 48 contents) ≤ limit = omega (arith, ap length is) in
       let p : Tlv 48 (λ c. c ≡ contents) (tlv 48 contents) = tlv_made 48 contents refl within in
       let t = tlv_split b rest (tlv 48 contents) [] q p (sym e ∙ is ∙ sym (append-nil (tlv 48 contents))) in
       let none_there : others_in s ≡ None =
       others_as_none means (others_in s) (ap (λ (k : PrivateRow V). others_in k) m ∙ two) in
-      let fits : length t.3 ≤ limit = omega (arith, within, tlv_fit 48 contents, ap length t.5) in
+      let fits : length t.3 ≤ limit = omega (arith, tlv_fit 48 contents, ap length t.5) in
       ⊎_elim (λ w. numbers_ask_none none t.3 w) (λ w. nothing_behind_two_primes s none_there ok t.3 t.5 fits w) t.4
 
   -- So such an encoding isn't rejected.

@@ -146,7 +146,7 @@ pub printed_front_unique : {S : Type 0} (valid : S → Type 0) (printed : S → 
 printed_front_unique valid printed one s t p q bytes rest few is same =
     let whole : printed s ++ rest ≡ printed t ++ [] =
     ap (λ b. b ++ rest) (sym is) ∙ same ∙ sym (append-nil (printed t)) in
-    one s t rest [] p q (omega (arith, few, ap (λ b. length (b ++ rest)) is)) whole
+    one s t rest [] p q (omega (arith, ap (λ b. length (b ++ rest)) is)) whole
 
 public_follow : (v w : PublicKey) (bytes rest : List ℕ) → PublicKeyEncoding v bytes
     → PublicKeyEncoding w (bytes ++ rest)
@@ -174,10 +174,10 @@ private_follow v w bytes rest p q =
     )
 
 pub public_delimited : AreDelimited PublicKeyEncoding
-public_delimited = (λ v p. let never = p.1 in cc, public_follow)
+public_delimited = (λ v p. cc, public_follow)
 
 pub private_delimited : AreDelimited PrivateKeyEncoding
-private_delimited = (λ v p. let never = p.2 in cc, private_follow)
+private_delimited = (λ v p. cc, private_follow)
 
 -- So two encodings mean the same key exactly if their keys have the same encoding.
 pub public_key_same_by_shortest : SameByShortest PublicKeyEncoding

@@ -90,16 +90,15 @@ two_integers_alone n e a b c ns rest few same =
     let one =
     prints_one integer_law n a (integer e ++ []) (integer b ++ behind) tt tt few
     (same ∙ integers_split a b (c ∷ ns) rest) in
-    let less : length (integer e ++ []) ≤ limit = omega (arith, few, length-append (integer n) (integer e ++ [])) in
+    let less : length (integer e ++ []) ≤ limit = omega (arith, length-append (integer n) (integer e ++ [])) in
     let two = prints_one integer_law e b [] behind tt tt less one.1 in
-    let never = two.1 in
     cc
 
 pub keys_exclude : Excludes PublicKeyEncoding PrivateKeyEncoding
 keys_exclude v w bytes p q =
     let contents = integers (v.modulus ∷ v.public_exponent ∷ []) in
-    let whole : length (sequence contents) ≤ limit = omega (arith, p.0, ap length p.1) in
-    let few : length contents ≤ limit = omega (arith, whole, tlv_fit 48 contents) in
+    let whole : length (sequence contents) ≤ limit = omega (arith, ap length p.1) in
+    let few : length contents ≤ limit = omega (arith, tlv_fit 48 contents) in
     let others = optional other_primes w.other_primes in
     let behind =
     w.private_exponent ∷ w.prime1 ∷ w.prime2 ∷ w.exponent1 ∷ w.exponent2 ∷ w.coefficient ∷ [] in

@@ -20,15 +20,15 @@ module _ {U S V N : Type 0} (means : S → V) (value : U → V) (number : U → 
       → (0 < length ss) ↔ (0 < length (map (other_of number) os))
   listed_mean_alike [] [] is = (λ some. some, λ some. some)
   listed_mean_alike [] (o ∷ os) is = let no = is in cc
-  listed_mean_alike (s ∷ ss) [] is = let no = is in cc
+  listed_mean_alike (s ∷ ss) [] is = cc
   listed_mean_alike (s ∷ ss) (o ∷ os) is = (λ some. omega arith, λ some. omega arith)
 
   primes_mean_alike : (ss : Option (List (OtherRow S))) (os : Primes U) → others_as means ss ≡ others_of value os
       → (version_of ss ≡ version_of (others_of number os)) × (AreSome ss ↔ AreSome (others_of number os))
   primes_mean_alike None None is = (refl, (λ some. some, λ some. some))
   primes_mean_alike None (Some os) is = let no = is in cc
-  primes_mean_alike (Some ss) None is = let no = is in cc
-  primes_mean_alike (Some ss) (Some os) is = (refl, listed_mean_alike ss os.items (let both = is in cc))
+  primes_mean_alike (Some ss) None is = cc
+  primes_mean_alike (Some ss) (Some os) is = (refl, listed_mean_alike ss os.items (cc))
 
 module _ {U S V : Type 0} (valid : S → Type 0) (printed : S → List ℕ) (means : S → V) (value : U → V)
     (octets : U → List ℕ) (law : EncodesNumbers (Prints valid printed means) value octets) where
@@ -44,10 +44,10 @@ module _ {U S V : Type 0} (valid : S → Type 0) (printed : S → List ℕ) (mea
       → primes_printed printed ss ≡ primes_printed integer (map (other_of number) os)
   listed_as_numbers [] [] is ok = refl
   listed_as_numbers [] (o ∷ os) is ok = let no = is in cc
-  listed_as_numbers (s ∷ ss) [] is ok = let no = is in cc
+  listed_as_numbers (s ∷ ss) [] is ok = cc
   listed_as_numbers (s ∷ ss) (o ∷ os) is ok =
       let one : other_as means s ≡ other_of value o = let both = is in cc in
-      let rest : map (other_as means) ss ≡ map (other_of value) os = let both = is in cc in
+      let rest : map (other_as means) ss ≡ map (other_of value) os = cc in
       λ i.
       sequence
       (number_printed s.0 o.prime (ap (λ r. r.0) one) ok.0.0 i
@@ -60,9 +60,9 @@ module _ {U S V : Type 0} (valid : S → Type 0) (printed : S → List ℕ) (mea
       → others_printed printed ss ≡ others_printed integer (others_of number os)
   primes_as_numbers None None is ok = refl
   primes_as_numbers None (Some os) is ok = let no = is in cc
-  primes_as_numbers (Some ss) None is ok = let no = is in cc
+  primes_as_numbers (Some ss) None is ok = cc
   primes_as_numbers (Some ss) (Some os) is ok =
-      let listed : map (other_as means) ss ≡ map (other_of value) os.items = let both = is in cc in
+      let listed : map (other_as means) ss ≡ map (other_of value) os.items = cc in
       ap sequence (listed_as_numbers ss os.items listed ok)
 
   key_as_numbers : (s : PrivateRow S) (key : Listed U) → private_as means s ≡ private_key_with value key

@@ -64,7 +64,7 @@ module _ {X V : Type 0} (items : X → List (OtherRow V)) (count : X → ℕ)
       → lists_none (Some primes) ≡ none
   lists_none_of_list [] n true e h = refl
   lists_none_of_list [] n false e h = let no : false ≡ true = h.1 (sym e) in cc
-  lists_none_of_list (x ∷ xs) n true e h = absurd (omega (arith, e, h.0 refl))
+  lists_none_of_list (x ∷ xs) n true e h = absurd (omega (arith, h.0 refl))
   lists_none_of_list (x ∷ xs) n false e h = refl
 
   lists_none_of_option : (r : Option X) (none : Bool) → IsTrue none ↔ CountsNone r
@@ -123,7 +123,7 @@ module _ {X V : Type 0} (items : X → List (OtherRow V)) (count : X → ℕ)
           where
             go : (rest : List ℕ) → end_of rest ≡ Err e → ended (option_map items r) rest ≡ Err e
             go [] p = cc
-            go (x ∷ xs) p = let q = p in cc
+            go (x ∷ xs) p = cc
 
         pub others_give : none ≡ false
             → ((rest : List ℕ) × (read_from mid end_of ≡ Ok (tt, rest)) × (after ≡ Some rest))

@@ -1,7 +1,7 @@
 -- The other primes that an iterator has left: how many, and the first one. For `src/other_primes.rt`, and what makes
 -- one in `src/viewed_key.rt`.
 use Rattle.std.proofs.Common.{◌≡◌, ℕ, ◌-◌, ◌<◌, List, [], ◌∷◌, length, map, sym, ap, ◌∙◌, arith, drop, take, take_all, Some, None, Ok, false, nat_lt, refl}
-use Rattle.der_core.specs.Words.{nat_tests, AreBytes, Input, front_of, read_from, ok_pair, HoldsBytes}
+use Rattle.der_core.specs.Words.{AreBytes, Input, front_of, read_from, ok_pair, HoldsBytes}
 use Rattle.std.proofs.lemmas.Grind.{common_steps}
 use Rattle.std.proofs.lemmas.List.{length-map}
 use Rattle.der_core.proofs.ReadSteps.{ReadingGives, input_injective}
@@ -50,7 +50,7 @@ held_primes_read primes bytes is =
 pub next_prime_read : {X : Type 0} (value : X → OtherRow ℕ) (other : X) (i : List ℕ) (before after : Input)
     → before ≡ Some i → ReadingGives next_prime (value other) before after
     → (rest : List ℕ) × (next_prime i ≡ Ok (value other, rest)) × (after ≡ Some rest)
-next_prime_read value other i None after is gives = let never = is in cc
+next_prime_read value other i None after is gives = cc
 next_prime_read value other i (Some j) after is (rest, read, left) =
     (rest, ap next_prime (sym (input_injective j i is)) ∙ read, left)
 
@@ -64,11 +64,11 @@ pub front_of_all_taken : (before : Input) (n : ℕ) (bytes rest : List ℕ) → 
     → read_from before (front_of n) ≡ Ok (bytes, rest) → (before ≡ Some bytes) × (rest ≡ [])
 front_of_all_taken None n bytes rest h r = absurd h
 front_of_all_taken (Some c) n bytes rest h r =
-    let room : nat_lt (length c) n ≡ false = grind (arith, nat_tests, h) in
+    let room : nat_lt (length c) n ≡ false = grind arith in
     let p = ok_pair (take n c) bytes (drop n c) rest (rw room at r) in
-    let none : length rest ≡ 0 = rw (← p.1) (grind (arith, common_steps, h)) in
-    (ap (λ l. Some l) (sym (take_all n c (omega (arith, h))) ∙ p.0), nothing rest none)
+    let none : length rest ≡ 0 = rw (← p.1) (grind (arith, common_steps)) in
+    (ap (λ l. Some l) (sym (take_all n c (omega arith)) ∙ p.0), nothing rest none)
   where
     nothing : (l : List ℕ) → length l ≡ 0 → l ≡ []
     nothing [] e = refl
-    nothing (x ∷ l) e = absurd (omega (arith, e))
+    nothing (x ∷ l) e = absurd (omega arith)

@@ -30,11 +30,11 @@ module _ {S V : Type 0} {valid : S → Type 0} {printed : S → List ℕ} {means
   -- So no document is made of it.
   unencoded_unmade_by : (k : ErrorKind) (c : EncodeError) → encode_error k ≡ c → Unencoded k c
       → Unmade IsWritten ValueSpells v k c
-  unencoded_unmade_by k no_encoding told (inl m) = let never = out_of_memory_is_another k no_encoding m.0 told in cc
+  unencoded_unmade_by k no_encoding told (inl m) = cc
   unencoded_unmade_by k no_encoding told (inr h) = h.0
-  unencoded_unmade_by k too_long told (inl m) = let never = out_of_memory_is_another k too_long m.0 told in cc
+  unencoded_unmade_by k too_long told (inl m) = cc
   unencoded_unmade_by k too_long told (inr h) = h.1
-  unencoded_unmade_by k no_room told (inl m) = let never = out_of_memory_is_another k no_room m.0 told in cc
+  unencoded_unmade_by k no_room told (inl m) = cc
   unencoded_unmade_by k no_room told (inr h) = h.0
   unencoded_unmade_by k another told (inl m) = (m.0, printed (written v), (m.2, written_prints law v m.1))
   unencoded_unmade_by k another told (inr h) = absurd h.0

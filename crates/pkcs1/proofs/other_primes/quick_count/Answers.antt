@@ -14,7 +14,7 @@ pub loop-rest-smaller : goal.loop-rest-smaller
 loop-rest-smaller c =
     let told = c.in_ok-_other.ensures in
     let less = next_prime_shorter _ _ _ told.octets told.some in
-    omega (arith, less)
+    omega arith
 
 -- One more was read.
 pub loop-rest-preserved : goal.loop-rest-preserved

@@ -3,7 +3,6 @@
 -- which `is_empty` denied.
 use Rattle.std.proofs.Common.{◌∙◌, ◌≡◌, ap, arith, length, sym, true, false}
 use Rattle.std.proofs.lemmas.List.{length-map}
-use Rattle.der_core.specs.Words.{nat_tests}
 use Rattle.pkcs1.specs.Words.{other_of}
 use Rattle.pkcs1.proofs.OtherPrimeReads.{others_taken}
 use Rattle.pkcs1.proofs.private_key.other_prime_info.quick_list.Goals as goal
@@ -13,4 +12,4 @@ returns-else-is_empty g c =
     others_taken g.U.Encoding.read_front _ _ (sym c.begins_with.ensures ∙ c.if-not-begins_with.false)
     c.in_ok-infos.ensures
     (λ none. let empty = sym (length-map c.in_ok-infos.infos.items (other_of g.U.Encoding.value)) ∙ none in
-    let no : true ≡ false = grind (arith, nat_tests, c.is_empty.ensures, c.if-is_empty.false, ap length c.as_slice.ensures.value, empty) in cc)
+    let no : true ≡ false = grind (arith, ap length c.as_slice.ensures.value) in cc)
