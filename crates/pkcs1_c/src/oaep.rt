@@ -11,9 +11,9 @@ use crate::algorithm::{
 use crate::bytes::Bytes;
 use crate::filled::fill;
 use crate::status::{OK, status};
-use crate::written::{write_params, written_status};
+use crate::written::{write_algorithm, write_params, written_status};
 use der_core::Tag;
-use pkcs1::RsaOaepParamsView;
+use pkcs1::{RsaOaepParamsView, RsaesOaep};
 use pkcs1_params::{Place, Written, encode_known_oaep, is_p_specified};
 
 /// Parameters of RSAES-OAEP.
@@ -120,30 +120,42 @@ pub(crate) fn write_known(
     )
 }
 
-/// Writes the shortest encoding of the parameters, field by field, as `pkcs1_c_oaep_params_encode` does.
+/// Writes the shortest encoding of the parameters, alone or in their algorithm identifier, field by field.
 #[inline(always)]
-fn write_fields(params: &OaepParams<'_>, out: &mut [u8], len: &mut usize) -> u32
-    ensures writes { WritesOrTells OaepEncoding (oaep_seen params.now) out.old out.new len.old len.new result }
-    ensures exact { let v = oaep_seen params.now in
-        IsErrorOf (FieldsError OaepFieldError OaepEncoding v (length out.old)) result }
+fn write_fields(params: &OaepParams<'_>, place: Place, out: &mut [u8], len: &mut usize) -> u32
+    requires own { IfSome place (λ n. n ≡ 7) }
+    ensures writes { let Encoding = InPlace place OaepEncoding in
+        WritesOrTells Encoding (oaep_seen params.now) out.old out.new len.old len.new result }
+    ensures exact { let Encoding = InPlace place OaepEncoding in
+        IsErrorOf (FieldsError OaepFieldError Encoding (oaep_seen params.now) (length out.old)) result }
 {
     match from_c_oaep(params) {
-        Ok(made) => write_params(&made, out, len),
+        Ok(made) => match place {
+            None => write_params(&made, out, len),
+            Some(_) => write_algorithm::<RsaesOaep, _>(&made, out, len),
+        },
         Err(failure) => status(&failure),
     }
 }
 
-/// Writes the shortest encoding of the parameters, at once if it is known and no hash function has parameters, else
-/// field by field.
+/// Writes the shortest encoding of the parameters, alone or in their algorithm identifier, at once if it is known and no
+/// hash function has parameters, else field by field.
 #[inline(never)]
-fn write_others(params: &OaepParams<'_>, out: &mut [u8], len: &mut usize) -> u32
-    ensures writes { WritesOrTells OaepEncoding (oaep_seen params.now) out.old out.new len.old len.new result }
-    ensures exact { let v = oaep_seen params.now in
-        IsErrorOf (FieldsError OaepFieldError OaepEncoding v (length out.old)) result }
+pub(crate) fn write_others(
+    params: &OaepParams<'_>,
+    place: Place,
+    out: &mut [u8],
+    len: &mut usize,
+) -> u32
+    requires own { IfSome place (λ n. n ≡ 7) }
+    ensures writes { let Encoding = InPlace place OaepEncoding in
+        WritesOrTells Encoding (oaep_seen params.now) out.old out.new len.old len.new result }
+    ensures exact { let Encoding = InPlace place OaepEncoding in
+        IsErrorOf (FieldsError OaepFieldError Encoding (oaep_seen params.now) (length out.old)) result }
 {
-    match write_known(false, params, None, out) {
+    match write_known(false, params, place, out) {
         Some(written) => written_status(written, len),
-        None => write_fields(params, out, len),
+        None => write_fields(params, place, out, len),
     }
 }
 
@@ -161,7 +173,7 @@ pub extern "C" fn pkcs1_c_oaep_params_encode(
 {
     match write_known(true, params, None, out) {
         Some(written) => written_status(written, len),
-        None => write_others(params, out, len),
+        None => write_others(params, None, out, len),
     }
 }
 

@@ -5,10 +5,10 @@ ghost use Rattle.pkcs1_c.specs.Words.{FieldsError, IsErrorOf, IsStatusOf, OaepFi
 ghost use Rattle.standard.specs.Statement.{Decodes, IsShortest, OaepAlgorithmEncoding};
 
 use crate::filled::fill;
-use crate::oaep::{OaepParams, from_c_oaep, to_c_oaep, write_known};
+use crate::oaep::{OaepParams, to_c_oaep, write_known, write_others};
 use crate::status::{OK, status};
-use crate::written::{write_algorithm, written_status};
-use pkcs1::{FromAlgorithm, RsaOaepParamsView, RsaesOaep};
+use crate::written::written_status;
+use pkcs1::{FromAlgorithm, RsaOaepParamsView};
 use pkcs1_params::RSAES_OAEP;
 
 /// Decodes the algorithm identifier of RSAES-OAEP with its parameters, as `pkcs1_c_oaep_params_decode` does the
@@ -51,33 +51,6 @@ pub extern "C" fn pkcs1_c_oaep_algorithm_decode_strict<'a>(
     )
 }
 
-/// Writes the shortest encoding of the algorithm identifier, field by field.
-#[inline(always)]
-fn write_fields(params: &OaepParams<'_>, out: &mut [u8], len: &mut usize) -> u32
-    ensures writes { WritesOrTells OaepAlgorithmEncoding (oaep_seen params.now) out.old out.new len.old len.new result }
-    ensures exact { let v = oaep_seen params.now in
-        IsErrorOf (FieldsError OaepFieldError OaepAlgorithmEncoding v (length out.old)) result }
-{
-    match from_c_oaep(params) {
-        Ok(made) => write_algorithm::<RsaesOaep, _>(&made, out, len),
-        Err(failure) => status(&failure),
-    }
-}
-
-/// Writes the shortest encoding of the algorithm identifier, at once if it is known and no hash function has parameters,
-/// else field by field.
-#[inline(never)]
-fn write_others(params: &OaepParams<'_>, out: &mut [u8], len: &mut usize) -> u32
-    ensures writes { WritesOrTells OaepAlgorithmEncoding (oaep_seen params.now) out.old out.new len.old len.new result }
-    ensures exact { let v = oaep_seen params.now in
-        IsErrorOf (FieldsError OaepFieldError OaepAlgorithmEncoding v (length out.old)) result }
-{
-    match write_known(false, params, Some(RSAES_OAEP), out) {
-        Some(written) => written_status(written, len),
-        None => write_fields(params, out, len),
-    }
-}
-
 /// Puts the shortest encoding of the algorithm identifier of RSAES-OAEP with these parameters to the front of `out`.
 /// What it returns and leaves is as of `pkcs1_c_oaep_params_encode`.
 #[unsafe(no_mangle)]
@@ -93,6 +66,6 @@ pub extern "C" fn pkcs1_c_oaep_algorithm_encode(
 {
     match write_known(true, params, Some(RSAES_OAEP), out) {
         Some(written) => written_status(written, len),
-        None => write_others(params, out, len),
+        None => write_others(params, Some(RSAES_OAEP), out, len),
     }
 }

@@ -5,10 +5,10 @@ ghost use Rattle.pkcs1_c.specs.Words.{FieldsError, IsErrorOf, IsStatusOf, PssFie
 ghost use Rattle.standard.specs.Statement.{Decodes, IsShortest, PssAlgorithmEncoding};
 
 use crate::filled::fill;
-use crate::pss::{PssParams, from_c_pss, to_c_pss, write_known};
+use crate::pss::{PssParams, to_c_pss, write_known, write_others};
 use crate::status::{OK, status};
-use crate::written::{write_algorithm, written_status};
-use pkcs1::{FromAlgorithm, RsaPssParamsView, RsassaPss};
+use crate::written::written_status;
+use pkcs1::{FromAlgorithm, RsaPssParamsView};
 use pkcs1_params::RSASSA_PSS;
 
 /// Decodes the algorithm identifier of RSASSA-PSS with its parameters, as `pkcs1_c_pss_params_decode` does the
@@ -51,33 +51,6 @@ pub extern "C" fn pkcs1_c_pss_algorithm_decode_strict<'a>(
     )
 }
 
-/// Writes the shortest encoding of the algorithm identifier, field by field.
-#[inline(always)]
-fn write_fields(params: &PssParams<'_>, out: &mut [u8], len: &mut usize) -> u32
-    ensures writes { WritesOrTells PssAlgorithmEncoding (pss_seen params.now) out.old out.new len.old len.new result }
-    ensures exact { let v = pss_seen params.now in
-        IsErrorOf (FieldsError PssFieldError PssAlgorithmEncoding v (length out.old)) result }
-{
-    match from_c_pss(params) {
-        Ok(made) => write_algorithm::<RsassaPss, _>(&made, out, len),
-        Err(failure) => status(&failure),
-    }
-}
-
-/// Writes the shortest encoding of the algorithm identifier, at once if it is known and no hash function has parameters,
-/// else field by field.
-#[inline(never)]
-fn write_others(params: &PssParams<'_>, out: &mut [u8], len: &mut usize) -> u32
-    ensures writes { WritesOrTells PssAlgorithmEncoding (pss_seen params.now) out.old out.new len.old len.new result }
-    ensures exact { let v = pss_seen params.now in
-        IsErrorOf (FieldsError PssFieldError PssAlgorithmEncoding v (length out.old)) result }
-{
-    match write_known(false, params, Some(RSASSA_PSS), out) {
-        Some(written) => written_status(written, len),
-        None => write_fields(params, out, len),
-    }
-}
-
 /// Puts the shortest encoding of the algorithm identifier of RSASSA-PSS with these parameters to the front of `out`.
 /// What it returns and leaves is as of `pkcs1_c_pss_params_encode`.
 #[unsafe(no_mangle)]
@@ -92,6 +65,6 @@ pub extern "C" fn pkcs1_c_pss_algorithm_encode(
 {
     match write_known(true, params, Some(RSASSA_PSS), out) {
         Some(written) => written_status(written, len),
-        None => write_others(params, out, len),
+        None => write_others(params, Some(RSASSA_PSS), out, len),
     }
 }

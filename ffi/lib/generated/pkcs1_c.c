@@ -177,27 +177,23 @@ static u1 proved_algorithm_is_same_hash(P v_left, P v_right);
 static u1 proved_pss_means_same(P v_left, P v_right);
 static u1 proved_oaep_means_same(P v_left, P v_right);
 static u64 proved_bit_len(P v_number, u64 v_number_len);
-static void f_oaep_from_c_oaep(P v_0, P v_params);
 static ONCE u32 proved_oaep_params_decode(P v_encoding, u64 v_encoding_len, P v_params);
 static ONCE u32 proved_oaep_params_decode_strict(P v_encoding, u64 v_encoding_len, P v_params);
-static u32 f_oaep_write_others(P v_params, P v_out_0, u64 v_out_1, P v_len);
+static u32 f_oaep_write_others(P v_params, u1 v_place_0, P v_out_0, u64 v_out_1, P v_len);
 static u32 proved_oaep_params_encode(P v_params, P v_out, u64 v_out_len, P v_len);
 static u1 proved_oaep_label(P v_source, P v_label);
 static ONCE u32 proved_oaep_algorithm_decode(P v_encoding, u64 v_encoding_len, P v_params);
 static ONCE u32 proved_oaep_algorithm_decode_strict(P v_encoding, u64 v_encoding_len, P v_params);
-static u32 f_oaep_algorithm_write_others(P v_params, P v_out_0, u64 v_out_1, P v_len);
 static u32 proved_oaep_algorithm_encode(P v_params, P v_out, u64 v_out_len, P v_len);
 static ONCE u32 proved_private_key_decode(P v_encoding, u64 v_encoding_len, P v_key, P v_listed);
 static void proved_other_primes(P v_listed, u64 v_listed_len, P v_others, u64 v_others_len);
 static u32 proved_private_key_encode(P v_key, P v_others, u64 v_others_len, P v_out, u64 v_out_len, P v_len);
-static void f_pss_from_c_pss(P v_0, P v_params);
 static ONCE u32 proved_pss_params_decode(P v_encoding, u64 v_encoding_len, P v_params);
 static ONCE u32 proved_pss_params_decode_strict(P v_encoding, u64 v_encoding_len, P v_params);
-static u32 f_pss_write_others(P v_params, P v_out_0, u64 v_out_1, P v_len);
+static u32 f_pss_write_others(P v_params, u1 v_place_0, P v_out_0, u64 v_out_1, P v_len);
 static u32 proved_pss_params_encode(P v_params, P v_out, u64 v_out_len, P v_len);
 static ONCE u32 proved_pss_algorithm_decode(P v_encoding, u64 v_encoding_len, P v_params);
 static ONCE u32 proved_pss_algorithm_decode_strict(P v_encoding, u64 v_encoding_len, P v_params);
-static u32 f_pss_algorithm_write_others(P v_params, P v_out_0, u64 v_out_1, P v_len);
 static u32 proved_pss_algorithm_encode(P v_params, P v_out, u64 v_out_len, P v_len);
 static ONCE u32 proved_public_key_decode(P v_encoding, u64 v_encoding_len, P v_key);
 static u32 proved_public_key_encode(P v_key, P v_out, u64 v_out_len, P v_len);
@@ -9602,1199 +9598,6 @@ L_bb8:;
     v_0_sroa_0_0 = p_v_0_sroa_0_0;
     return v_0_sroa_0_0;
 }
-static void f_oaep_from_c_oaep(P v_0, P v_params) {
-    u64 p_v_iter_sroa_0_012_i;
-    u64 p_v_4_i3_i_lcssa;
-    P p_v_octets_0_tr_i;
-    u64 p_v_octets_1_tr_i;
-    u64 p_v_sink10_i;
-    u64 p_v_sink_i;
-    u64 p_v_parameters_sroa_6_sroa_5_0_i15;
-    u64 p_v_parameters_sroa_6_sroa_6_0_i16;
-    u8 p_v_parameters_sroa_6_sroa_0_sroa_0_0_i17;
-    P p_v_parameters_sroa_0_0_i18;
-    u16 p_v_parameters_sroa_6_sroa_0_sroa_5_0_i19;
-    u64 p_v_iter_sroa_0_012_i107;
-    u64 p_v_4_i3_i117_lcssa;
-    P p_v_octets_0_tr_i124;
-    u64 p_v_octets_1_tr_i125;
-    u64 p_v_sink10_i134;
-    u64 p_v_sink_i135;
-    u64 p_v_iter_sroa_0_012_i183;
-    u64 p_v_4_i3_i193_lcssa;
-    P p_v_octets_0_tr_i200;
-    u64 p_v_octets_1_tr_i201;
-    u64 p_v_sink10_i210;
-    u64 p_v_sink_i211;
-    u64 p_v_parameters_sroa_6_sroa_5_0_i_i;
-    u64 p_v_parameters_sroa_6_sroa_6_0_i_i;
-    u8 p_v_parameters_sroa_6_sroa_0_sroa_0_0_i_i;
-    P p_v_parameters_sroa_0_0_i_i;
-    u16 p_v_parameters_sroa_6_sroa_0_sroa_5_0_i_i;
-    u8 p_v_9_i_sroa_7_sroa_0_sroa_0_1_ph;
-    u8 p_v_9_i_sroa_7_sroa_0_sroa_9_1_ph;
-    u8 p_v_4_sroa_7_sroa_0_sroa_9_1_ph;
-    u8 p_v_4_sroa_7_sroa_0_sroa_0_1_ph;
-    P p_v_parameters_sroa_6_i_sroa_6_0;
-    u8 p_v_parameters_sroa_6_i_sroa_7_0;
-    u16 p_v_parameters_sroa_6_i_sroa_8_0;
-    u64 p_v_parameters_sroa_6_i_sroa_9_0;
-    u64 p_v_parameters_sroa_6_i_sroa_10_0;
-    u32 p_v_parameters_sroa_6_i_sroa_0_sroa_0_0;
-    P p_v_parameters_sroa_0_0_i49;
-    u64 p_v_iter_sroa_0_012_i259;
-    u64 p_v_4_i3_i269_lcssa;
-    P p_v_octets_0_tr_i276;
-    u64 p_v_octets_1_tr_i277;
-    u64 p_v_sink10_i285;
-    u64 p_v_sink_i286;
-    u32 p_v_9_sroa_7_sroa_0_0_ph;
-    u64 p_v_parameters_sroa_6_sroa_5_0_i;
-    u64 p_v_parameters_sroa_6_sroa_6_0_i;
-    u8 p_v_parameters_sroa_6_sroa_0_sroa_0_0_i;
-    P p_v_parameters_sroa_0_0_i;
-    u16 p_v_parameters_sroa_6_sroa_0_sroa_5_0_i;
-    u8 p_v_14_sroa_7_sroa_0_sroa_9_1_ph;
-    u8 p_v_14_sroa_7_sroa_0_sroa_0_1_ph;
-    P v_18_0_i8;
-    P v_0__2;
-    u64 v_18_1_i9;
-    u64 v_1;
-    u1 v_or_cond_i65;
-    P v_2;
-    u8 v_11_i69;
-    u1 v_10_i70;
-    u1 v_911_not_i;
-    u8 v_5_peel_i;
-    u1 v_3;
-    u1 v_exitcond_peel_not_i;
-    u64 v_iter_sroa_0_012_i;
-    u64 v_0_i_i;
-    P v_4;
-    u8 v_5_i;
-    u1 v_5;
-    u64 v_4_i3_i;
-    u1 v_6_i4_i;
-    u64 v_4_i3_i_lcssa;
-    P v_6;
-    u8 v_3_i7_i;
-    u1 v_7;
-    u1 v_exitcond_not_i;
-    P v_octets_0_tr_i;
-    u64 v_octets_1_tr_i;
-    u1 v_3_i89;
-    u1 v_5_i91;
-    u8 v_27_i96;
-    u1 v_26_i97;
-    P v_8;
-    u8 v_29_i;
-    u1 v_28_i98;
-    u1 v_25_i;
-    P v_9;
-    u8 v_31_i;
-    u1 v_30_i;
-    u1 v_24_i;
-    P v_10;
-    u8 v_33_i;
-    u1 v_32_i;
-    u1 v_23_i;
-    P v_11;
-    u8 v_35_i99;
-    u1 v_34_i;
-    u1 v_22_i;
-    P v_12;
-    u8 v_37_i;
-    u1 v_36_i;
-    u1 v_21_i;
-    P v_13;
-    u8 v_39_i;
-    u1 v_38_i;
-    u1 v_20_i;
-    P v_14;
-    u8 v_41_i100;
-    u1 v_40_i;
-    u1 v_eight_i;
-    u1 v_9_not_i;
-    u8 v_51_i;
-    u1 v_50_i;
-    P v_15;
-    u8 v_53_i;
-    u1 v_52_i;
-    u1 v_49_i;
-    P v_16;
-    u8 v_55_i;
-    u1 v_54_i;
-    u1 v_48_i;
-    P v_17;
-    u8 v_57_i;
-    u1 v_56_i;
-    u1 v_four_i;
-    u8 v_60_i;
-    u1 v_18;
-    u64 v_sink10_i;
-    u64 v_sink_i;
-    u64 v_later_1_i;
-    P v_later_0_i;
-    P v_19;
-    u8 v_20;
-    u1 v_7_i13;
-    P v_21;
-    u8 v_10_i27;
-    u8 v_28_i28;
-    u1 v_22;
-    u8 v_23;
-    u1 v_24;
-    u1 v_or_cond3_i29;
-    P v_25;
-    u64 v_19_1_i31;
-    u1 v_35_i32;
-    P v_26;
-    P v_19_0_i34;
-    u64 v_41_i35;
-    u8 v_39_sroa_4_sroa_0_0_extract_trunc_i36;
-    u64 v_39_sroa_4_sroa_4_0_extract_shift_i37;
-    u16 v_39_sroa_4_sroa_4_0_extract_trunc_i38;
-    u64 v_39_sroa_4_sroa_5_0_extract_shift_i39;
-    u64 v_39_sroa_4_sroa_5_0_extract_trunc_i40;
-    u64 v_parameters_sroa_6_sroa_5_0_i15;
-    u64 v_parameters_sroa_6_sroa_6_0_i16;
-    u8 v_parameters_sroa_6_sroa_0_sroa_0_0_i17;
-    P v_parameters_sroa_0_0_i18;
-    u16 v_parameters_sroa_6_sroa_0_sroa_5_0_i19;
-    u32 v_27;
-    P v_10__2;
-    P v_15_0_i;
-    P v_28;
-    u64 v_15_1_i;
-    u64 v_29;
-    u1 v_or_cond_i55;
-    P v_30;
-    u8 v_11_i59;
-    u1 v_10_i60;
-    u1 v_911_not_i101;
-    u8 v_5_peel_i103;
-    u1 v_31;
-    u1 v_exitcond_peel_not_i105;
-    u64 v_iter_sroa_0_012_i107;
-    u64 v_0_i_i108;
-    P v_32;
-    u8 v_5_i109;
-    u1 v_33;
-    u64 v_4_i3_i117;
-    u1 v_6_i4_i118;
-    u64 v_4_i3_i117_lcssa;
-    P v_34;
-    u8 v_3_i7_i121;
-    u1 v_35;
-    u1 v_exitcond_not_i111;
-    P v_octets_0_tr_i124;
-    u64 v_octets_1_tr_i125;
-    u1 v_3_i126;
-    u1 v_5_i128;
-    u8 v_27_i153;
-    u1 v_26_i154;
-    P v_36;
-    u8 v_29_i155;
-    u1 v_28_i156;
-    u1 v_25_i157;
-    P v_37;
-    u8 v_31_i158;
-    u1 v_30_i159;
-    u1 v_24_i160;
-    P v_38;
-    u8 v_33_i161;
-    u1 v_32_i162;
-    u1 v_23_i163;
-    P v_39;
-    u8 v_35_i164;
-    u1 v_34_i165;
-    u1 v_22_i166;
-    P v_40;
-    u8 v_37_i167;
-    u1 v_36_i168;
-    u1 v_21_i169;
-    P v_41;
-    u8 v_39_i170;
-    u1 v_38_i171;
-    u1 v_20_i172;
-    P v_42;
-    u8 v_41_i173;
-    u1 v_40_i174;
-    u1 v_eight_i175;
-    u1 v_9_not_i130;
-    u8 v_51_i141;
-    u1 v_50_i142;
-    P v_43;
-    u8 v_53_i143;
-    u1 v_52_i144;
-    u1 v_49_i145;
-    P v_44;
-    u8 v_55_i146;
-    u1 v_54_i147;
-    u1 v_48_i148;
-    P v_45;
-    u8 v_57_i149;
-    u1 v_56_i150;
-    u1 v_four_i151;
-    u8 v_60_i132;
-    u1 v_46;
-    u64 v_sink10_i134;
-    u64 v_sink_i135;
-    u64 v_later_1_i136;
-    P v_later_0_i137;
-    P v_47;
-    u8 v_48;
-    u1 v_7_i48;
-    P v_10_i50;
-    P v_18_0_i_i;
-    P v_49;
-    u64 v_18_1_i_i;
-    u64 v_50;
-    u1 v_or_cond_i;
-    P v_51;
-    u8 v_11_i;
-    u1 v_10_i52;
-    u1 v_911_not_i177;
-    u8 v_5_peel_i179;
-    u1 v_52;
-    u1 v_exitcond_peel_not_i181;
-    u64 v_iter_sroa_0_012_i183;
-    u64 v_0_i_i184;
-    P v_53;
-    u8 v_5_i185;
-    u1 v_54;
-    u64 v_4_i3_i193;
-    u1 v_6_i4_i194;
-    u64 v_4_i3_i193_lcssa;
-    P v_55;
-    u8 v_3_i7_i197;
-    u1 v_56;
-    u1 v_exitcond_not_i187;
-    P v_octets_0_tr_i200;
-    u64 v_octets_1_tr_i201;
-    u1 v_3_i202;
-    u1 v_5_i204;
-    u8 v_27_i229;
-    u1 v_26_i230;
-    P v_57;
-    u8 v_29_i231;
-    u1 v_28_i232;
-    u1 v_25_i233;
-    P v_58;
-    u8 v_31_i234;
-    u1 v_30_i235;
-    u1 v_24_i236;
-    P v_59;
-    u8 v_33_i237;
-    u1 v_32_i238;
-    u1 v_23_i239;
-    P v_60;
-    u8 v_35_i240;
-    u1 v_34_i241;
-    u1 v_22_i242;
-    P v_61;
-    u8 v_37_i243;
-    u1 v_36_i244;
-    u1 v_21_i245;
-    P v_62;
-    u8 v_39_i246;
-    u1 v_38_i247;
-    u1 v_20_i248;
-    P v_63;
-    u8 v_41_i249;
-    u1 v_40_i250;
-    u1 v_eight_i251;
-    u1 v_9_not_i206;
-    u8 v_51_i217;
-    u1 v_50_i218;
-    P v_64;
-    u8 v_53_i219;
-    u1 v_52_i220;
-    u1 v_49_i221;
-    P v_65;
-    u8 v_55_i222;
-    u1 v_54_i223;
-    u1 v_48_i224;
-    P v_66;
-    u8 v_57_i225;
-    u1 v_56_i226;
-    u1 v_four_i227;
-    u8 v_60_i208;
-    u1 v_67;
-    u64 v_sink10_i210;
-    u64 v_sink_i211;
-    u64 v_later_1_i212;
-    P v_later_0_i213;
-    P v_68;
-    u8 v_69;
-    u1 v_7_i_i;
-    P v_70;
-    u8 v_10_i_i;
-    u8 v_28_i_i;
-    u1 v_71;
-    u8 v_72;
-    u1 v_73;
-    u1 v_or_cond3_i_i;
-    P v_74;
-    u64 v_19_1_i_i;
-    u1 v_35_i_i;
-    P v_75;
-    P v_19_0_i_i;
-    u64 v_41_i_i;
-    u8 v_39_sroa_4_sroa_0_0_extract_trunc_i_i;
-    u64 v_39_sroa_4_sroa_4_0_extract_shift_i_i;
-    u16 v_39_sroa_4_sroa_4_0_extract_trunc_i_i;
-    u64 v_39_sroa_4_sroa_5_0_extract_shift_i_i;
-    u64 v_39_sroa_4_sroa_5_0_extract_trunc_i_i;
-    u64 v_parameters_sroa_6_sroa_5_0_i_i;
-    u64 v_parameters_sroa_6_sroa_6_0_i_i;
-    u8 v_parameters_sroa_6_sroa_0_sroa_0_0_i_i;
-    P v_parameters_sroa_0_0_i_i;
-    u16 v_parameters_sroa_6_sroa_0_sroa_5_0_i_i;
-    u32 v_76;
-    u8 v_9_i_sroa_7_sroa_0_sroa_0_1_ph;
-    u8 v_9_i_sroa_7_sroa_0_sroa_9_1_ph;
-    u32 v_9_i_sroa_7_sroa_0_sroa_9_0_insert_ext364;
-    u32 v_9_i_sroa_7_sroa_0_sroa_9_0_insert_shift365;
-    u32 v_9_i_sroa_7_sroa_0_sroa_0_0_insert_ext361;
-    u32 v_9_i_sroa_7_sroa_0_sroa_0_0_insert_insert363;
-    u8 v_4_sroa_7_sroa_0_sroa_9_1_ph;
-    u8 v_4_sroa_7_sroa_0_sroa_0_1_ph;
-    u32 v_4_sroa_7_sroa_0_sroa_9_0_insert_ext;
-    u32 v_4_sroa_7_sroa_0_sroa_9_0_insert_shift;
-    u32 v_4_sroa_7_sroa_0_sroa_0_0_insert_ext;
-    u32 v_4_sroa_7_sroa_0_sroa_0_0_insert_insert;
-    P v_77;
-    P v_parameters_sroa_6_i_sroa_6_0;
-    u8 v_parameters_sroa_6_i_sroa_7_0;
-    u16 v_parameters_sroa_6_i_sroa_8_0;
-    u64 v_parameters_sroa_6_i_sroa_9_0;
-    u64 v_parameters_sroa_6_i_sroa_10_0;
-    u32 v_parameters_sroa_6_i_sroa_0_sroa_0_0;
-    P v_parameters_sroa_0_0_i49;
-    u32 v_9_sroa_7_sroa_0_0_extract_trunc;
-    P v_15__2;
-    P v_18_0_i;
-    P v_78;
-    u64 v_18_1_i;
-    u64 v_79;
-    u1 v_or_cond_i75;
-    P v_80;
-    u8 v_11_i79;
-    u1 v_10_i80;
-    u1 v_911_not_i253;
-    u8 v_5_peel_i255;
-    u1 v_81;
-    u1 v_exitcond_peel_not_i257;
-    u64 v_iter_sroa_0_012_i259;
-    u64 v_0_i_i260;
-    P v_82;
-    u8 v_5_i261;
-    u1 v_83;
-    u64 v_4_i3_i269;
-    u1 v_6_i4_i270;
-    u64 v_4_i3_i269_lcssa;
-    P v_84;
-    u8 v_3_i7_i273;
-    u1 v_85;
-    u1 v_exitcond_not_i263;
-    P v_octets_0_tr_i276;
-    u64 v_octets_1_tr_i277;
-    u1 v_3_i;
-    u1 v_5_i279;
-    u8 v_27_i304;
-    u1 v_26_i305;
-    P v_86;
-    u8 v_29_i306;
-    u1 v_28_i307;
-    u1 v_25_i308;
-    P v_87;
-    u8 v_31_i309;
-    u1 v_30_i310;
-    u1 v_24_i311;
-    P v_88;
-    u8 v_33_i312;
-    u1 v_32_i313;
-    u1 v_23_i314;
-    P v_89;
-    u8 v_35_i315;
-    u1 v_34_i316;
-    u1 v_22_i317;
-    P v_90;
-    u8 v_37_i318;
-    u1 v_36_i319;
-    u1 v_21_i320;
-    P v_91;
-    u8 v_39_i321;
-    u1 v_38_i322;
-    u1 v_20_i323;
-    P v_92;
-    u8 v_41_i324;
-    u1 v_40_i325;
-    u1 v_eight_i326;
-    u1 v_9_not_i281;
-    u8 v_51_i292;
-    u1 v_50_i293;
-    P v_93;
-    u8 v_53_i294;
-    u1 v_52_i295;
-    u1 v_49_i296;
-    P v_94;
-    u8 v_55_i297;
-    u1 v_54_i298;
-    u1 v_48_i299;
-    P v_95;
-    u8 v_57_i300;
-    u1 v_56_i301;
-    u1 v_four_i302;
-    u8 v_60_i283;
-    u1 v_96;
-    u64 v_sink10_i285;
-    u64 v_sink_i286;
-    u64 v_later_1_i287;
-    P v_later_0_i288;
-    P v_97;
-    u8 v_98;
-    u1 v_7_i;
-    P v_99;
-    u8 v_10_i;
-    u8 v_28_i;
-    u1 v_100;
-    u8 v_101;
-    u1 v_102;
-    u1 v_or_cond3_i;
-    P v_103;
-    u64 v_19_1_i;
-    u1 v_35_i;
-    P v_104;
-    P v_19_0_i;
-    u64 v_41_i;
-    u8 v_39_sroa_4_sroa_0_0_extract_trunc_i;
-    u64 v_39_sroa_4_sroa_4_0_extract_shift_i;
-    u16 v_39_sroa_4_sroa_4_0_extract_trunc_i;
-    u64 v_39_sroa_4_sroa_5_0_extract_shift_i;
-    u64 v_39_sroa_4_sroa_5_0_extract_trunc_i;
-    u32 v_9_sroa_7_sroa_0_0_ph;
-    P v_105;
-    u64 v_parameters_sroa_6_sroa_5_0_i;
-    u64 v_parameters_sroa_6_sroa_6_0_i;
-    u8 v_parameters_sroa_6_sroa_0_sroa_0_0_i;
-    P v_parameters_sroa_0_0_i;
-    u16 v_parameters_sroa_6_sroa_0_sroa_5_0_i;
-    u32 v_106;
-    P v_2_sroa_5_0_0_sroa_idx;
-    P v_2_sroa_6_0_0_sroa_idx;
-    P v_2_sroa_6_sroa_5_0_2_sroa_6_0_0_sroa_idx_sroa_idx;
-    P v_2_sroa_6_sroa_6_0_2_sroa_6_0_0_sroa_idx_sroa_idx;
-    P v_2_sroa_6_sroa_7_0_2_sroa_6_0_0_sroa_idx_sroa_idx;
-    P v_2_sroa_6_sroa_8_0_2_sroa_6_0_0_sroa_idx_sroa_idx;
-    P v_2_sroa_6_sroa_9_0_2_sroa_6_0_0_sroa_idx_sroa_idx;
-    P v_2_sroa_7_0_0_sroa_idx;
-    P v_2_sroa_7_sroa_5_0_2_sroa_7_0_0_sroa_idx_sroa_idx;
-    P v_2_sroa_7_sroa_6_0_2_sroa_7_0_0_sroa_idx_sroa_idx;
-    P v_2_sroa_7_sroa_6_sroa_5_0_2_sroa_7_sroa_6_0_2_sroa_;
-    P v_2_sroa_7_sroa_6_sroa_6_0_2_sroa_7_sroa_6_0_2_sroa_;
-    P v_2_sroa_7_sroa_6_sroa_6_sroa_5_0_2_sroa_7_sroa_6_sr;
-    P v_2_sroa_7_sroa_6_sroa_6_sroa_6_0_2_sroa_7_sroa_6_sr;
-    P v_2_sroa_7_sroa_6_sroa_6_sroa_7_0_2_sroa_7_sroa_6_sr;
-    P v_2_sroa_7_sroa_6_sroa_6_sroa_8_0_2_sroa_7_sroa_6_sr;
-    P v_2_sroa_7_sroa_6_sroa_6_sroa_9_0_2_sroa_7_sroa_6_sr;
-    P v_2_sroa_7_sroa_6_sroa_6_sroa_10_0_2_sroa_7_sroa_6_s;
-    P v_2_sroa_8_0_0_sroa_idx;
-    P v_2_sroa_8_sroa_5_0_2_sroa_8_0_0_sroa_idx_sroa_idx;
-    P v_2_sroa_8_sroa_6_0_2_sroa_8_0_0_sroa_idx_sroa_idx;
-    P v_2_sroa_8_sroa_6_sroa_5_0_2_sroa_8_sroa_6_0_2_sroa_;
-    P v_2_sroa_8_sroa_6_sroa_6_0_2_sroa_8_sroa_6_0_2_sroa_;
-    P v_2_sroa_8_sroa_6_sroa_7_0_2_sroa_8_sroa_6_0_2_sroa_;
-    P v_2_sroa_8_sroa_6_sroa_8_0_2_sroa_8_sroa_6_0_2_sroa_;
-    P v_2_sroa_8_sroa_6_sroa_9_0_2_sroa_8_sroa_6_0_2_sroa_;
-    u8 v_14_sroa_7_sroa_0_sroa_9_1_ph;
-    u8 v_14_sroa_7_sroa_0_sroa_0_1_ph;
-    u32 v_14_sroa_7_sroa_0_sroa_9_0_insert_ext;
-    u32 v_14_sroa_7_sroa_0_sroa_9_0_insert_shift;
-    u32 v_14_sroa_7_sroa_0_sroa_0_0_insert_ext;
-    u32 v_14_sroa_7_sroa_0_sroa_0_0_insert_insert;
-    P v_107;
-    v_18_0_i8 = get_P(v_params);
-    v_0__2 = v_params + 8;
-    v_18_1_i9 = get_u64(v_0__2);
-    v_1 = (u64)((u64)(v_18_1_i9) + (u64)(18446744073709551615ull));
-    v_or_cond_i65 = v_1 < 39u;
-    if (v_or_cond_i65) { goto L_bb9_i67; } else { p_v_4_sroa_7_sroa_0_sroa_9_1_ph = 0u; p_v_4_sroa_7_sroa_0_sroa_0_1_ph = 5u; goto L_bb8; }
-L_bb9_i67:;
-    v_2 = v_18_0_i8 + (int64_t)(v_1);
-    v_11_i69 = get_u8(v_2);
-    v_10_i70 = (u8)(v_11_i69 ^ ((u8)1 << 7)) > (u8)(255u ^ ((u8)1 << 7));
-    if (v_10_i70) { p_v_octets_0_tr_i = v_18_0_i8; p_v_octets_1_tr_i = v_1; goto L_tailrecurse_i; } else { goto L_bb9_preheader_i; }
-L_bb5_i71:;
-    v_911_not_i = v_18_1_i9 == 0u;
-    if (v_911_not_i) { goto L_bb8_i12; } else { goto L_bb9_preheader_i; }
-L_bb9_preheader_i:;
-    v_5_peel_i = get_u8(v_18_0_i8);
-    v_3 = v_5_peel_i == 128u;
-    if (v_3) { p_v_4_sroa_7_sroa_0_sroa_9_1_ph = 0u; p_v_4_sroa_7_sroa_0_sroa_0_1_ph = 5u; goto L_bb8; } else { goto L_bb7_peel_i; }
-L_bb7_peel_i:;
-    v_exitcond_peel_not_i = v_18_1_i9 == 1u;
-    if (v_exitcond_peel_not_i) { goto L_object_identifier_is_identifier_exit74; } else { p_v_iter_sroa_0_012_i = 1u; goto L_bb9_i85; }
-L_bb9_i85:;
-    v_iter_sroa_0_012_i = p_v_iter_sroa_0_012_i;
-    v_0_i_i = (u64)((u64)(v_iter_sroa_0_012_i) + (u64)(1u));
-    v_4 = v_18_0_i8 + (int64_t)(v_iter_sroa_0_012_i);
-    v_5_i = get_u8(v_4);
-    v_5 = v_5_i == 128u;
-    if (v_5) { goto L_bb2_i2_i; } else { goto L_bb7_i; }
-L_bb2_i2_i:;
-    v_4_i3_i = (u64)((u64)(v_iter_sroa_0_012_i) + (u64)(18446744073709551615ull));
-    v_6_i4_i = v_4_i3_i < v_18_1_i9;
-    if (v_6_i4_i) { goto L_object_identifier_is_start_exit9_i; } else { p_v_4_i3_i_lcssa = v_4_i3_i; goto L_panic_i5_i; }
-L_panic_i5_i:;
-    v_4_i3_i_lcssa = p_v_4_i3_i_lcssa;
-    TRAP();
-    TRAP();
-L_object_identifier_is_start_exit9_i:;
-    v_6 = v_18_0_i8 + (int64_t)(v_4_i3_i);
-    v_3_i7_i = get_u8(v_6);
-    v_7 = (u8)(v_3_i7_i ^ ((u8)1 << 7)) > (u8)(255u ^ ((u8)1 << 7));
-    if (v_7) { p_v_4_sroa_7_sroa_0_sroa_9_1_ph = 0u; p_v_4_sroa_7_sroa_0_sroa_0_1_ph = 5u; goto L_bb8; } else { goto L_bb7_i; }
-L_bb7_i:;
-    v_exitcond_not_i = v_0_i_i == v_18_1_i9;
-    if (v_exitcond_not_i) { goto L_object_identifier_is_identifier_exit74; } else { p_v_iter_sroa_0_012_i = v_0_i_i; goto L_bb9_i85; }
-L_tailrecurse_i:;
-    v_octets_0_tr_i = p_v_octets_0_tr_i;
-    v_octets_1_tr_i = p_v_octets_1_tr_i;
-    v_3_i89 = v_octets_1_tr_i > 7u;
-    if (v_3_i89) { goto L_bb6_i; } else { goto L_bb1_i90; }
-L_bb1_i90:;
-    v_5_i91 = v_octets_1_tr_i > 3u;
-    if (v_5_i91) { goto L_bb5_i95; } else { goto L_bb2_i92; }
-L_bb6_i:;
-    v_27_i96 = get_u8(v_octets_0_tr_i);
-    v_26_i97 = v_27_i96 != 128u;
-    v_8 = v_octets_0_tr_i + 1;
-    v_29_i = get_u8(v_8);
-    v_28_i98 = v_29_i != 128u;
-    v_25_i = (u1)(((u32)(v_26_i97) & (u32)(v_28_i98)) & 1);
-    v_9 = v_octets_0_tr_i + 2;
-    v_31_i = get_u8(v_9);
-    v_30_i = v_31_i != 128u;
-    v_24_i = (u1)(((u32)(v_25_i) & (u32)(v_30_i)) & 1);
-    v_10 = v_octets_0_tr_i + 3;
-    v_33_i = get_u8(v_10);
-    v_32_i = v_33_i != 128u;
-    v_23_i = (u1)(((u32)(v_24_i) & (u32)(v_32_i)) & 1);
-    v_11 = v_octets_0_tr_i + 4;
-    v_35_i99 = get_u8(v_11);
-    v_34_i = v_35_i99 != 128u;
-    v_22_i = (u1)(((u32)(v_23_i) & (u32)(v_34_i)) & 1);
-    v_12 = v_octets_0_tr_i + 5;
-    v_37_i = get_u8(v_12);
-    v_36_i = v_37_i != 128u;
-    v_21_i = (u1)(((u32)(v_22_i) & (u32)(v_36_i)) & 1);
-    v_13 = v_octets_0_tr_i + 6;
-    v_39_i = get_u8(v_13);
-    v_38_i = v_39_i != 128u;
-    v_20_i = (u1)(((u32)(v_21_i) & (u32)(v_38_i)) & 1);
-    v_14 = v_octets_0_tr_i + 7;
-    v_41_i100 = get_u8(v_14);
-    v_40_i = v_41_i100 != 128u;
-    v_eight_i = (u1)(((u32)(v_20_i) & (u32)(v_40_i)) & 1);
-    if (v_eight_i) { p_v_sink10_i = 18446744073709551608ull; p_v_sink_i = 8u; goto L_tailrecurse_backedge_i; } else { goto L_bb5_i71; }
-L_bb2_i92:;
-    v_9_not_i = v_octets_1_tr_i == 0u;
-    if (v_9_not_i) { goto L_bb8_i12; } else { goto L_bb4_i93; }
-L_bb5_i95:;
-    v_51_i = get_u8(v_octets_0_tr_i);
-    v_50_i = v_51_i != 128u;
-    v_15 = v_octets_0_tr_i + 1;
-    v_53_i = get_u8(v_15);
-    v_52_i = v_53_i != 128u;
-    v_49_i = (u1)(((u32)(v_50_i) & (u32)(v_52_i)) & 1);
-    v_16 = v_octets_0_tr_i + 2;
-    v_55_i = get_u8(v_16);
-    v_54_i = v_55_i != 128u;
-    v_48_i = (u1)(((u32)(v_49_i) & (u32)(v_54_i)) & 1);
-    v_17 = v_octets_0_tr_i + 3;
-    v_57_i = get_u8(v_17);
-    v_56_i = v_57_i != 128u;
-    v_four_i = (u1)(((u32)(v_48_i) & (u32)(v_56_i)) & 1);
-    if (v_four_i) { p_v_sink10_i = 18446744073709551612ull; p_v_sink_i = 4u; goto L_tailrecurse_backedge_i; } else { goto L_bb5_i71; }
-L_bb4_i93:;
-    v_60_i = get_u8(v_octets_0_tr_i);
-    v_18 = v_60_i == 128u;
-    if (v_18) { goto L_bb5_i71; } else { p_v_sink10_i = 18446744073709551615ull; p_v_sink_i = 1u; goto L_tailrecurse_backedge_i; }
-L_tailrecurse_backedge_i:;
-    v_sink10_i = p_v_sink10_i;
-    v_sink_i = p_v_sink_i;
-    v_later_1_i = (u64)((u64)(v_sink10_i) + (u64)(v_octets_1_tr_i));
-    v_later_0_i = v_octets_0_tr_i + (int64_t)(v_sink_i);
-    { p_v_octets_0_tr_i = v_later_0_i; p_v_octets_1_tr_i = v_later_1_i; goto L_tailrecurse_i; }
-L_object_identifier_is_identifier_exit74:;
-    if (v_10_i70) { goto L_bb8_i12; } else { p_v_4_sroa_7_sroa_0_sroa_9_1_ph = 0u; p_v_4_sroa_7_sroa_0_sroa_0_1_ph = 5u; goto L_bb8; }
-L_bb8_i12:;
-    v_19 = v_params + 16;
-    v_20 = get_u8(v_19);
-    v_7_i13 = (u1)((v_20) & 1);
-    if (v_7_i13) { goto L_bb1_i26; } else { p_v_parameters_sroa_6_sroa_5_0_i15 = 0u; p_v_parameters_sroa_6_sroa_6_0_i16 = 0u; p_v_parameters_sroa_6_sroa_0_sroa_0_0_i17 = 0u; p_v_parameters_sroa_0_0_i18 = (P)0; p_v_parameters_sroa_6_sroa_0_sroa_5_0_i19 = 0u; goto L_bb9; }
-L_bb1_i26:;
-    v_21 = v_params + 17;
-    v_10_i27 = get_u8(v_21);
-    v_28_i28 = (u8)((u32)(v_10_i27) & (u32)(31u));
-    v_22 = v_28_i28 == 31u;
-    v_23 = (u8)((u32)(v_10_i27) & (u32)(223u));
-    v_24 = v_23 == 0u;
-    v_or_cond3_i29 = (u1)(((u32)(v_22) | (u32)(v_24)) & 1);
-    if (v_or_cond3_i29) { p_v_4_sroa_7_sroa_0_sroa_9_1_ph = v_10_i27; p_v_4_sroa_7_sroa_0_sroa_0_1_ph = 11u; goto L_bb8; } else { goto L_bb14_i30; }
-L_bb14_i30:;
-    v_25 = v_params + 32;
-    v_19_1_i31 = get_u64(v_25);
-    v_35_i32 = v_19_1_i31 > 4294967295ull;
-    if (v_35_i32) { p_v_4_sroa_7_sroa_0_sroa_9_1_ph = v_10_i27; p_v_4_sroa_7_sroa_0_sroa_0_1_ph = 7u; goto L_bb8; } else { goto L_bb16_i33; }
-L_bb16_i33:;
-    v_26 = v_params + 24;
-    v_19_0_i34 = get_P(v_26);
-    v_41_i35 = (u64)v_10_i27;
-    v_39_sroa_4_sroa_0_0_extract_trunc_i36 = (u8)(v_19_1_i31);
-    v_39_sroa_4_sroa_4_0_extract_shift_i37 = (u64)((u64)(v_19_1_i31) >> (u64)((8u & 63)));
-    v_39_sroa_4_sroa_4_0_extract_trunc_i38 = (u16)(v_39_sroa_4_sroa_4_0_extract_shift_i37);
-    v_39_sroa_4_sroa_5_0_extract_shift_i39 = (u64)((u64)(v_19_1_i31) >> (u64)((24u & 63)));
-    v_39_sroa_4_sroa_5_0_extract_trunc_i40 = (u64)((v_39_sroa_4_sroa_5_0_extract_shift_i39) & (((u64)1 << 40) - 1));
-    { p_v_parameters_sroa_6_sroa_5_0_i15 = v_39_sroa_4_sroa_5_0_extract_trunc_i40; p_v_parameters_sroa_6_sroa_6_0_i16 = v_41_i35; p_v_parameters_sroa_6_sroa_0_sroa_0_0_i17 = v_39_sroa_4_sroa_0_0_extract_trunc_i36; p_v_parameters_sroa_0_0_i18 = v_19_0_i34; p_v_parameters_sroa_6_sroa_0_sroa_5_0_i19 = v_39_sroa_4_sroa_4_0_extract_trunc_i38; goto L_bb9; }
-L_bb9:;
-    v_parameters_sroa_6_sroa_5_0_i15 = p_v_parameters_sroa_6_sroa_5_0_i15;
-    v_parameters_sroa_6_sroa_6_0_i16 = p_v_parameters_sroa_6_sroa_6_0_i16;
-    v_parameters_sroa_6_sroa_0_sroa_0_0_i17 = p_v_parameters_sroa_6_sroa_0_sroa_0_0_i17;
-    v_parameters_sroa_0_0_i18 = p_v_parameters_sroa_0_0_i18;
-    v_parameters_sroa_6_sroa_0_sroa_5_0_i19 = p_v_parameters_sroa_6_sroa_0_sroa_5_0_i19;
-    v_27 = (u32)((v_18_1_i9) & (((u32)1 << 24) - 1));
-    v_10__2 = v_params + 40;
-    v_15_0_i = get_P(v_10__2);
-    v_28 = v_params + 48;
-    v_15_1_i = get_u64(v_28);
-    v_29 = (u64)((u64)(v_15_1_i) + (u64)(18446744073709551615ull));
-    v_or_cond_i55 = v_29 < 39u;
-    if (v_or_cond_i55) { goto L_bb9_i57; } else { p_v_9_sroa_7_sroa_0_0_ph = 5u; goto L_bb10; }
-L_bb9_i57:;
-    v_30 = v_15_0_i + (int64_t)(v_29);
-    v_11_i59 = get_u8(v_30);
-    v_10_i60 = (u8)(v_11_i59 ^ ((u8)1 << 7)) > (u8)(255u ^ ((u8)1 << 7));
-    if (v_10_i60) { p_v_octets_0_tr_i124 = v_15_0_i; p_v_octets_1_tr_i125 = v_29; goto L_tailrecurse_i123; } else { goto L_bb9_preheader_i102; }
-L_bb5_i61:;
-    v_911_not_i101 = v_15_1_i == 0u;
-    if (v_911_not_i101) { goto L_bb9_i47; } else { goto L_bb9_preheader_i102; }
-L_bb9_preheader_i102:;
-    v_5_peel_i103 = get_u8(v_15_0_i);
-    v_31 = v_5_peel_i103 == 128u;
-    if (v_31) { p_v_9_sroa_7_sroa_0_0_ph = 5u; goto L_bb10; } else { goto L_bb7_peel_i104; }
-L_bb7_peel_i104:;
-    v_exitcond_peel_not_i105 = v_15_1_i == 1u;
-    if (v_exitcond_peel_not_i105) { goto L_object_identifier_is_identifier_exit64; } else { p_v_iter_sroa_0_012_i107 = 1u; goto L_bb9_i106; }
-L_bb9_i106:;
-    v_iter_sroa_0_012_i107 = p_v_iter_sroa_0_012_i107;
-    v_0_i_i108 = (u64)((u64)(v_iter_sroa_0_012_i107) + (u64)(1u));
-    v_32 = v_15_0_i + (int64_t)(v_iter_sroa_0_012_i107);
-    v_5_i109 = get_u8(v_32);
-    v_33 = v_5_i109 == 128u;
-    if (v_33) { goto L_bb2_i2_i116; } else { goto L_bb7_i110; }
-L_bb2_i2_i116:;
-    v_4_i3_i117 = (u64)((u64)(v_iter_sroa_0_012_i107) + (u64)(18446744073709551615ull));
-    v_6_i4_i118 = v_4_i3_i117 < v_15_1_i;
-    if (v_6_i4_i118) { goto L_object_identifier_is_start_exit9_i120; } else { p_v_4_i3_i117_lcssa = v_4_i3_i117; goto L_panic_i5_i119; }
-L_panic_i5_i119:;
-    v_4_i3_i117_lcssa = p_v_4_i3_i117_lcssa;
-    TRAP();
-    TRAP();
-L_object_identifier_is_start_exit9_i120:;
-    v_34 = v_15_0_i + (int64_t)(v_4_i3_i117);
-    v_3_i7_i121 = get_u8(v_34);
-    v_35 = (u8)(v_3_i7_i121 ^ ((u8)1 << 7)) > (u8)(255u ^ ((u8)1 << 7));
-    if (v_35) { p_v_9_sroa_7_sroa_0_0_ph = 5u; goto L_bb10; } else { goto L_bb7_i110; }
-L_bb7_i110:;
-    v_exitcond_not_i111 = v_0_i_i108 == v_15_1_i;
-    if (v_exitcond_not_i111) { goto L_object_identifier_is_identifier_exit64; } else { p_v_iter_sroa_0_012_i107 = v_0_i_i108; goto L_bb9_i106; }
-L_tailrecurse_i123:;
-    v_octets_0_tr_i124 = p_v_octets_0_tr_i124;
-    v_octets_1_tr_i125 = p_v_octets_1_tr_i125;
-    v_3_i126 = v_octets_1_tr_i125 > 7u;
-    if (v_3_i126) { goto L_bb6_i152; } else { goto L_bb1_i127; }
-L_bb1_i127:;
-    v_5_i128 = v_octets_1_tr_i125 > 3u;
-    if (v_5_i128) { goto L_bb5_i140; } else { goto L_bb2_i129; }
-L_bb6_i152:;
-    v_27_i153 = get_u8(v_octets_0_tr_i124);
-    v_26_i154 = v_27_i153 != 128u;
-    v_36 = v_octets_0_tr_i124 + 1;
-    v_29_i155 = get_u8(v_36);
-    v_28_i156 = v_29_i155 != 128u;
-    v_25_i157 = (u1)(((u32)(v_26_i154) & (u32)(v_28_i156)) & 1);
-    v_37 = v_octets_0_tr_i124 + 2;
-    v_31_i158 = get_u8(v_37);
-    v_30_i159 = v_31_i158 != 128u;
-    v_24_i160 = (u1)(((u32)(v_25_i157) & (u32)(v_30_i159)) & 1);
-    v_38 = v_octets_0_tr_i124 + 3;
-    v_33_i161 = get_u8(v_38);
-    v_32_i162 = v_33_i161 != 128u;
-    v_23_i163 = (u1)(((u32)(v_24_i160) & (u32)(v_32_i162)) & 1);
-    v_39 = v_octets_0_tr_i124 + 4;
-    v_35_i164 = get_u8(v_39);
-    v_34_i165 = v_35_i164 != 128u;
-    v_22_i166 = (u1)(((u32)(v_23_i163) & (u32)(v_34_i165)) & 1);
-    v_40 = v_octets_0_tr_i124 + 5;
-    v_37_i167 = get_u8(v_40);
-    v_36_i168 = v_37_i167 != 128u;
-    v_21_i169 = (u1)(((u32)(v_22_i166) & (u32)(v_36_i168)) & 1);
-    v_41 = v_octets_0_tr_i124 + 6;
-    v_39_i170 = get_u8(v_41);
-    v_38_i171 = v_39_i170 != 128u;
-    v_20_i172 = (u1)(((u32)(v_21_i169) & (u32)(v_38_i171)) & 1);
-    v_42 = v_octets_0_tr_i124 + 7;
-    v_41_i173 = get_u8(v_42);
-    v_40_i174 = v_41_i173 != 128u;
-    v_eight_i175 = (u1)(((u32)(v_20_i172) & (u32)(v_40_i174)) & 1);
-    if (v_eight_i175) { p_v_sink10_i134 = 18446744073709551608ull; p_v_sink_i135 = 8u; goto L_tailrecurse_backedge_i133; } else { goto L_bb5_i61; }
-L_bb2_i129:;
-    v_9_not_i130 = v_octets_1_tr_i125 == 0u;
-    if (v_9_not_i130) { goto L_bb9_i47; } else { goto L_bb4_i131; }
-L_bb5_i140:;
-    v_51_i141 = get_u8(v_octets_0_tr_i124);
-    v_50_i142 = v_51_i141 != 128u;
-    v_43 = v_octets_0_tr_i124 + 1;
-    v_53_i143 = get_u8(v_43);
-    v_52_i144 = v_53_i143 != 128u;
-    v_49_i145 = (u1)(((u32)(v_50_i142) & (u32)(v_52_i144)) & 1);
-    v_44 = v_octets_0_tr_i124 + 2;
-    v_55_i146 = get_u8(v_44);
-    v_54_i147 = v_55_i146 != 128u;
-    v_48_i148 = (u1)(((u32)(v_49_i145) & (u32)(v_54_i147)) & 1);
-    v_45 = v_octets_0_tr_i124 + 3;
-    v_57_i149 = get_u8(v_45);
-    v_56_i150 = v_57_i149 != 128u;
-    v_four_i151 = (u1)(((u32)(v_48_i148) & (u32)(v_56_i150)) & 1);
-    if (v_four_i151) { p_v_sink10_i134 = 18446744073709551612ull; p_v_sink_i135 = 4u; goto L_tailrecurse_backedge_i133; } else { goto L_bb5_i61; }
-L_bb4_i131:;
-    v_60_i132 = get_u8(v_octets_0_tr_i124);
-    v_46 = v_60_i132 == 128u;
-    if (v_46) { goto L_bb5_i61; } else { p_v_sink10_i134 = 18446744073709551615ull; p_v_sink_i135 = 1u; goto L_tailrecurse_backedge_i133; }
-L_tailrecurse_backedge_i133:;
-    v_sink10_i134 = p_v_sink10_i134;
-    v_sink_i135 = p_v_sink_i135;
-    v_later_1_i136 = (u64)((u64)(v_sink10_i134) + (u64)(v_octets_1_tr_i125));
-    v_later_0_i137 = v_octets_0_tr_i124 + (int64_t)(v_sink_i135);
-    { p_v_octets_0_tr_i124 = v_later_0_i137; p_v_octets_1_tr_i125 = v_later_1_i136; goto L_tailrecurse_i123; }
-L_object_identifier_is_identifier_exit64:;
-    if (v_10_i60) { goto L_bb9_i47; } else { p_v_9_sroa_7_sroa_0_0_ph = 5u; goto L_bb10; }
-L_bb9_i47:;
-    v_47 = v_params + 56;
-    v_48 = get_u8(v_47);
-    v_7_i48 = (u1)((v_48) & 1);
-    if (v_7_i48) { goto L_bb2_i; } else { p_v_parameters_sroa_6_i_sroa_6_0 = (P)0; p_v_parameters_sroa_6_i_sroa_7_0 = 0u; p_v_parameters_sroa_6_i_sroa_8_0 = 0u; p_v_parameters_sroa_6_i_sroa_9_0 = 0u; p_v_parameters_sroa_6_i_sroa_10_0 = 0u; p_v_parameters_sroa_6_i_sroa_0_sroa_0_0 = 0u; p_v_parameters_sroa_0_0_i49 = (P)0; goto L_bb11; }
-L_bb2_i:;
-    v_10_i50 = v_params + 64;
-    v_18_0_i_i = get_P(v_10_i50);
-    v_49 = v_params + 72;
-    v_18_1_i_i = get_u64(v_49);
-    v_50 = (u64)((u64)(v_18_1_i_i) + (u64)(18446744073709551615ull));
-    v_or_cond_i = v_50 < 39u;
-    if (v_or_cond_i) { goto L_bb9_i51; } else { p_v_9_i_sroa_7_sroa_0_sroa_0_1_ph = 5u; p_v_9_i_sroa_7_sroa_0_sroa_9_1_ph = 0u; goto L_bb11_i; }
-L_bb9_i51:;
-    v_51 = v_18_0_i_i + (int64_t)(v_50);
-    v_11_i = get_u8(v_51);
-    v_10_i52 = (u8)(v_11_i ^ ((u8)1 << 7)) > (u8)(255u ^ ((u8)1 << 7));
-    if (v_10_i52) { p_v_octets_0_tr_i200 = v_18_0_i_i; p_v_octets_1_tr_i201 = v_50; goto L_tailrecurse_i199; } else { goto L_bb9_preheader_i178; }
-L_bb5_i53:;
-    v_911_not_i177 = v_18_1_i_i == 0u;
-    if (v_911_not_i177) { goto L_bb8_i_i; } else { goto L_bb9_preheader_i178; }
-L_bb9_preheader_i178:;
-    v_5_peel_i179 = get_u8(v_18_0_i_i);
-    v_52 = v_5_peel_i179 == 128u;
-    if (v_52) { p_v_9_i_sroa_7_sroa_0_sroa_0_1_ph = 5u; p_v_9_i_sroa_7_sroa_0_sroa_9_1_ph = 0u; goto L_bb11_i; } else { goto L_bb7_peel_i180; }
-L_bb7_peel_i180:;
-    v_exitcond_peel_not_i181 = v_18_1_i_i == 1u;
-    if (v_exitcond_peel_not_i181) { goto L_object_identifier_is_identifier_exit; } else { p_v_iter_sroa_0_012_i183 = 1u; goto L_bb9_i182; }
-L_bb9_i182:;
-    v_iter_sroa_0_012_i183 = p_v_iter_sroa_0_012_i183;
-    v_0_i_i184 = (u64)((u64)(v_iter_sroa_0_012_i183) + (u64)(1u));
-    v_53 = v_18_0_i_i + (int64_t)(v_iter_sroa_0_012_i183);
-    v_5_i185 = get_u8(v_53);
-    v_54 = v_5_i185 == 128u;
-    if (v_54) { goto L_bb2_i2_i192; } else { goto L_bb7_i186; }
-L_bb2_i2_i192:;
-    v_4_i3_i193 = (u64)((u64)(v_iter_sroa_0_012_i183) + (u64)(18446744073709551615ull));
-    v_6_i4_i194 = v_4_i3_i193 < v_18_1_i_i;
-    if (v_6_i4_i194) { goto L_object_identifier_is_start_exit9_i196; } else { p_v_4_i3_i193_lcssa = v_4_i3_i193; goto L_panic_i5_i195; }
-L_panic_i5_i195:;
-    v_4_i3_i193_lcssa = p_v_4_i3_i193_lcssa;
-    TRAP();
-    TRAP();
-L_object_identifier_is_start_exit9_i196:;
-    v_55 = v_18_0_i_i + (int64_t)(v_4_i3_i193);
-    v_3_i7_i197 = get_u8(v_55);
-    v_56 = (u8)(v_3_i7_i197 ^ ((u8)1 << 7)) > (u8)(255u ^ ((u8)1 << 7));
-    if (v_56) { p_v_9_i_sroa_7_sroa_0_sroa_0_1_ph = 5u; p_v_9_i_sroa_7_sroa_0_sroa_9_1_ph = 0u; goto L_bb11_i; } else { goto L_bb7_i186; }
-L_bb7_i186:;
-    v_exitcond_not_i187 = v_0_i_i184 == v_18_1_i_i;
-    if (v_exitcond_not_i187) { goto L_object_identifier_is_identifier_exit; } else { p_v_iter_sroa_0_012_i183 = v_0_i_i184; goto L_bb9_i182; }
-L_tailrecurse_i199:;
-    v_octets_0_tr_i200 = p_v_octets_0_tr_i200;
-    v_octets_1_tr_i201 = p_v_octets_1_tr_i201;
-    v_3_i202 = v_octets_1_tr_i201 > 7u;
-    if (v_3_i202) { goto L_bb6_i228; } else { goto L_bb1_i203; }
-L_bb1_i203:;
-    v_5_i204 = v_octets_1_tr_i201 > 3u;
-    if (v_5_i204) { goto L_bb5_i216; } else { goto L_bb2_i205; }
-L_bb6_i228:;
-    v_27_i229 = get_u8(v_octets_0_tr_i200);
-    v_26_i230 = v_27_i229 != 128u;
-    v_57 = v_octets_0_tr_i200 + 1;
-    v_29_i231 = get_u8(v_57);
-    v_28_i232 = v_29_i231 != 128u;
-    v_25_i233 = (u1)(((u32)(v_26_i230) & (u32)(v_28_i232)) & 1);
-    v_58 = v_octets_0_tr_i200 + 2;
-    v_31_i234 = get_u8(v_58);
-    v_30_i235 = v_31_i234 != 128u;
-    v_24_i236 = (u1)(((u32)(v_25_i233) & (u32)(v_30_i235)) & 1);
-    v_59 = v_octets_0_tr_i200 + 3;
-    v_33_i237 = get_u8(v_59);
-    v_32_i238 = v_33_i237 != 128u;
-    v_23_i239 = (u1)(((u32)(v_24_i236) & (u32)(v_32_i238)) & 1);
-    v_60 = v_octets_0_tr_i200 + 4;
-    v_35_i240 = get_u8(v_60);
-    v_34_i241 = v_35_i240 != 128u;
-    v_22_i242 = (u1)(((u32)(v_23_i239) & (u32)(v_34_i241)) & 1);
-    v_61 = v_octets_0_tr_i200 + 5;
-    v_37_i243 = get_u8(v_61);
-    v_36_i244 = v_37_i243 != 128u;
-    v_21_i245 = (u1)(((u32)(v_22_i242) & (u32)(v_36_i244)) & 1);
-    v_62 = v_octets_0_tr_i200 + 6;
-    v_39_i246 = get_u8(v_62);
-    v_38_i247 = v_39_i246 != 128u;
-    v_20_i248 = (u1)(((u32)(v_21_i245) & (u32)(v_38_i247)) & 1);
-    v_63 = v_octets_0_tr_i200 + 7;
-    v_41_i249 = get_u8(v_63);
-    v_40_i250 = v_41_i249 != 128u;
-    v_eight_i251 = (u1)(((u32)(v_20_i248) & (u32)(v_40_i250)) & 1);
-    if (v_eight_i251) { p_v_sink10_i210 = 18446744073709551608ull; p_v_sink_i211 = 8u; goto L_tailrecurse_backedge_i209; } else { goto L_bb5_i53; }
-L_bb2_i205:;
-    v_9_not_i206 = v_octets_1_tr_i201 == 0u;
-    if (v_9_not_i206) { goto L_bb8_i_i; } else { goto L_bb4_i207; }
-L_bb5_i216:;
-    v_51_i217 = get_u8(v_octets_0_tr_i200);
-    v_50_i218 = v_51_i217 != 128u;
-    v_64 = v_octets_0_tr_i200 + 1;
-    v_53_i219 = get_u8(v_64);
-    v_52_i220 = v_53_i219 != 128u;
-    v_49_i221 = (u1)(((u32)(v_50_i218) & (u32)(v_52_i220)) & 1);
-    v_65 = v_octets_0_tr_i200 + 2;
-    v_55_i222 = get_u8(v_65);
-    v_54_i223 = v_55_i222 != 128u;
-    v_48_i224 = (u1)(((u32)(v_49_i221) & (u32)(v_54_i223)) & 1);
-    v_66 = v_octets_0_tr_i200 + 3;
-    v_57_i225 = get_u8(v_66);
-    v_56_i226 = v_57_i225 != 128u;
-    v_four_i227 = (u1)(((u32)(v_48_i224) & (u32)(v_56_i226)) & 1);
-    if (v_four_i227) { p_v_sink10_i210 = 18446744073709551612ull; p_v_sink_i211 = 4u; goto L_tailrecurse_backedge_i209; } else { goto L_bb5_i53; }
-L_bb4_i207:;
-    v_60_i208 = get_u8(v_octets_0_tr_i200);
-    v_67 = v_60_i208 == 128u;
-    if (v_67) { goto L_bb5_i53; } else { p_v_sink10_i210 = 18446744073709551615ull; p_v_sink_i211 = 1u; goto L_tailrecurse_backedge_i209; }
-L_tailrecurse_backedge_i209:;
-    v_sink10_i210 = p_v_sink10_i210;
-    v_sink_i211 = p_v_sink_i211;
-    v_later_1_i212 = (u64)((u64)(v_sink10_i210) + (u64)(v_octets_1_tr_i201));
-    v_later_0_i213 = v_octets_0_tr_i200 + (int64_t)(v_sink_i211);
-    { p_v_octets_0_tr_i200 = v_later_0_i213; p_v_octets_1_tr_i201 = v_later_1_i212; goto L_tailrecurse_i199; }
-L_object_identifier_is_identifier_exit:;
-    if (v_10_i52) { goto L_bb8_i_i; } else { p_v_9_i_sroa_7_sroa_0_sroa_0_1_ph = 5u; p_v_9_i_sroa_7_sroa_0_sroa_9_1_ph = 0u; goto L_bb11_i; }
-L_bb8_i_i:;
-    v_68 = v_params + 80;
-    v_69 = get_u8(v_68);
-    v_7_i_i = (u1)((v_69) & 1);
-    if (v_7_i_i) { goto L_bb1_i_i; } else { p_v_parameters_sroa_6_sroa_5_0_i_i = 0u; p_v_parameters_sroa_6_sroa_6_0_i_i = 0u; p_v_parameters_sroa_6_sroa_0_sroa_0_0_i_i = 0u; p_v_parameters_sroa_0_0_i_i = (P)0; p_v_parameters_sroa_6_sroa_0_sroa_5_0_i_i = 0u; goto L_bb12_i; }
-L_bb1_i_i:;
-    v_70 = v_params + 81;
-    v_10_i_i = get_u8(v_70);
-    v_28_i_i = (u8)((u32)(v_10_i_i) & (u32)(31u));
-    v_71 = v_28_i_i == 31u;
-    v_72 = (u8)((u32)(v_10_i_i) & (u32)(223u));
-    v_73 = v_72 == 0u;
-    v_or_cond3_i_i = (u1)(((u32)(v_71) | (u32)(v_73)) & 1);
-    if (v_or_cond3_i_i) { p_v_9_i_sroa_7_sroa_0_sroa_0_1_ph = 11u; p_v_9_i_sroa_7_sroa_0_sroa_9_1_ph = v_10_i_i; goto L_bb11_i; } else { goto L_bb14_i_i; }
-L_bb14_i_i:;
-    v_74 = v_params + 96;
-    v_19_1_i_i = get_u64(v_74);
-    v_35_i_i = v_19_1_i_i > 4294967295ull;
-    if (v_35_i_i) { p_v_9_i_sroa_7_sroa_0_sroa_0_1_ph = 7u; p_v_9_i_sroa_7_sroa_0_sroa_9_1_ph = v_10_i_i; goto L_bb11_i; } else { goto L_bb16_i_i; }
-L_bb16_i_i:;
-    v_75 = v_params + 88;
-    v_19_0_i_i = get_P(v_75);
-    v_41_i_i = (u64)v_10_i_i;
-    v_39_sroa_4_sroa_0_0_extract_trunc_i_i = (u8)(v_19_1_i_i);
-    v_39_sroa_4_sroa_4_0_extract_shift_i_i = (u64)((u64)(v_19_1_i_i) >> (u64)((8u & 63)));
-    v_39_sroa_4_sroa_4_0_extract_trunc_i_i = (u16)(v_39_sroa_4_sroa_4_0_extract_shift_i_i);
-    v_39_sroa_4_sroa_5_0_extract_shift_i_i = (u64)((u64)(v_19_1_i_i) >> (u64)((24u & 63)));
-    v_39_sroa_4_sroa_5_0_extract_trunc_i_i = (u64)((v_39_sroa_4_sroa_5_0_extract_shift_i_i) & (((u64)1 << 40) - 1));
-    { p_v_parameters_sroa_6_sroa_5_0_i_i = v_39_sroa_4_sroa_5_0_extract_trunc_i_i; p_v_parameters_sroa_6_sroa_6_0_i_i = v_41_i_i; p_v_parameters_sroa_6_sroa_0_sroa_0_0_i_i = v_39_sroa_4_sroa_0_0_extract_trunc_i_i; p_v_parameters_sroa_0_0_i_i = v_19_0_i_i; p_v_parameters_sroa_6_sroa_0_sroa_5_0_i_i = v_39_sroa_4_sroa_4_0_extract_trunc_i_i; goto L_bb12_i; }
-L_bb12_i:;
-    v_parameters_sroa_6_sroa_5_0_i_i = p_v_parameters_sroa_6_sroa_5_0_i_i;
-    v_parameters_sroa_6_sroa_6_0_i_i = p_v_parameters_sroa_6_sroa_6_0_i_i;
-    v_parameters_sroa_6_sroa_0_sroa_0_0_i_i = p_v_parameters_sroa_6_sroa_0_sroa_0_0_i_i;
-    v_parameters_sroa_0_0_i_i = p_v_parameters_sroa_0_0_i_i;
-    v_parameters_sroa_6_sroa_0_sroa_5_0_i_i = p_v_parameters_sroa_6_sroa_0_sroa_5_0_i_i;
-    v_76 = (u32)((v_18_1_i_i) & (((u32)1 << 24) - 1));
-    { p_v_parameters_sroa_6_i_sroa_6_0 = v_parameters_sroa_0_0_i_i; p_v_parameters_sroa_6_i_sroa_7_0 = v_parameters_sroa_6_sroa_0_sroa_0_0_i_i; p_v_parameters_sroa_6_i_sroa_8_0 = v_parameters_sroa_6_sroa_0_sroa_5_0_i_i; p_v_parameters_sroa_6_i_sroa_9_0 = v_parameters_sroa_6_sroa_5_0_i_i; p_v_parameters_sroa_6_i_sroa_10_0 = v_parameters_sroa_6_sroa_6_0_i_i; p_v_parameters_sroa_6_i_sroa_0_sroa_0_0 = v_76; p_v_parameters_sroa_0_0_i49 = v_18_0_i_i; goto L_bb11; }
-L_bb11_i:;
-    v_9_i_sroa_7_sroa_0_sroa_0_1_ph = p_v_9_i_sroa_7_sroa_0_sroa_0_1_ph;
-    v_9_i_sroa_7_sroa_0_sroa_9_1_ph = p_v_9_i_sroa_7_sroa_0_sroa_9_1_ph;
-    v_9_i_sroa_7_sroa_0_sroa_9_0_insert_ext364 = (u32)v_9_i_sroa_7_sroa_0_sroa_9_1_ph;
-    v_9_i_sroa_7_sroa_0_sroa_9_0_insert_shift365 = (u32)(((u32)(v_9_i_sroa_7_sroa_0_sroa_9_0_insert_ext364) << (u32)((8u & 31))) & (((u32)1 << 24) - 1));
-    v_9_i_sroa_7_sroa_0_sroa_0_0_insert_ext361 = (u32)v_9_i_sroa_7_sroa_0_sroa_0_1_ph;
-    v_9_i_sroa_7_sroa_0_sroa_0_0_insert_insert363 = (u32)(((u32)(v_9_i_sroa_7_sroa_0_sroa_9_0_insert_shift365) | (u32)(v_9_i_sroa_7_sroa_0_sroa_0_0_insert_ext361)) & (((u32)1 << 24) - 1));
-    { p_v_9_sroa_7_sroa_0_0_ph = v_9_i_sroa_7_sroa_0_sroa_0_0_insert_insert363; goto L_bb10; }
-L_bb8:;
-    v_4_sroa_7_sroa_0_sroa_9_1_ph = p_v_4_sroa_7_sroa_0_sroa_9_1_ph;
-    v_4_sroa_7_sroa_0_sroa_0_1_ph = p_v_4_sroa_7_sroa_0_sroa_0_1_ph;
-    v_4_sroa_7_sroa_0_sroa_9_0_insert_ext = (u32)v_4_sroa_7_sroa_0_sroa_9_1_ph;
-    v_4_sroa_7_sroa_0_sroa_9_0_insert_shift = (u32)(((u32)(v_4_sroa_7_sroa_0_sroa_9_0_insert_ext) << (u32)((8u & 31))) & (((u32)1 << 24) - 1));
-    v_4_sroa_7_sroa_0_sroa_0_0_insert_ext = (u32)v_4_sroa_7_sroa_0_sroa_0_1_ph;
-    v_4_sroa_7_sroa_0_sroa_0_0_insert_insert = (u32)(((u32)(v_4_sroa_7_sroa_0_sroa_9_0_insert_shift) | (u32)(v_4_sroa_7_sroa_0_sroa_0_0_insert_ext)) & (((u32)1 << 24) - 1));
-    v_77 = v_0 + 8;
-    put_24(v_77, v_4_sroa_7_sroa_0_sroa_0_0_insert_insert);
-    put_P(v_0, (P)0);
-    { goto L_bb7; }
-L_bb11:;
-    v_parameters_sroa_6_i_sroa_6_0 = p_v_parameters_sroa_6_i_sroa_6_0;
-    v_parameters_sroa_6_i_sroa_7_0 = p_v_parameters_sroa_6_i_sroa_7_0;
-    v_parameters_sroa_6_i_sroa_8_0 = p_v_parameters_sroa_6_i_sroa_8_0;
-    v_parameters_sroa_6_i_sroa_9_0 = p_v_parameters_sroa_6_i_sroa_9_0;
-    v_parameters_sroa_6_i_sroa_10_0 = p_v_parameters_sroa_6_i_sroa_10_0;
-    v_parameters_sroa_6_i_sroa_0_sroa_0_0 = p_v_parameters_sroa_6_i_sroa_0_sroa_0_0;
-    v_parameters_sroa_0_0_i49 = p_v_parameters_sroa_0_0_i49;
-    v_9_sroa_7_sroa_0_0_extract_trunc = (u32)((v_15_1_i) & (((u32)1 << 24) - 1));
-    v_15__2 = v_params + 104;
-    v_18_0_i = get_P(v_15__2);
-    v_78 = v_params + 112;
-    v_18_1_i = get_u64(v_78);
-    v_79 = (u64)((u64)(v_18_1_i) + (u64)(18446744073709551615ull));
-    v_or_cond_i75 = v_79 < 39u;
-    if (v_or_cond_i75) { goto L_bb9_i77; } else { p_v_14_sroa_7_sroa_0_sroa_9_1_ph = 0u; p_v_14_sroa_7_sroa_0_sroa_0_1_ph = 5u; goto L_bb12; }
-L_bb9_i77:;
-    v_80 = v_18_0_i + (int64_t)(v_79);
-    v_11_i79 = get_u8(v_80);
-    v_10_i80 = (u8)(v_11_i79 ^ ((u8)1 << 7)) > (u8)(255u ^ ((u8)1 << 7));
-    if (v_10_i80) { p_v_octets_0_tr_i276 = v_18_0_i; p_v_octets_1_tr_i277 = v_79; goto L_tailrecurse_i275; } else { goto L_bb9_preheader_i254; }
-L_bb5_i81:;
-    v_911_not_i253 = v_18_1_i == 0u;
-    if (v_911_not_i253) { goto L_bb8_i; } else { goto L_bb9_preheader_i254; }
-L_bb9_preheader_i254:;
-    v_5_peel_i255 = get_u8(v_18_0_i);
-    v_81 = v_5_peel_i255 == 128u;
-    if (v_81) { p_v_14_sroa_7_sroa_0_sroa_9_1_ph = 0u; p_v_14_sroa_7_sroa_0_sroa_0_1_ph = 5u; goto L_bb12; } else { goto L_bb7_peel_i256; }
-L_bb7_peel_i256:;
-    v_exitcond_peel_not_i257 = v_18_1_i == 1u;
-    if (v_exitcond_peel_not_i257) { goto L_object_identifier_is_identifier_exit84; } else { p_v_iter_sroa_0_012_i259 = 1u; goto L_bb9_i258; }
-L_bb9_i258:;
-    v_iter_sroa_0_012_i259 = p_v_iter_sroa_0_012_i259;
-    v_0_i_i260 = (u64)((u64)(v_iter_sroa_0_012_i259) + (u64)(1u));
-    v_82 = v_18_0_i + (int64_t)(v_iter_sroa_0_012_i259);
-    v_5_i261 = get_u8(v_82);
-    v_83 = v_5_i261 == 128u;
-    if (v_83) { goto L_bb2_i2_i268; } else { goto L_bb7_i262; }
-L_bb2_i2_i268:;
-    v_4_i3_i269 = (u64)((u64)(v_iter_sroa_0_012_i259) + (u64)(18446744073709551615ull));
-    v_6_i4_i270 = v_4_i3_i269 < v_18_1_i;
-    if (v_6_i4_i270) { goto L_object_identifier_is_start_exit9_i272; } else { p_v_4_i3_i269_lcssa = v_4_i3_i269; goto L_panic_i5_i271; }
-L_panic_i5_i271:;
-    v_4_i3_i269_lcssa = p_v_4_i3_i269_lcssa;
-    TRAP();
-    TRAP();
-L_object_identifier_is_start_exit9_i272:;
-    v_84 = v_18_0_i + (int64_t)(v_4_i3_i269);
-    v_3_i7_i273 = get_u8(v_84);
-    v_85 = (u8)(v_3_i7_i273 ^ ((u8)1 << 7)) > (u8)(255u ^ ((u8)1 << 7));
-    if (v_85) { p_v_14_sroa_7_sroa_0_sroa_9_1_ph = 0u; p_v_14_sroa_7_sroa_0_sroa_0_1_ph = 5u; goto L_bb12; } else { goto L_bb7_i262; }
-L_bb7_i262:;
-    v_exitcond_not_i263 = v_0_i_i260 == v_18_1_i;
-    if (v_exitcond_not_i263) { goto L_object_identifier_is_identifier_exit84; } else { p_v_iter_sroa_0_012_i259 = v_0_i_i260; goto L_bb9_i258; }
-L_tailrecurse_i275:;
-    v_octets_0_tr_i276 = p_v_octets_0_tr_i276;
-    v_octets_1_tr_i277 = p_v_octets_1_tr_i277;
-    v_3_i = v_octets_1_tr_i277 > 7u;
-    if (v_3_i) { goto L_bb6_i303; } else { goto L_bb1_i278; }
-L_bb1_i278:;
-    v_5_i279 = v_octets_1_tr_i277 > 3u;
-    if (v_5_i279) { goto L_bb5_i291; } else { goto L_bb2_i280; }
-L_bb6_i303:;
-    v_27_i304 = get_u8(v_octets_0_tr_i276);
-    v_26_i305 = v_27_i304 != 128u;
-    v_86 = v_octets_0_tr_i276 + 1;
-    v_29_i306 = get_u8(v_86);
-    v_28_i307 = v_29_i306 != 128u;
-    v_25_i308 = (u1)(((u32)(v_26_i305) & (u32)(v_28_i307)) & 1);
-    v_87 = v_octets_0_tr_i276 + 2;
-    v_31_i309 = get_u8(v_87);
-    v_30_i310 = v_31_i309 != 128u;
-    v_24_i311 = (u1)(((u32)(v_25_i308) & (u32)(v_30_i310)) & 1);
-    v_88 = v_octets_0_tr_i276 + 3;
-    v_33_i312 = get_u8(v_88);
-    v_32_i313 = v_33_i312 != 128u;
-    v_23_i314 = (u1)(((u32)(v_24_i311) & (u32)(v_32_i313)) & 1);
-    v_89 = v_octets_0_tr_i276 + 4;
-    v_35_i315 = get_u8(v_89);
-    v_34_i316 = v_35_i315 != 128u;
-    v_22_i317 = (u1)(((u32)(v_23_i314) & (u32)(v_34_i316)) & 1);
-    v_90 = v_octets_0_tr_i276 + 5;
-    v_37_i318 = get_u8(v_90);
-    v_36_i319 = v_37_i318 != 128u;
-    v_21_i320 = (u1)(((u32)(v_22_i317) & (u32)(v_36_i319)) & 1);
-    v_91 = v_octets_0_tr_i276 + 6;
-    v_39_i321 = get_u8(v_91);
-    v_38_i322 = v_39_i321 != 128u;
-    v_20_i323 = (u1)(((u32)(v_21_i320) & (u32)(v_38_i322)) & 1);
-    v_92 = v_octets_0_tr_i276 + 7;
-    v_41_i324 = get_u8(v_92);
-    v_40_i325 = v_41_i324 != 128u;
-    v_eight_i326 = (u1)(((u32)(v_20_i323) & (u32)(v_40_i325)) & 1);
-    if (v_eight_i326) { p_v_sink10_i285 = 18446744073709551608ull; p_v_sink_i286 = 8u; goto L_tailrecurse_backedge_i284; } else { goto L_bb5_i81; }
-L_bb2_i280:;
-    v_9_not_i281 = v_octets_1_tr_i277 == 0u;
-    if (v_9_not_i281) { goto L_bb8_i; } else { goto L_bb4_i282; }
-L_bb5_i291:;
-    v_51_i292 = get_u8(v_octets_0_tr_i276);
-    v_50_i293 = v_51_i292 != 128u;
-    v_93 = v_octets_0_tr_i276 + 1;
-    v_53_i294 = get_u8(v_93);
-    v_52_i295 = v_53_i294 != 128u;
-    v_49_i296 = (u1)(((u32)(v_50_i293) & (u32)(v_52_i295)) & 1);
-    v_94 = v_octets_0_tr_i276 + 2;
-    v_55_i297 = get_u8(v_94);
-    v_54_i298 = v_55_i297 != 128u;
-    v_48_i299 = (u1)(((u32)(v_49_i296) & (u32)(v_54_i298)) & 1);
-    v_95 = v_octets_0_tr_i276 + 3;
-    v_57_i300 = get_u8(v_95);
-    v_56_i301 = v_57_i300 != 128u;
-    v_four_i302 = (u1)(((u32)(v_48_i299) & (u32)(v_56_i301)) & 1);
-    if (v_four_i302) { p_v_sink10_i285 = 18446744073709551612ull; p_v_sink_i286 = 4u; goto L_tailrecurse_backedge_i284; } else { goto L_bb5_i81; }
-L_bb4_i282:;
-    v_60_i283 = get_u8(v_octets_0_tr_i276);
-    v_96 = v_60_i283 == 128u;
-    if (v_96) { goto L_bb5_i81; } else { p_v_sink10_i285 = 18446744073709551615ull; p_v_sink_i286 = 1u; goto L_tailrecurse_backedge_i284; }
-L_tailrecurse_backedge_i284:;
-    v_sink10_i285 = p_v_sink10_i285;
-    v_sink_i286 = p_v_sink_i286;
-    v_later_1_i287 = (u64)((u64)(v_sink10_i285) + (u64)(v_octets_1_tr_i277));
-    v_later_0_i288 = v_octets_0_tr_i276 + (int64_t)(v_sink_i286);
-    { p_v_octets_0_tr_i276 = v_later_0_i288; p_v_octets_1_tr_i277 = v_later_1_i287; goto L_tailrecurse_i275; }
-L_object_identifier_is_identifier_exit84:;
-    if (v_10_i80) { goto L_bb8_i; } else { p_v_14_sroa_7_sroa_0_sroa_9_1_ph = 0u; p_v_14_sroa_7_sroa_0_sroa_0_1_ph = 5u; goto L_bb12; }
-L_bb8_i:;
-    v_97 = v_params + 120;
-    v_98 = get_u8(v_97);
-    v_7_i = (u1)((v_98) & 1);
-    if (v_7_i) { goto L_bb1_i; } else { p_v_parameters_sroa_6_sroa_5_0_i = 0u; p_v_parameters_sroa_6_sroa_6_0_i = 0u; p_v_parameters_sroa_6_sroa_0_sroa_0_0_i = 0u; p_v_parameters_sroa_0_0_i = (P)0; p_v_parameters_sroa_6_sroa_0_sroa_5_0_i = 0u; goto L_bb13; }
-L_bb1_i:;
-    v_99 = v_params + 121;
-    v_10_i = get_u8(v_99);
-    v_28_i = (u8)((u32)(v_10_i) & (u32)(31u));
-    v_100 = v_28_i == 31u;
-    v_101 = (u8)((u32)(v_10_i) & (u32)(223u));
-    v_102 = v_101 == 0u;
-    v_or_cond3_i = (u1)(((u32)(v_100) | (u32)(v_102)) & 1);
-    if (v_or_cond3_i) { p_v_14_sroa_7_sroa_0_sroa_9_1_ph = v_10_i; p_v_14_sroa_7_sroa_0_sroa_0_1_ph = 11u; goto L_bb12; } else { goto L_bb14_i; }
-L_bb14_i:;
-    v_103 = v_params + 136;
-    v_19_1_i = get_u64(v_103);
-    v_35_i = v_19_1_i > 4294967295ull;
-    if (v_35_i) { p_v_14_sroa_7_sroa_0_sroa_9_1_ph = v_10_i; p_v_14_sroa_7_sroa_0_sroa_0_1_ph = 7u; goto L_bb12; } else { goto L_bb16_i; }
-L_bb16_i:;
-    v_104 = v_params + 128;
-    v_19_0_i = get_P(v_104);
-    v_41_i = (u64)v_10_i;
-    v_39_sroa_4_sroa_0_0_extract_trunc_i = (u8)(v_19_1_i);
-    v_39_sroa_4_sroa_4_0_extract_shift_i = (u64)((u64)(v_19_1_i) >> (u64)((8u & 63)));
-    v_39_sroa_4_sroa_4_0_extract_trunc_i = (u16)(v_39_sroa_4_sroa_4_0_extract_shift_i);
-    v_39_sroa_4_sroa_5_0_extract_shift_i = (u64)((u64)(v_19_1_i) >> (u64)((24u & 63)));
-    v_39_sroa_4_sroa_5_0_extract_trunc_i = (u64)((v_39_sroa_4_sroa_5_0_extract_shift_i) & (((u64)1 << 40) - 1));
-    { p_v_parameters_sroa_6_sroa_5_0_i = v_39_sroa_4_sroa_5_0_extract_trunc_i; p_v_parameters_sroa_6_sroa_6_0_i = v_41_i; p_v_parameters_sroa_6_sroa_0_sroa_0_0_i = v_39_sroa_4_sroa_0_0_extract_trunc_i; p_v_parameters_sroa_0_0_i = v_19_0_i; p_v_parameters_sroa_6_sroa_0_sroa_5_0_i = v_39_sroa_4_sroa_4_0_extract_trunc_i; goto L_bb13; }
-L_bb10:;
-    v_9_sroa_7_sroa_0_0_ph = p_v_9_sroa_7_sroa_0_0_ph;
-    v_105 = v_0 + 8;
-    put_24(v_105, v_9_sroa_7_sroa_0_0_ph);
-    put_P(v_0, (P)0);
-    { goto L_bb7; }
-L_bb13:;
-    v_parameters_sroa_6_sroa_5_0_i = p_v_parameters_sroa_6_sroa_5_0_i;
-    v_parameters_sroa_6_sroa_6_0_i = p_v_parameters_sroa_6_sroa_6_0_i;
-    v_parameters_sroa_6_sroa_0_sroa_0_0_i = p_v_parameters_sroa_6_sroa_0_sroa_0_0_i;
-    v_parameters_sroa_0_0_i = p_v_parameters_sroa_0_0_i;
-    v_parameters_sroa_6_sroa_0_sroa_5_0_i = p_v_parameters_sroa_6_sroa_0_sroa_5_0_i;
-    v_106 = (u32)((v_18_1_i) & (((u32)1 << 24) - 1));
-    put_P(v_0, v_18_0_i8);
-    v_2_sroa_5_0_0_sroa_idx = v_0 + 8;
-    put_24(v_2_sroa_5_0_0_sroa_idx, v_27);
-    v_2_sroa_6_0_0_sroa_idx = v_0 + 11;
-    put_40(v_2_sroa_6_0_0_sroa_idx, 0u);
-    v_2_sroa_6_sroa_5_0_2_sroa_6_0_0_sroa_idx_sroa_idx = v_0 + 16;
-    put_P(v_2_sroa_6_sroa_5_0_2_sroa_6_0_0_sroa_idx_sroa_idx, v_parameters_sroa_0_0_i18);
-    v_2_sroa_6_sroa_6_0_2_sroa_6_0_0_sroa_idx_sroa_idx = v_0 + 24;
-    put_u8(v_2_sroa_6_sroa_6_0_2_sroa_6_0_0_sroa_idx_sroa_idx, v_parameters_sroa_6_sroa_0_sroa_0_0_i17);
-    v_2_sroa_6_sroa_7_0_2_sroa_6_0_0_sroa_idx_sroa_idx = v_0 + 25;
-    put_u16(v_2_sroa_6_sroa_7_0_2_sroa_6_0_0_sroa_idx_sroa_idx, v_parameters_sroa_6_sroa_0_sroa_5_0_i19);
-    v_2_sroa_6_sroa_8_0_2_sroa_6_0_0_sroa_idx_sroa_idx = v_0 + 27;
-    put_40(v_2_sroa_6_sroa_8_0_2_sroa_6_0_0_sroa_idx_sroa_idx, v_parameters_sroa_6_sroa_5_0_i15);
-    v_2_sroa_6_sroa_9_0_2_sroa_6_0_0_sroa_idx_sroa_idx = v_0 + 32;
-    put_u64(v_2_sroa_6_sroa_9_0_2_sroa_6_0_0_sroa_idx_sroa_idx, v_parameters_sroa_6_sroa_6_0_i16);
-    v_2_sroa_7_0_0_sroa_idx = v_0 + 40;
-    put_P(v_2_sroa_7_0_0_sroa_idx, v_15_0_i);
-    v_2_sroa_7_sroa_5_0_2_sroa_7_0_0_sroa_idx_sroa_idx = v_0 + 48;
-    put_24(v_2_sroa_7_sroa_5_0_2_sroa_7_0_0_sroa_idx_sroa_idx, v_9_sroa_7_sroa_0_0_extract_trunc);
-    v_2_sroa_7_sroa_6_0_2_sroa_7_0_0_sroa_idx_sroa_idx = v_0 + 51;
-    put_40(v_2_sroa_7_sroa_6_0_2_sroa_7_0_0_sroa_idx_sroa_idx, 0u);
-    v_2_sroa_7_sroa_6_sroa_5_0_2_sroa_7_sroa_6_0_2_sroa_ = v_0 + 56;
-    put_P(v_2_sroa_7_sroa_6_sroa_5_0_2_sroa_7_sroa_6_0_2_sroa_, v_parameters_sroa_0_0_i49);
-    v_2_sroa_7_sroa_6_sroa_6_0_2_sroa_7_sroa_6_0_2_sroa_ = v_0 + 64;
-    put_24(v_2_sroa_7_sroa_6_sroa_6_0_2_sroa_7_sroa_6_0_2_sroa_, v_parameters_sroa_6_i_sroa_0_sroa_0_0);
-    v_2_sroa_7_sroa_6_sroa_6_sroa_5_0_2_sroa_7_sroa_6_sr = v_0 + 67;
-    put_40(v_2_sroa_7_sroa_6_sroa_6_sroa_5_0_2_sroa_7_sroa_6_sr, 0u);
-    v_2_sroa_7_sroa_6_sroa_6_sroa_6_0_2_sroa_7_sroa_6_sr = v_0 + 72;
-    put_P(v_2_sroa_7_sroa_6_sroa_6_sroa_6_0_2_sroa_7_sroa_6_sr, v_parameters_sroa_6_i_sroa_6_0);
-    v_2_sroa_7_sroa_6_sroa_6_sroa_7_0_2_sroa_7_sroa_6_sr = v_0 + 80;
-    put_u8(v_2_sroa_7_sroa_6_sroa_6_sroa_7_0_2_sroa_7_sroa_6_sr, v_parameters_sroa_6_i_sroa_7_0);
-    v_2_sroa_7_sroa_6_sroa_6_sroa_8_0_2_sroa_7_sroa_6_sr = v_0 + 81;
-    put_u16(v_2_sroa_7_sroa_6_sroa_6_sroa_8_0_2_sroa_7_sroa_6_sr, v_parameters_sroa_6_i_sroa_8_0);
-    v_2_sroa_7_sroa_6_sroa_6_sroa_9_0_2_sroa_7_sroa_6_sr = v_0 + 83;
-    put_40(v_2_sroa_7_sroa_6_sroa_6_sroa_9_0_2_sroa_7_sroa_6_sr, v_parameters_sroa_6_i_sroa_9_0);
-    v_2_sroa_7_sroa_6_sroa_6_sroa_10_0_2_sroa_7_sroa_6_s = v_0 + 88;
-    put_u64(v_2_sroa_7_sroa_6_sroa_6_sroa_10_0_2_sroa_7_sroa_6_s, v_parameters_sroa_6_i_sroa_10_0);
-    v_2_sroa_8_0_0_sroa_idx = v_0 + 96;
-    put_P(v_2_sroa_8_0_0_sroa_idx, v_18_0_i);
-    v_2_sroa_8_sroa_5_0_2_sroa_8_0_0_sroa_idx_sroa_idx = v_0 + 104;
-    put_24(v_2_sroa_8_sroa_5_0_2_sroa_8_0_0_sroa_idx_sroa_idx, v_106);
-    v_2_sroa_8_sroa_6_0_2_sroa_8_0_0_sroa_idx_sroa_idx = v_0 + 107;
-    put_40(v_2_sroa_8_sroa_6_0_2_sroa_8_0_0_sroa_idx_sroa_idx, 0u);
-    v_2_sroa_8_sroa_6_sroa_5_0_2_sroa_8_sroa_6_0_2_sroa_ = v_0 + 112;
-    put_P(v_2_sroa_8_sroa_6_sroa_5_0_2_sroa_8_sroa_6_0_2_sroa_, v_parameters_sroa_0_0_i);
-    v_2_sroa_8_sroa_6_sroa_6_0_2_sroa_8_sroa_6_0_2_sroa_ = v_0 + 120;
-    put_u8(v_2_sroa_8_sroa_6_sroa_6_0_2_sroa_8_sroa_6_0_2_sroa_, v_parameters_sroa_6_sroa_0_sroa_0_0_i);
-    v_2_sroa_8_sroa_6_sroa_7_0_2_sroa_8_sroa_6_0_2_sroa_ = v_0 + 121;
-    put_u16(v_2_sroa_8_sroa_6_sroa_7_0_2_sroa_8_sroa_6_0_2_sroa_, v_parameters_sroa_6_sroa_0_sroa_5_0_i);
-    v_2_sroa_8_sroa_6_sroa_8_0_2_sroa_8_sroa_6_0_2_sroa_ = v_0 + 123;
-    put_40(v_2_sroa_8_sroa_6_sroa_8_0_2_sroa_8_sroa_6_0_2_sroa_, v_parameters_sroa_6_sroa_5_0_i);
-    v_2_sroa_8_sroa_6_sroa_9_0_2_sroa_8_sroa_6_0_2_sroa_ = v_0 + 128;
-    put_u64(v_2_sroa_8_sroa_6_sroa_9_0_2_sroa_8_sroa_6_0_2_sroa_, v_parameters_sroa_6_sroa_6_0_i);
-    { goto L_bb7; }
-L_bb12:;
-    v_14_sroa_7_sroa_0_sroa_9_1_ph = p_v_14_sroa_7_sroa_0_sroa_9_1_ph;
-    v_14_sroa_7_sroa_0_sroa_0_1_ph = p_v_14_sroa_7_sroa_0_sroa_0_1_ph;
-    v_14_sroa_7_sroa_0_sroa_9_0_insert_ext = (u32)v_14_sroa_7_sroa_0_sroa_9_1_ph;
-    v_14_sroa_7_sroa_0_sroa_9_0_insert_shift = (u32)(((u32)(v_14_sroa_7_sroa_0_sroa_9_0_insert_ext) << (u32)((8u & 31))) & (((u32)1 << 24) - 1));
-    v_14_sroa_7_sroa_0_sroa_0_0_insert_ext = (u32)v_14_sroa_7_sroa_0_sroa_0_1_ph;
-    v_14_sroa_7_sroa_0_sroa_0_0_insert_insert = (u32)(((u32)(v_14_sroa_7_sroa_0_sroa_9_0_insert_shift) | (u32)(v_14_sroa_7_sroa_0_sroa_0_0_insert_ext)) & (((u32)1 << 24) - 1));
-    v_107 = v_0 + 8;
-    put_24(v_107, v_14_sroa_7_sroa_0_sroa_0_0_insert_insert);
-    put_P(v_0, (P)0);
-    { goto L_bb7; }
-L_bb7:;
-    return;
-}
 static ONCE u32 proved_oaep_params_decode(P v_encoding, u64 v_encoding_len, P v_params) {
     ALIGNED(8) unsigned char m_v_9_i_i_i[136] = {0};
     ALIGNED(8) unsigned char m_v_3_i_i[136] = {0};
@@ -12078,21 +10881,67 @@ L_bb7:;
     v_0_sroa_0_0 = p_v_0_sroa_0_0;
     return v_0_sroa_0_0;
 }
-static u32 f_oaep_write_others(P v_params, P v_out_0, u64 v_out_1, P v_len) {
+static u32 f_oaep_write_others(P v_params, u1 v_place_0, P v_out_0, u64 v_out_1, P v_len) {
+    ALIGNED(8) unsigned char m_v_writer_i_i393[24] = {0};
     ALIGNED(8) unsigned char m_v_writer_i_i_i[24] = {0};
-    ALIGNED(8) unsigned char m_v_9[136] = {0};
-    ALIGNED(8) unsigned char m_v_7[136] = {0};
+    ALIGNED(8) unsigned char m_v_made_i[136] = {0};
     u32 p_v_0_sroa_5_sroa_0_0_i_i;
     u32 p_v_0_sroa_0_0_i9_i;
-    u64 p_v_writer_i36_i_sroa_12_0;
-    u64 p_v_writer_i36_i_sroa_12_1;
-    u64 p_v_writer_i_i_sroa_12_0;
-    u64 p_v_writer_i_i_sroa_12_1;
-    u1 p_v_0_sroa_0_0_shrunk_i_i_i;
-    u1 p_v_0_sroa_0_0_i141;
-    u1 p_v_0_sroa_0_0_i120168_i;
-    u8 p_v_145;
+    u64 p_v_writer_i36_i_sroa_14_0;
+    u64 p_v_writer_i36_i_sroa_14_1;
+    u64 p_v_writer_i_i_sroa_14_0;
+    u64 p_v_writer_i_i_sroa_14_1;
+    u64 p_v_iter_sroa_0_012_i_i;
+    u64 p_v_4_i3_i_i_lcssa;
+    P p_v_octets_0_tr_i_i;
+    u64 p_v_octets_1_tr_i_i;
+    u64 p_v_sink10_i_i;
     u64 p_v_sink_i_i;
+    u64 p_v_parameters_sroa_6_sroa_5_0_i15_i;
+    u64 p_v_parameters_sroa_6_sroa_6_0_i16_i;
+    u8 p_v_parameters_sroa_6_sroa_0_sroa_0_0_i17_i;
+    P p_v_parameters_sroa_0_0_i18_i;
+    u16 p_v_parameters_sroa_6_sroa_0_sroa_5_0_i19_i;
+    u64 p_v_iter_sroa_0_012_i107_i;
+    u64 p_v_4_i3_i117_i_lcssa;
+    P p_v_octets_0_tr_i124_i;
+    u64 p_v_octets_1_tr_i125_i;
+    u64 p_v_sink10_i134_i;
+    u64 p_v_sink_i135_i;
+    u64 p_v_iter_sroa_0_012_i183_i;
+    u64 p_v_4_i3_i193_i_lcssa;
+    P p_v_octets_0_tr_i200_i;
+    u64 p_v_octets_1_tr_i201_i;
+    u64 p_v_sink10_i210_i;
+    u64 p_v_sink_i211_i;
+    u64 p_v_parameters_sroa_6_sroa_5_0_i_i_i;
+    u64 p_v_parameters_sroa_6_sroa_6_0_i_i_i;
+    u8 p_v_parameters_sroa_6_sroa_0_sroa_0_0_i_i_i;
+    P p_v_parameters_sroa_0_0_i_i_i;
+    u16 p_v_parameters_sroa_6_sroa_0_sroa_5_0_i_i_i;
+    P p_v_151;
+    u8 p_v_parameters_sroa_6_i_sroa_7_0_i;
+    u16 p_v_parameters_sroa_6_i_sroa_8_0_i;
+    u64 p_v_parameters_sroa_6_i_sroa_9_0_i;
+    u64 p_v_8_sroa_4_0_copyload_i_i565;
+    u32 p_v_parameters_sroa_6_i_sroa_0_sroa_0_0_i;
+    P p_v_152;
+    u64 p_v_iter_sroa_0_012_i259_i;
+    u64 p_v_4_i3_i269_i_lcssa;
+    P p_v_octets_0_tr_i276_i;
+    u64 p_v_octets_1_tr_i277_i;
+    u64 p_v_sink10_i285_i;
+    u64 p_v_sink_i286_i;
+    u64 p_v_parameters_sroa_6_sroa_5_0_i_i;
+    u64 p_v_8_sroa_4_0_copyload_i379;
+    u8 p_v_parameters_sroa_6_sroa_0_sroa_0_0_i_i;
+    P p_v_180;
+    u16 p_v_parameters_sroa_6_sroa_0_sroa_5_0_i_i;
+    u1 p_v_0_sroa_0_0_shrunk_i_i_i196;
+    u1 p_v_0_sroa_0_0_i524;
+    u1 p_v_0_sroa_0_0_i120168_i;
+    u8 p_v_241;
+    u64 p_v_sink_i_i212;
     u64 p_v_0_sroa_0_0_i705_i_i_i;
     u64 p_v_10_sroa_0_0_i_i_i76_i_i_i;
     u64 p_v_sink47_i_i;
@@ -12106,17 +10955,63 @@ static u32 f_oaep_write_others(P v_params, P v_out_0, u64 v_out_1, P v_len) {
     u64 p_v_0_sroa_0_0_i_i_i_i;
     u64 p_v_0_sroa_0_0_i_i18_i_i;
     u64 p_v_0_sroa_31_0_in_i46_i_i;
-    u32 p_v_230;
-    u32 p_v_0_sroa_0_1_i157_i;
+    u32 p_v_308;
+    u1 p_v_0_sroa_0_0_shrunk_i_i_i;
+    u1 p_v_0_sroa_0_0_i348668;
+    u8 p_v_342;
+    u64 p_v_sink_i;
+    u64 p_v_0_sroa_0_0_i705_i_i;
+    u64 p_v_10_sroa_0_0_i_i_i76_i_i;
+    u64 p_v_sink168_i;
+    u64 p_v_sink169_i;
+    u64 p_v_sink170_i;
+    u64 p_v_0_sroa_0_0_i437_i_i;
+    u64 p_v_10_sroa_0_0_i_i_i209_i_i;
+    u64 p_v_sink171_i;
+    u64 p_v_0_sroa_0_0_i170_i_i;
+    u64 p_v_sink172_i;
+    u1 p_v_0_sroa_0_0_i348671;
+    u64 p_v_0_sroa_0_0_i_i21_i;
+    u64 p_v_396;
+    u64 p_v_10_sroa_0_0_i_i677685;
+    u64 p_v_10_sroa_0_0_i_i_ph691695;
+    u64 p_v_10_sroa_0_0_i_i_ph_ph701705;
+    u64 p_v_0_i_i_i554_i_i_i_i_pre_phi;
+    u64 p_v_pre_phi;
+    u64 p_v_4_1_i_i_i548_i_i_i_i;
+    u64 p_v_sink_i_i_i;
+    u64 p_v_0_sroa_0_0_i705_i_i_i_i;
+    u64 p_v_10_sroa_0_0_i_i_i76_i_i_i_i;
+    u64 p_v_sink61_i_i_i;
+    u64 p_v_sink62_i_i_i;
+    u64 p_v_sink63_i_i_i;
+    u64 p_v_0_sroa_0_0_i437_i_i_i_i;
+    u64 p_v_10_sroa_0_0_i_i_i209_i_i_i_i;
+    u64 p_v_sink64_i_i_i;
+    u64 p_v_0_sroa_0_0_i170_i_i_i_i;
+    u64 p_v_sink65_i_i_i;
+    u64 p_v_0_sroa_0_0_i_i_i_i29_i;
+    u64 p_v_0_sroa_0_0_i_i38_i_i_i;
+    u64 p_v_0_sroa_31_0_in_i_i_ph_i_i;
+    u64 p_v_sroa_09_0_insert_insert60_i_i_i;
+    u64 p_v_0_sroa_31_0_in_i_ph_i;
+    u64 p_v_sink_i7_i_i;
+    u64 p_v_0_sroa_0_0_insert_insert_i155_i;
+    P p_v_48_0_i_i_i;
+    u64 p_v_11_i27_i_i;
+    u64 p_v_start1_i_i_i123_sink_i_i;
+    u32 p_v_492;
+    u64 p_v_0_sroa_0_0_insert_insert_i167_i;
+    u32 p_v_0_sroa_0_0_i3;
     u32 p_v_0_sroa_0_0;
-    u32 p_v_0_sroa_0_1;
-    u64 p_v_writer_i36_i_sroa_12_1_sink;
-    u64 p_v_23_i79_i_sink_in;
-    u64 p_v_0_sroa_5_0_i;
+    u64 p_v_start1_i_i102_i_sink;
+    u64 p_v_59_i98_i_sink_in_in;
+    u64 p_v_0_sroa_5_0_i_ph_ph;
     u64 p_v_0_sroa_5_0_i_ph;
+    u64 p_v_0_sroa_5_0_i;
+    P v_writer_i_i393;
     P v_writer_i_i_i;
-    P v_9;
-    P v_7;
+    P v_made_i;
     P v_8_i;
     P v_0;
     u8 v_1;
@@ -12126,10 +11021,10 @@ static u32 f_oaep_write_others(P v_params, P v_out_0, u64 v_out_1, P v_len) {
     u1 v_4;
     P v_5;
     u8 v_6;
-    u1 v_7__2;
+    u1 v_7;
     u1 v_not;
     u1 v_8;
-    P v_9__2;
+    P v_9;
     u8 v_10;
     u1 v_16_i;
     P v_11;
@@ -12154,6 +11049,7 @@ static u32 f_oaep_write_others(P v_params, P v_out_0, u64 v_out_1, P v_len) {
     P v_15_0_i;
     P v_19;
     u64 v_15_1_i;
+    u64 v_i;
     u1 v_9_not_i;
     u1 v_20;
     u1 v_or_cond;
@@ -12225,7 +11121,7 @@ static u32 f_oaep_write_others(P v_params, P v_out_0, u64 v_out_1, P v_len) {
     u8 v_36_i_i_i;
     u1 v_39;
     u1 v_40;
-    u1 v_or_cond213;
+    u1 v_or_cond645;
     u8 v_22_i37_i_i;
     u1 v_21_i38_i_i;
     P v_41;
@@ -12260,7 +11156,7 @@ static u32 f_oaep_write_others(P v_params, P v_out_0, u64 v_out_1, P v_len) {
     u8 v_38_i61_i_i;
     u1 v_37_i62_i_i;
     u1 v_49;
-    u1 v_or_cond214;
+    u1 v_or_cond646;
     u8 v_22_i10_i_i;
     u1 v_21_i11_i_i;
     P v_50;
@@ -12316,60 +11212,70 @@ static u32 f_oaep_write_others(P v_params, P v_out_0, u64 v_out_1, P v_len) {
     u64 v_spec_select_i40_i;
     u64 v_28_sroa_0_0_i43_i;
     u64 v_10_i44_i;
+    u64 v_spec_select12_i49_i;
     u64 v_len_i50_i;
     u1 v_16_i51_i;
-    u64 v_start1_i5_i;
     u1 v_15_not_i9_i;
+    u64 v_start1_i5_i;
     P v_66;
-    P v_9_i14_sroa_4_0_sroa_idx;
-    P v_9_i14_sroa_5_0_sroa_idx;
-    P v_9_i14_sroa_6_0_sroa_idx;
-    P v_9_i14_sroa_7_0_sroa_idx;
-    P v_9_i14_sroa_8_0_sroa_idx;
-    P v_9_i14_sroa_9_0_sroa_idx;
-    P v_9_i14_sroa_10_0_sroa_idx;
-    P v_9_i14_sroa_11_0_sroa_idx;
-    P v_9_i14_sroa_12_0_sroa_idx;
-    P v_9_i14_sroa_13_0_sroa_idx;
-    P v_9_i14_sroa_14_0_sroa_idx;
-    P v_9_i14_sroa_15_0_sroa_idx;
-    P v_9_i14_sroa_16_0_sroa_idx;
-    P v_9_i14_sroa_17_0_sroa_idx;
-    P v_9_i14_sroa_18_0_sroa_idx;
-    P v_9_i14_sroa_19_0_sroa_idx;
-    P v_9_i14_sroa_20_0_sroa_idx;
-    P v_9_i14_sroa_21_0_sroa_idx;
-    P v_9_i14_sroa_22_0_sroa_idx;
-    P v_9_i14_sroa_23_0_sroa_idx;
-    P v_9_i14_sroa_24_0_sroa_idx;
-    P v_9_i14_sroa_25_0_sroa_idx;
-    P v_9_i14_sroa_26_0_sroa_idx;
-    P v_9_i14_sroa_27_0_sroa_idx;
-    P v_9_i14_sroa_28_0_sroa_idx;
-    P v_9_i14_sroa_29_0_sroa_idx;
-    P v_9_i14_sroa_30_0_sroa_idx;
-    u64 v_writer_i36_i_sroa_12_0;
-    u1 v_15_not_i9_i59;
-    u64 v_start1_i5_i55;
+    P v_9_i17_sroa_4_0_sroa_idx;
+    P v_9_i17_sroa_5_0_sroa_idx;
+    P v_9_i17_sroa_6_0_sroa_idx;
+    P v_9_i17_sroa_7_0_sroa_idx;
+    P v_9_i17_sroa_8_0_sroa_idx;
+    P v_9_i17_sroa_9_0_sroa_idx;
+    P v_9_i17_sroa_10_0_sroa_idx;
+    P v_9_i17_sroa_11_0_sroa_idx;
+    P v_9_i17_sroa_12_0_sroa_idx;
+    P v_9_i17_sroa_13_0_sroa_idx;
+    P v_9_i17_sroa_14_0_sroa_idx;
+    P v_9_i17_sroa_15_0_sroa_idx;
+    P v_9_i17_sroa_16_0_sroa_idx;
+    P v_9_i17_sroa_17_0_sroa_idx;
+    P v_9_i17_sroa_18_0_sroa_idx;
+    P v_9_i17_sroa_19_0_sroa_idx;
+    P v_9_i17_sroa_20_0_sroa_idx;
+    P v_9_i17_sroa_21_0_sroa_idx;
+    P v_9_i17_sroa_22_0_sroa_idx;
+    P v_9_i17_sroa_23_0_sroa_idx;
+    P v_9_i17_sroa_24_0_sroa_idx;
+    P v_9_i17_sroa_25_0_sroa_idx;
+    P v_9_i17_sroa_26_0_sroa_idx;
+    P v_9_i17_sroa_27_0_sroa_idx;
+    P v_9_i17_sroa_28_0_sroa_idx;
+    P v_9_i17_sroa_29_0_sroa_idx;
+    P v_9_i17_sroa_30_0_sroa_idx;
+    u64 v_writer_i36_i_sroa_14_0;
+    u64 v_start1_i5_i59;
+    u1 v_8_not_i6_i60;
+    u1 v_15_not_i9_i63;
     P v_67;
-    P v_9_i50_sroa_4_0_sroa_idx;
-    P v_9_i50_sroa_5_0_sroa_idx;
-    P v_9_i50_sroa_6_0_sroa_idx;
-    P v_9_i50_sroa_7_0_sroa_idx;
-    P v_9_i50_sroa_8_0_sroa_idx;
-    P v_9_i50_sroa_9_0_sroa_idx;
-    P v_9_i50_sroa_10_0_sroa_idx;
-    P v_9_i50_sroa_11_0_sroa_idx;
-    P v_9_i50_sroa_12_0_sroa_idx;
-    P v_9_i50_sroa_13_0_sroa_idx;
-    P v_9_i50_sroa_14_0_sroa_idx;
-    P v_9_i50_sroa_15_0_sroa_idx;
-    P v_9_i50_sroa_16_0_sroa_idx;
-    P v_9_i50_sroa_17_0_sroa_idx;
-    u64 v_writer_i36_i_sroa_12_1;
+    P v_9_i54_sroa_4_0_sroa_idx;
+    P v_9_i54_sroa_5_0_sroa_idx;
+    P v_9_i54_sroa_6_0_sroa_idx;
+    P v_9_i54_sroa_7_0_sroa_idx;
+    P v_9_i54_sroa_8_0_sroa_idx;
+    P v_9_i54_sroa_9_0_sroa_idx;
+    P v_9_i54_sroa_10_0_sroa_idx;
+    P v_9_i54_sroa_11_0_sroa_idx;
+    P v_9_i54_sroa_12_0_sroa_idx;
+    P v_9_i54_sroa_13_0_sroa_idx;
+    P v_9_i54_sroa_14_0_sroa_idx;
+    P v_9_i54_sroa_15_0_sroa_idx;
+    P v_9_i54_sroa_16_0_sroa_idx;
+    P v_9_i54_sroa_17_0_sroa_idx;
+    u64 v_writer_i36_i_sroa_14_1;
+    u64 v_start1_i17_i83_i;
     u1 v_8_not_i18_i84_i;
     u1 v_15_not_i21_i87_i;
-    u8 v_17_i7;
+    P v_68;
+    u16 v_69;
+    u16 v_22_i35_i_sroa_0_sroa_4_0_insert_shift;
+    u16 v_22_i35_i_sroa_0_sroa_0_0_insert_insert;
+    u1 v_8_not_i_i103_i;
+    u64 v_start1_i_i102_i;
+    u1 v_15_not_i_i106_i;
+    u8 v_17_i10;
     u8 v_24_i;
     u8 v_25_i;
     u64 v_spec_select_i_i;
@@ -12377,13 +11283,14 @@ static u32 f_oaep_write_others(P v_params, P v_out_0, u64 v_out_1, P v_len) {
     u64 v_10_i_i;
     u64 v_9_i_i;
     u64 v_count_i_i;
+    u64 v_spec_select12_i_i;
     u64 v_len_i_i;
     u1 v_16_i13_i;
     u64 v_start1_i47_i_i;
-    P v_68;
+    P v_70;
     u64 v_start1_i32_i_i;
     u1 v_15_not_i36_i_i;
-    P v_69;
+    P v_71;
     P v_later_i_sroa_4_0_sroa_idx;
     P v_later_i_sroa_5_0_sroa_idx;
     P v_later_i_sroa_6_0_sroa_idx;
@@ -12400,440 +11307,831 @@ static u32 f_oaep_write_others(P v_params, P v_out_0, u64 v_out_1, P v_len) {
     P v_later_i_sroa_17_0_sroa_idx;
     P v_later_i_sroa_18_0_sroa_idx;
     P v_later_i_sroa_19_0_sroa_idx;
-    u64 v_start1_i5_i31;
-    u1 v_8_not_i6_i32;
-    u1 v_15_not_i9_i35;
-    P v_70;
-    P v_9_i26_sroa_4_0_sroa_idx;
-    P v_9_i26_sroa_5_0_sroa_idx;
-    P v_9_i26_sroa_6_0_sroa_idx;
-    P v_9_i26_sroa_7_0_sroa_idx;
-    P v_9_i26_sroa_8_0_sroa_idx;
-    P v_9_i26_sroa_9_0_sroa_idx;
-    P v_9_i26_sroa_10_0_sroa_idx;
-    P v_9_i26_sroa_11_0_sroa_idx;
-    P v_9_i26_sroa_12_0_sroa_idx;
-    P v_9_i26_sroa_13_0_sroa_idx;
-    P v_9_i26_sroa_14_0_sroa_idx;
-    P v_9_i26_sroa_15_0_sroa_idx;
-    P v_9_i26_sroa_16_0_sroa_idx;
-    P v_9_i26_sroa_17_0_sroa_idx;
-    P v_9_i26_sroa_18_0_sroa_idx;
-    P v_9_i26_sroa_19_0_sroa_idx;
-    P v_9_i26_sroa_20_0_sroa_idx;
-    P v_9_i26_sroa_21_0_sroa_idx;
-    P v_9_i26_sroa_22_0_sroa_idx;
-    P v_9_i26_sroa_23_0_sroa_idx;
-    P v_9_i26_sroa_24_0_sroa_idx;
-    P v_9_i26_sroa_25_0_sroa_idx;
-    P v_9_i26_sroa_26_0_sroa_idx;
-    P v_9_i26_sroa_27_0_sroa_idx;
-    P v_9_i26_sroa_28_0_sroa_idx;
-    P v_9_i26_sroa_29_0_sroa_idx;
-    P v_9_i26_sroa_30_0_sroa_idx;
-    u64 v_writer_i_i_sroa_12_0;
-    u64 v_start1_i5_i78;
-    u1 v_8_not_i6_i79;
-    u1 v_15_not_i9_i82;
-    P v_71;
-    P v_9_i73_sroa_4_0_sroa_idx;
-    P v_9_i73_sroa_5_0_sroa_idx;
-    P v_9_i73_sroa_6_0_sroa_idx;
-    P v_9_i73_sroa_7_0_sroa_idx;
-    P v_9_i73_sroa_8_0_sroa_idx;
-    P v_9_i73_sroa_9_0_sroa_idx;
-    P v_9_i73_sroa_10_0_sroa_idx;
-    P v_9_i73_sroa_11_0_sroa_idx;
-    P v_9_i73_sroa_12_0_sroa_idx;
-    P v_9_i73_sroa_13_0_sroa_idx;
-    P v_9_i73_sroa_14_0_sroa_idx;
-    P v_9_i73_sroa_15_0_sroa_idx;
-    P v_9_i73_sroa_16_0_sroa_idx;
-    P v_9_i73_sroa_17_0_sroa_idx;
-    u64 v_writer_i_i_sroa_12_1;
+    u64 v_start1_i5_i35;
+    u1 v_8_not_i6_i36;
+    u1 v_15_not_i9_i39;
+    P v_72;
+    P v_9_i30_sroa_4_0_sroa_idx;
+    P v_9_i30_sroa_5_0_sroa_idx;
+    P v_9_i30_sroa_6_0_sroa_idx;
+    P v_9_i30_sroa_7_0_sroa_idx;
+    P v_9_i30_sroa_8_0_sroa_idx;
+    P v_9_i30_sroa_9_0_sroa_idx;
+    P v_9_i30_sroa_10_0_sroa_idx;
+    P v_9_i30_sroa_11_0_sroa_idx;
+    P v_9_i30_sroa_12_0_sroa_idx;
+    P v_9_i30_sroa_13_0_sroa_idx;
+    P v_9_i30_sroa_14_0_sroa_idx;
+    P v_9_i30_sroa_15_0_sroa_idx;
+    P v_9_i30_sroa_16_0_sroa_idx;
+    P v_9_i30_sroa_17_0_sroa_idx;
+    P v_9_i30_sroa_18_0_sroa_idx;
+    P v_9_i30_sroa_19_0_sroa_idx;
+    P v_9_i30_sroa_20_0_sroa_idx;
+    P v_9_i30_sroa_21_0_sroa_idx;
+    P v_9_i30_sroa_22_0_sroa_idx;
+    P v_9_i30_sroa_23_0_sroa_idx;
+    P v_9_i30_sroa_24_0_sroa_idx;
+    P v_9_i30_sroa_25_0_sroa_idx;
+    P v_9_i30_sroa_26_0_sroa_idx;
+    P v_9_i30_sroa_27_0_sroa_idx;
+    P v_9_i30_sroa_28_0_sroa_idx;
+    P v_9_i30_sroa_29_0_sroa_idx;
+    P v_9_i30_sroa_30_0_sroa_idx;
+    u64 v_writer_i_i_sroa_14_0;
+    u64 v_start1_i5_i82;
+    u1 v_8_not_i6_i83;
+    u1 v_15_not_i9_i86;
+    P v_73;
+    P v_9_i77_sroa_4_0_sroa_idx;
+    P v_9_i77_sroa_5_0_sroa_idx;
+    P v_9_i77_sroa_6_0_sroa_idx;
+    P v_9_i77_sroa_7_0_sroa_idx;
+    P v_9_i77_sroa_8_0_sroa_idx;
+    P v_9_i77_sroa_9_0_sroa_idx;
+    P v_9_i77_sroa_10_0_sroa_idx;
+    P v_9_i77_sroa_11_0_sroa_idx;
+    P v_9_i77_sroa_12_0_sroa_idx;
+    P v_9_i77_sroa_13_0_sroa_idx;
+    P v_9_i77_sroa_14_0_sroa_idx;
+    P v_9_i77_sroa_15_0_sroa_idx;
+    P v_9_i77_sroa_16_0_sroa_idx;
+    P v_9_i77_sroa_17_0_sroa_idx;
+    u64 v_writer_i_i_sroa_14_1;
+    u64 v_start1_i17_i_i;
     u1 v_8_not_i18_i_i;
     u1 v_15_not_i21_i_i;
-    P v_72;
-    u1 v_73;
-    P v_6_i31_i;
-    P v_9_i_i118;
     P v_74;
-    P v_75;
-    u1 v_76;
-    P v_0_0_i_i_i;
-    P v_77;
-    u64 v_0_1_i_i_i;
-    u1 v_78;
-    u8 v_79;
-    u1 v_80;
-    P v_81;
-    u8 v_82;
+    u16 v_75;
+    u16 v_22_i12_i_sroa_0_sroa_4_0_insert_ext;
+    u16 v_22_i12_i_sroa_0_sroa_0_0_insert_insert;
+    u1 v_8_not_i_i_i;
+    u64 v_start1_i_i_i;
+    u1 v_15_not_i_i_i;
+    P v_18_0_i8_i;
+    P v_76;
+    u64 v_18_1_i9_i;
+    u64 v_77;
+    u1 v_or_cond_i65_i;
+    P v_78;
+    u8 v_11_i69_i;
+    u1 v_10_i70_i;
+    u1 v_911_not_i_i;
+    u8 v_5_peel_i_i;
+    u1 v_79;
+    u1 v_exitcond_peel_not_i_i;
+    u64 v_iter_sroa_0_012_i_i;
+    u64 v_0_i_i_i;
+    P v_80;
+    u8 v_5_i_i;
+    u1 v_81;
+    u64 v_4_i3_i_i;
+    u1 v_6_i4_i_i;
+    u64 v_4_i3_i_i_lcssa;
+    P v_82;
+    u8 v_3_i7_i_i;
     u1 v_83;
+    u1 v_exitcond_not_i_i;
+    P v_octets_0_tr_i_i;
+    u64 v_octets_1_tr_i_i;
+    u1 v_3_i89_i;
+    u1 v_5_i91_i;
+    u8 v_27_i96_i;
+    u1 v_26_i97_i;
     P v_84;
-    u8 v_85;
-    u1 v_86;
+    u8 v_29_i_i162;
+    u1 v_28_i98_i;
+    u1 v_25_i_i163;
+    P v_85;
+    u8 v_31_i_i164;
+    u1 v_30_i_i165;
+    u1 v_24_i_i166;
+    P v_86;
+    u8 v_33_i_i167;
+    u1 v_32_i_i168;
+    u1 v_23_i_i169;
     P v_87;
-    u8 v_88;
-    u1 v_89;
+    u8 v_35_i99_i;
+    u1 v_34_i_i170;
+    u1 v_22_i_i171;
+    P v_88;
+    u8 v_37_i_i;
+    u1 v_36_i_i172;
+    u1 v_21_i_i173;
+    P v_89;
+    u8 v_39_i_i;
+    u1 v_38_i_i174;
+    u1 v_20_i_i175;
     P v_90;
-    u8 v_10_i_i123;
-    u1 v_6_i32_i;
-    P v_8_sroa_3_0_sroa_idx_i_i;
-    u64 v_8_sroa_3_0_copyload_i_i;
-    P v_8_sroa_4_0_sroa_idx_i_i;
-    u64 v_8_sroa_4_0_copyload_i_i;
-    u64 v_91;
-    u1 v_92;
-    u1 v_93;
-    u1 v_0_sroa_0_1_i_i;
-    u1 v_0_sroa_0_0_shrunk_i_i_i;
-    u1 v_3_i_i;
-    u8 v_2_i_i;
-    P v_94;
+    u8 v_41_i100_i;
+    u1 v_40_i_i;
+    u1 v_eight_i_i;
+    u1 v_9_not_i_i;
+    u8 v_51_i_i;
+    u1 v_50_i_i;
+    P v_91;
+    u8 v_53_i_i161;
+    u1 v_52_i_i;
+    u1 v_49_i_i;
+    P v_92;
+    u8 v_55_i_i;
+    u1 v_54_i_i;
+    u1 v_48_i_i;
+    P v_93;
+    u8 v_57_i_i;
+    u1 v_56_i_i;
+    u1 v_four_i_i;
+    u8 v_60_i_i;
+    u1 v_94;
+    u64 v_sink10_i_i;
+    u64 v_sink_i_i;
+    u64 v_later_1_i_i;
+    P v_later_0_i_i;
     P v_95;
+    u8 v_10_i27_i;
+    u8 v_28_i28_i;
     u1 v_96;
-    P v_0_0_i_i;
-    P v_97;
-    u64 v_0_1_i_i;
+    u8 v_97;
     u1 v_98;
-    u8 v_21_i_i143;
-    u1 v_20_i_i144;
+    u1 v_or_cond3_i29_i;
     P v_99;
-    u8 v_23_i_i145;
-    u1 v_22_i_i146;
-    u1 v_19_i_i147;
+    u64 v_19_1_i31_i;
+    u1 v_35_i32_i;
     P v_100;
-    u8 v_25_i_i148;
-    u1 v_24_i_i149;
-    u1 v_18_i_i150;
-    P v_101;
-    u8 v_27_i_i151;
-    u1 v_26_i_i152;
-    u1 v_17_i_i153;
+    P v_19_0_i34_i;
+    u64 v_41_i35_i;
+    u8 v_39_sroa_4_sroa_0_0_extract_trunc_i36_i;
+    u64 v_39_sroa_4_sroa_4_0_extract_shift_i37_i;
+    u16 v_39_sroa_4_sroa_4_0_extract_trunc_i38_i;
+    u64 v_39_sroa_4_sroa_5_0_extract_shift_i39_i;
+    u64 v_39_sroa_4_sroa_5_0_extract_trunc_i40_i;
+    u64 v_parameters_sroa_6_sroa_5_0_i15_i;
+    u64 v_parameters_sroa_6_sroa_6_0_i16_i;
+    u8 v_parameters_sroa_6_sroa_0_sroa_0_0_i17_i;
+    P v_parameters_sroa_0_0_i18_i;
+    u16 v_parameters_sroa_6_sroa_0_sroa_5_0_i19_i;
+    u32 v_101;
+    P v_15_0_i_i;
     P v_102;
-    u8 v_29_i_i154;
-    u1 v_28_i_i155;
-    u1 v_16_i_i156;
-    P v_103;
-    u8 v_31_i_i157;
-    u1 v_30_i_i158;
-    u1 v_15_i_i159;
+    u64 v_15_1_i_i;
+    u64 v_103;
+    u1 v_or_cond_i55_i;
     P v_104;
-    u8 v_33_i_i160;
-    u1 v_32_i_i161;
-    u1 v_14_i_i162;
-    P v_105;
-    u8 v_35_i_i163;
-    u1 v_34_i_i164;
-    u1 v_front_i_i165;
+    u8 v_11_i59_i;
+    u1 v_10_i60_i;
+    u1 v_911_not_i101_i;
+    u8 v_5_peel_i103_i;
+    u1 v_105;
+    u1 v_exitcond_peel_not_i105_i;
+    u64 v_iter_sroa_0_012_i107_i;
+    u64 v_0_i_i108_i;
     P v_106;
-    u8 v_36_i_i167;
+    u8 v_5_i109_i;
     u1 v_107;
+    u64 v_4_i3_i117_i;
+    u1 v_6_i4_i118_i;
+    u64 v_4_i3_i117_i_lcssa;
     P v_108;
-    P v_109;
-    u1 v_110;
+    u8 v_3_i7_i121_i;
+    u1 v_109;
+    u1 v_exitcond_not_i111_i;
+    P v_octets_0_tr_i124_i;
+    u64 v_octets_1_tr_i125_i;
+    u1 v_3_i126_i;
+    u1 v_5_i128_i;
+    u8 v_27_i153_i;
+    u1 v_26_i154_i;
+    P v_110;
+    u8 v_29_i155_i;
+    u1 v_28_i156_i;
+    u1 v_25_i157_i;
     P v_111;
-    u64 v_0_1_i_i_i169;
-    u1 v_112;
-    u1 v_or_cond_i170;
-    u8 v_113;
-    u1 v_114;
+    u8 v_31_i158_i;
+    u1 v_30_i159_i;
+    u1 v_24_i160_i;
+    P v_112;
+    u8 v_33_i161_i;
+    u1 v_32_i162_i;
+    u1 v_23_i163_i;
+    P v_113;
+    u8 v_35_i164_i;
+    u1 v_34_i165_i;
+    u1 v_22_i166_i;
+    P v_114;
+    u8 v_37_i167_i;
+    u1 v_36_i168_i;
+    u1 v_21_i169_i;
     P v_115;
-    u8 v_116;
-    u1 v_117;
+    u8 v_39_i170_i;
+    u1 v_38_i171_i;
+    u1 v_20_i172_i;
+    P v_116;
+    u8 v_41_i173_i;
+    u1 v_40_i174_i;
+    u1 v_eight_i175_i;
+    u1 v_9_not_i130_i;
+    u8 v_51_i141_i;
+    u1 v_50_i142_i;
+    P v_117;
+    u8 v_53_i143_i;
+    u1 v_52_i144_i;
+    u1 v_49_i145_i;
     P v_118;
-    u8 v_119;
+    u8 v_55_i146_i;
+    u1 v_54_i147_i;
+    u1 v_48_i148_i;
+    P v_119;
+    u8 v_57_i149_i;
+    u1 v_56_i150_i;
+    u1 v_four_i151_i;
+    u8 v_60_i132_i;
     u1 v_120;
+    u64 v_sink10_i134_i;
+    u64 v_sink_i135_i;
+    u64 v_later_1_i136_i;
+    P v_later_0_i137_i;
     P v_121;
     u8 v_122;
-    u1 v_123;
-    P v_124;
-    u8 v_10_i_i176;
-    u1 v_6_i_i177;
-    P v_8_sroa_3_0_sroa_idx_i_i179;
-    u64 v_8_sroa_3_0_copyload_i_i180;
-    P v_8_sroa_4_0_sroa_idx_i_i181;
-    u64 v_8_sroa_4_0_copyload_i_i182;
-    u64 v_125;
+    u1 v_7_i48_i;
+    P v_10_i50_i;
+    P v_18_0_i_i_i;
+    P v_123;
+    u64 v_18_1_i_i_i;
+    u64 v_124;
+    u1 v_or_cond_i_i;
+    P v_125;
+    u8 v_11_i_i;
+    u1 v_10_i52_i;
+    u1 v_911_not_i177_i;
+    u8 v_5_peel_i179_i;
     u1 v_126;
-    u1 v_127;
-    u1 v_0_sroa_0_1_i_i183;
-    u1 v_0_sroa_0_0_i141;
-    u1 v_3_i4_i;
-    u8 v_2_i5_i;
-    P v_128;
+    u1 v_exitcond_peel_not_i181_i;
+    u64 v_iter_sroa_0_012_i183_i;
+    u64 v_0_i_i184_i;
+    P v_127;
+    u8 v_5_i185_i;
+    u1 v_128;
+    u64 v_4_i3_i193_i;
+    u1 v_6_i4_i194_i;
+    u64 v_4_i3_i193_i_lcssa;
     P v_129;
+    u8 v_3_i7_i197_i;
     u1 v_130;
-    P v_0_0_i_i118_i;
+    u1 v_exitcond_not_i187_i;
+    P v_octets_0_tr_i200_i;
+    u64 v_octets_1_tr_i201_i;
+    u1 v_3_i202_i;
+    u1 v_5_i204_i;
+    u8 v_27_i229_i;
+    u1 v_26_i230_i;
     P v_131;
+    u8 v_29_i231_i;
+    u1 v_28_i232_i;
+    u1 v_25_i233_i;
+    P v_132;
+    u8 v_31_i234_i;
+    u1 v_30_i235_i;
+    u1 v_24_i236_i;
+    P v_133;
+    u8 v_33_i237_i;
+    u1 v_32_i238_i;
+    u1 v_23_i239_i;
+    P v_134;
+    u8 v_35_i240_i;
+    u1 v_34_i241_i;
+    u1 v_22_i242_i;
+    P v_135;
+    u8 v_37_i243_i;
+    u1 v_36_i244_i;
+    u1 v_21_i245_i;
+    P v_136;
+    u8 v_39_i246_i;
+    u1 v_38_i247_i;
+    u1 v_20_i248_i;
+    P v_137;
+    u8 v_41_i249_i;
+    u1 v_40_i250_i;
+    u1 v_eight_i251_i;
+    u1 v_9_not_i206_i;
+    u8 v_51_i217_i;
+    u1 v_50_i218_i;
+    P v_138;
+    u8 v_53_i219_i;
+    u1 v_52_i220_i;
+    u1 v_49_i221_i;
+    P v_139;
+    u8 v_55_i222_i;
+    u1 v_54_i223_i;
+    u1 v_48_i224_i;
+    P v_140;
+    u8 v_57_i225_i;
+    u1 v_56_i226_i;
+    u1 v_four_i227_i;
+    u8 v_60_i208_i;
+    u1 v_141;
+    u64 v_sink10_i210_i;
+    u64 v_sink_i211_i;
+    u64 v_later_1_i212_i;
+    P v_later_0_i213_i;
+    P v_142;
+    u8 v_143;
+    u1 v_7_i_i_i156;
+    P v_144;
+    u8 v_10_i_i_i158;
+    u8 v_28_i_i_i159;
+    u1 v_145;
+    u8 v_146;
+    u1 v_147;
+    u1 v_or_cond3_i_i_i;
+    P v_148;
+    u64 v_19_1_i_i_i;
+    u1 v_35_i_i_i160;
+    P v_149;
+    P v_19_0_i_i_i;
+    u64 v_41_i_i_i;
+    u8 v_39_sroa_4_sroa_0_0_extract_trunc_i_i_i;
+    u64 v_39_sroa_4_sroa_4_0_extract_shift_i_i_i;
+    u16 v_39_sroa_4_sroa_4_0_extract_trunc_i_i_i;
+    u64 v_39_sroa_4_sroa_5_0_extract_shift_i_i_i;
+    u64 v_39_sroa_4_sroa_5_0_extract_trunc_i_i_i;
+    u64 v_parameters_sroa_6_sroa_5_0_i_i_i;
+    u64 v_parameters_sroa_6_sroa_6_0_i_i_i;
+    u8 v_parameters_sroa_6_sroa_0_sroa_0_0_i_i_i;
+    P v_parameters_sroa_0_0_i_i_i;
+    u16 v_parameters_sroa_6_sroa_0_sroa_5_0_i_i_i;
+    u32 v_150;
+    P v_151;
+    u8 v_parameters_sroa_6_i_sroa_7_0_i;
+    u16 v_parameters_sroa_6_i_sroa_8_0_i;
+    u64 v_parameters_sroa_6_i_sroa_9_0_i;
+    u64 v_8_sroa_4_0_copyload_i_i565;
+    u32 v_parameters_sroa_6_i_sroa_0_sroa_0_0_i;
+    P v_152;
+    u32 v_9_sroa_7_sroa_0_0_extract_trunc_i;
+    P v_15_i;
+    P v_18_0_i_i;
+    P v_153;
+    u64 v_18_1_i_i;
+    u64 v_154;
+    u1 v_or_cond_i75_i;
+    P v_155;
+    u8 v_11_i79_i;
+    u1 v_10_i80_i;
+    u1 v_911_not_i253_i;
+    u8 v_5_peel_i255_i;
+    u1 v_156;
+    u1 v_exitcond_peel_not_i257_i;
+    u64 v_iter_sroa_0_012_i259_i;
+    u64 v_0_i_i260_i;
+    P v_157;
+    u8 v_5_i261_i;
+    u1 v_158;
+    u64 v_4_i3_i269_i;
+    u1 v_6_i4_i270_i;
+    u64 v_4_i3_i269_i_lcssa;
+    P v_159;
+    u8 v_3_i7_i273_i;
+    u1 v_160;
+    u1 v_exitcond_not_i263_i;
+    P v_octets_0_tr_i276_i;
+    u64 v_octets_1_tr_i277_i;
+    u1 v_3_i_i154;
+    u1 v_5_i279_i;
+    u8 v_27_i304_i;
+    u1 v_26_i305_i;
+    P v_161;
+    u8 v_29_i306_i;
+    u1 v_28_i307_i;
+    u1 v_25_i308_i;
+    P v_162;
+    u8 v_31_i309_i;
+    u1 v_30_i310_i;
+    u1 v_24_i311_i;
+    P v_163;
+    u8 v_33_i312_i;
+    u1 v_32_i313_i;
+    u1 v_23_i314_i;
+    P v_164;
+    u8 v_35_i315_i;
+    u1 v_34_i316_i;
+    u1 v_22_i317_i;
+    P v_165;
+    u8 v_37_i318_i;
+    u1 v_36_i319_i;
+    u1 v_21_i320_i;
+    P v_166;
+    u8 v_39_i321_i;
+    u1 v_38_i322_i;
+    u1 v_20_i323_i;
+    P v_167;
+    u8 v_41_i324_i;
+    u1 v_40_i325_i;
+    u1 v_eight_i326_i;
+    u1 v_9_not_i281_i;
+    u8 v_51_i292_i;
+    u1 v_50_i293_i;
+    P v_168;
+    u8 v_53_i294_i;
+    u1 v_52_i295_i;
+    u1 v_49_i296_i;
+    P v_169;
+    u8 v_55_i297_i;
+    u1 v_54_i298_i;
+    u1 v_48_i299_i;
+    P v_170;
+    u8 v_57_i300_i;
+    u1 v_56_i301_i;
+    u1 v_four_i302_i;
+    u8 v_60_i283_i;
+    u1 v_171;
+    u64 v_sink10_i285_i;
+    u64 v_sink_i286_i;
+    u64 v_later_1_i287_i;
+    P v_later_0_i288_i;
+    P v_172;
+    u8 v_173;
+    u1 v_7_i_i;
+    P v_174;
+    u8 v_10_i_i150;
+    u8 v_28_i_i151;
+    u1 v_175;
+    u8 v_176;
+    u1 v_177;
+    u1 v_or_cond3_i_i;
+    P v_178;
+    u64 v_19_1_i_i;
+    u1 v_35_i_i152;
+    P v_179;
+    P v_19_0_i_i;
+    u64 v_41_i_i;
+    u8 v_39_sroa_4_sroa_0_0_extract_trunc_i_i;
+    u64 v_39_sroa_4_sroa_4_0_extract_shift_i_i;
+    u16 v_39_sroa_4_sroa_4_0_extract_trunc_i_i;
+    u64 v_39_sroa_4_sroa_5_0_extract_shift_i_i;
+    u64 v_39_sroa_4_sroa_5_0_extract_trunc_i_i;
+    u64 v_parameters_sroa_6_sroa_5_0_i_i;
+    u64 v_8_sroa_4_0_copyload_i379;
+    u8 v_parameters_sroa_6_sroa_0_sroa_0_0_i_i;
+    P v_180;
+    u16 v_parameters_sroa_6_sroa_0_sroa_5_0_i_i;
+    u32 v_181;
+    P v_5_i_sroa_8_0_made_i_sroa_idx;
+    P v_5_i_sroa_13_0_made_i_sroa_idx;
+    P v_5_i_sroa_14_0_made_i_sroa_idx;
+    P v_5_i_sroa_15_0_made_i_sroa_idx;
+    P v_5_i_sroa_16_0_made_i_sroa_idx;
+    P v_5_i_sroa_17_0_made_i_sroa_idx;
+    P v_5_i_sroa_18_0_made_i_sroa_idx;
+    P v_5_i_sroa_19_0_made_i_sroa_idx;
+    P v_5_i_sroa_20_0_made_i_sroa_idx;
+    P v_5_i_sroa_21_0_made_i_sroa_idx;
+    P v_5_i_sroa_22_0_made_i_sroa_idx;
+    P v_5_i_sroa_23_0_made_i_sroa_idx;
+    P v_5_i_sroa_24_0_made_i_sroa_idx;
+    P v_5_i_sroa_25_0_made_i_sroa_idx;
+    P v_5_i_sroa_26_0_made_i_sroa_idx;
+    P v_5_i_sroa_27_0_made_i_sroa_idx;
+    P v_5_i_sroa_28_0_made_i_sroa_idx;
+    P v_5_i_sroa_29_0_made_i_sroa_idx;
+    P v_5_i_sroa_30_0_made_i_sroa_idx;
+    P v_5_i_sroa_31_0_made_i_sroa_idx;
+    P v_5_i_sroa_32_0_made_i_sroa_idx;
+    P v_5_i_sroa_33_0_made_i_sroa_idx;
+    P v_5_i_sroa_34_0_made_i_sroa_idx;
+    P v_5_i_sroa_35_0_made_i_sroa_idx;
+    P v_5_i_sroa_36_0_made_i_sroa_idx;
+    P v_5_i_sroa_37_0_made_i_sroa_idx;
+    u1 v_182;
+    u64 v_0_1_i_i_i;
+    u1 v_183;
+    u1 v_or_cond635;
+    u8 v_184;
+    u1 v_185;
+    P v_186;
+    u8 v_187;
+    u1 v_188;
+    P v_189;
+    u8 v_190;
+    u1 v_191;
+    P v_192;
+    u8 v_193;
+    u1 v_194;
+    P v_195;
+    u8 v_10_i_i218;
+    u1 v_6_i32_i;
+    u64 v_8_sroa_3_0_copyload_i_i;
+    u64 v_196;
+    u1 v_197;
+    u1 v_198;
+    u1 v_0_sroa_0_1_i_i;
+    u1 v_0_sroa_0_0_shrunk_i_i_i196;
+    u1 v_3_i_i197;
+    u8 v_2_i_i198;
+    u1 v_199;
+    u64 v_0_1_i_i522;
+    u1 v_200;
+    u1 v_or_cond637;
+    u8 v_21_i_i526;
+    u1 v_20_i_i527;
+    P v_201;
+    u8 v_23_i_i528;
+    u1 v_22_i_i529;
+    u1 v_19_i_i530;
+    P v_202;
+    u8 v_25_i_i531;
+    u1 v_24_i_i532;
+    u1 v_18_i_i533;
+    P v_203;
+    u8 v_27_i_i534;
+    u1 v_26_i_i535;
+    u1 v_17_i_i536;
+    P v_204;
+    u8 v_29_i_i537;
+    u1 v_28_i_i538;
+    u1 v_16_i_i539;
+    P v_205;
+    u8 v_31_i_i540;
+    u1 v_30_i_i541;
+    u1 v_15_i_i542;
+    P v_206;
+    u8 v_33_i_i543;
+    u1 v_32_i_i544;
+    u1 v_14_i_i545;
+    P v_207;
+    u8 v_35_i_i546;
+    u1 v_34_i_i547;
+    u1 v_front_i_i548;
+    P v_208;
+    u8 v_36_i_i550;
+    u1 v_209;
+    u1 v_210;
+    u64 v_0_1_i_i_i552;
+    u1 v_211;
+    u1 v_or_cond_i553;
+    u8 v_212;
+    u1 v_213;
+    P v_214;
+    u8 v_215;
+    u1 v_216;
+    P v_217;
+    u8 v_218;
+    u1 v_219;
+    P v_220;
+    u8 v_221;
+    u1 v_222;
+    P v_223;
+    u8 v_10_i_i559;
+    u1 v_6_i_i560;
+    u64 v_8_sroa_3_0_copyload_i_i563;
+    u64 v_224;
+    u1 v_225;
+    u1 v_226;
+    u1 v_0_sroa_0_1_i_i566;
+    u1 v_0_sroa_0_0_i524;
+    u1 v_3_i4_i199;
+    u8 v_2_i5_i200;
+    u1 v_227;
     u64 v_0_1_i_i119_i;
-    u1 v_132;
+    u1 v_228;
+    u1 v_or_cond639;
     u8 v_21_i_i122_i;
     u1 v_20_i_i123_i;
-    P v_133;
+    P v_229;
     u8 v_23_i_i124_i;
     u1 v_22_i_i125_i;
     u1 v_19_i_i126_i;
-    P v_134;
+    P v_230;
     u8 v_25_i_i127_i;
     u1 v_24_i_i128_i;
     u1 v_18_i_i129_i;
-    P v_135;
+    P v_231;
     u8 v_27_i_i130_i;
     u1 v_26_i_i131_i;
     u1 v_17_i_i132_i;
-    P v_136;
+    P v_232;
     u8 v_29_i_i133_i;
     u1 v_28_i_i134_i;
     u1 v_16_i_i135_i;
-    P v_137;
+    P v_233;
     u8 v_31_i_i136_i;
     u1 v_30_i_i137_i;
     u1 v_15_i_i138_i;
-    P v_138;
+    P v_234;
     u8 v_33_i_i139_i;
     u1 v_32_i_i140_i;
     u1 v_14_i_i141_i;
-    P v_139;
+    P v_235;
     u8 v_35_i_i142_i;
     u1 v_34_i_i143_i;
     u1 v_front_i_i144_i;
-    P v_140;
+    P v_236;
     u8 v_36_i_i146_i;
-    u1 v_141;
-    P v_8_sroa_3_0_sroa_idx_i148_i;
+    u1 v_237;
     u64 v_8_sroa_3_0_copyload_i149_i;
-    P v_8_sroa_4_0_sroa_idx_i150_i;
-    u64 v_8_sroa_4_0_copyload_i151_i;
-    u64 v_142;
-    u1 v_143;
-    u1 v_144;
+    u64 v_238;
+    u1 v_239;
+    u1 v_240;
     u1 v_0_sroa_0_1_i152_i;
     u1 v_cond_fr_i;
     u8 v_spec_select_i;
     u1 v_0_sroa_0_0_i120168_i;
-    u8 v_145;
-    u8 v_0_i9_i;
-    u8 v_6_i_i120;
-    u8 v_0_i_i;
-    P v_146;
-    u64 v_0_1_i_i_i545_i_i_i;
-    P v_147;
+    u8 v_241;
+    u8 v_0_i9_i201;
+    u8 v_6_i_i202;
+    u8 v_0_i_i203;
     u64 v_4_1_i_i_i548_i_i_i;
     u1 v_5_i84_i_i549_i_i_i;
-    u64 v_148;
+    u64 v_242;
     u64 v_0_sroa_0_0_i85_i_i550_i_i_i;
     u64 v_10_sroa_0_0_i79_i_i552_i_i_i;
     u64 v_0_i_i_i554_i_i_i;
     u1 v_3_i_i81_i_i555_i_i_i;
     u64 v_0_sroa_0_0_i_i82_i_i556_i_v_i_i;
     u64 v_0_sroa_0_0_i_i82_i_i556_i_i_i;
-    u64 v_149;
+    u64 v_243;
     u1 v_10_i_i567_i_i_i;
-    u64 v_150;
-    P v_151;
-    u64 v_0_1_i_i_i679_i_i_i;
-    P v_152;
+    u64 v_244;
     u64 v_4_1_i_i_i682_i_i_i;
     u1 v_5_i84_i_i683_i_i_i;
-    u64 v_153;
+    u64 v_245;
     u64 v_0_sroa_0_0_i85_i_i684_i_i_i;
     u64 v_10_sroa_0_0_i79_i_i686_i_i_i;
     u64 v_0_i_i_i688_i_i_i;
     u1 v_3_i_i81_i_i689_i_i_i;
     u64 v_0_sroa_0_0_i_i82_i_i690_i_v_i_i;
     u64 v_0_sroa_0_0_i_i82_i_i690_i_i_i;
-    u64 v_154;
+    u64 v_246;
     u1 v_3_i22_i_i691_i_i_i;
     u1 v_4_i24_i_i693_i_i_i;
     u1 v_5_i26_i_i695_i_i_i;
     u1 v_6_i28_i_i697_i_i_i;
     u64 v_i_i;
-    u64 v_sink_i_i;
-    u64 v_155;
+    u64 v_sink_i_i212;
+    u64 v_247;
     u1 v_10_i_i701_i_i_i;
-    u64 v_156;
+    u64 v_248;
     u64 v_spec_select20_i_i702_i_i_i;
     u64 v_0_sroa_0_0_i705_i_i_i;
-    P v_157;
-    u64 v_0_1_i97_i_i49_i_i_i;
-    P v_158;
+    u1 v_249;
     u64 v_0_1_i95_i_i53_i_i_i;
-    P v_159;
-    P v_160;
-    u1 v_161;
-    P v_162;
+    u1 v_250;
     u64 v_4_1_i89_i_i56_i_i_i;
     u1 v_5_i90_i_i57_i_i_i;
-    u64 v_163;
+    u64 v_251;
     u64 v_0_sroa_0_0_i91_i_i58_i_i_i;
     u64 v_10_sroa_0_0_i59_i_i60_i_i_i;
     u64 v_0_i102_i_i62_i_i_i;
     u1 v_3_i_i61_i_i63_i_i_i;
     u64 v_0_sroa_0_0_i_i62_i_i64_i_v_i_i;
     u64 v_0_sroa_0_0_i_i62_i_i64_i_i_i;
-    u64 v_164;
+    u64 v_252;
     u1 v_3_i_i_i_i65_i_i_i;
     u1 v_4_i_i_i_i67_i_i_i;
-    u64 v_165;
+    u64 v_253;
     u1 v_5_i_i_i_i69_i_i_i;
-    u64 v_166;
+    u64 v_254;
     u1 v_6_i_i_i_i71_i_i_i;
-    u64 v_167;
-    u64 v_168;
-    u64 v_169;
+    u64 v_255;
+    u64 v_256;
+    u64 v_257;
     u64 v_10_sroa_0_0_i_i_i76_i_i_i;
     u64 v_0_i104_i_i78_i_i_i;
     u1 v_3_i2_i_i_i79_i_i_i;
     u64 v_0_sroa_0_0_i3_i_i_i80_i_v_i_i;
     u64 v_0_sroa_0_0_i3_i_i_i80_i_i_i;
-    u64 v_170;
+    u64 v_258;
     u1 v_3_i_i_i81_i_i_i;
     u1 v_4_i_i_i83_i_i_i;
     u1 v_5_i_i_i85_i_i_i;
     u1 v_6_i_i_i87_i_i_i;
-    u64 v_52_i_i;
+    u64 v_52_i_i__2;
     u64 v_sink47_i_i;
-    u64 v_171;
+    u64 v_259;
     u1 v_31_i_i91_i_i_i;
-    u64 v_172;
+    u64 v_260;
     u64 v_spec_select19_i_i92_i_i_i;
-    u64 v_173;
-    P v_174;
-    u64 v_0_1_i_i_i278_i_i_i;
-    P v_175;
+    u64 v_261;
     u64 v_4_1_i_i_i281_i_i_i;
     u1 v_5_i84_i_i282_i_i_i;
-    u64 v_176;
+    u64 v_262;
     u64 v_0_sroa_0_0_i85_i_i283_i_i_i;
     u64 v_10_sroa_0_0_i79_i_i285_i_i_i;
     u64 v_0_i_i_i287_i_i_i;
     u1 v_3_i_i81_i_i288_i_i_i;
     u64 v_0_sroa_0_0_i_i82_i_i289_i_v_i_i;
     u64 v_0_sroa_0_0_i_i82_i_i289_i_i_i;
-    u64 v_177;
+    u64 v_263;
     u1 v_3_i22_i_i290_i_i_i;
     u1 v_4_i24_i_i292_i_i_i;
     u1 v_5_i26_i_i294_i_i_i;
     u1 v_6_i28_i_i296_i_i_i;
     u64 v_53_i_i;
     u64 v_sink48_i_i;
-    u64 v_178;
+    u64 v_264;
     u1 v_10_i_i300_i_i_i;
-    u64 v_179;
+    u64 v_265;
     u64 v_spec_select20_i_i301_i_i_i;
-    P v_180;
-    u64 v_0_1_i_i_i411_i_i_i;
-    P v_181;
     u64 v_4_1_i_i_i414_i_i_i;
     u1 v_5_i84_i_i415_i_i_i;
-    u64 v_182;
+    u64 v_266;
     u64 v_0_sroa_0_0_i85_i_i416_i_i_i;
     u64 v_10_sroa_0_0_i79_i_i418_i_i_i;
     u64 v_0_i_i_i420_i_i_i;
     u1 v_3_i_i81_i_i421_i_i_i;
     u64 v_0_sroa_0_0_i_i82_i_i422_i_v_i_i;
     u64 v_0_sroa_0_0_i_i82_i_i422_i_i_i;
-    u64 v_183;
+    u64 v_267;
     u1 v_3_i22_i_i423_i_i_i;
     u1 v_4_i24_i_i425_i_i_i;
     u1 v_5_i26_i_i427_i_i_i;
     u1 v_6_i28_i_i429_i_i_i;
-    u64 v_54_i_i;
+    u64 v_54_i_i__2;
     u64 v_sink49_i_i;
-    u64 v_184;
+    u64 v_268;
     u1 v_10_i_i433_i_i_i;
-    u64 v_185;
+    u64 v_269;
     u64 v_spec_select20_i_i434_i_i_i;
     u64 v_0_sroa_0_0_i437_i_i_i;
-    P v_186;
-    u64 v_0_1_i97_i_i182_i_i_i;
-    P v_187;
+    u1 v_270;
     u64 v_0_1_i95_i_i186_i_i_i;
-    P v_188;
-    P v_189;
-    u1 v_190;
-    P v_191;
+    u1 v_271;
     u64 v_4_1_i89_i_i189_i_i_i;
     u1 v_5_i90_i_i190_i_i_i;
-    u64 v_192;
+    u64 v_272;
     u64 v_0_sroa_0_0_i91_i_i191_i_i_i;
     u64 v_10_sroa_0_0_i59_i_i193_i_i_i;
     u64 v_0_i102_i_i195_i_i_i;
     u1 v_3_i_i61_i_i196_i_i_i;
     u64 v_0_sroa_0_0_i_i62_i_i197_i_v_i_i;
     u64 v_0_sroa_0_0_i_i62_i_i197_i_i_i;
-    u64 v_193;
+    u64 v_273;
     u1 v_3_i_i_i_i198_i_i_i;
     u1 v_4_i_i_i_i200_i_i_i;
-    u64 v_194;
+    u64 v_274;
     u1 v_5_i_i_i_i202_i_i_i;
-    u64 v_195;
+    u64 v_275;
     u1 v_6_i_i_i_i204_i_i_i;
-    u64 v_196;
-    u64 v_197;
-    u64 v_198;
+    u64 v_276;
+    u64 v_277;
+    u64 v_278;
     u64 v_10_sroa_0_0_i_i_i209_i_i_i;
     u64 v_0_i104_i_i211_i_i_i;
     u1 v_3_i2_i_i_i212_i_i_i;
     u64 v_0_sroa_0_0_i3_i_i_i213_i_v_i_i;
     u64 v_0_sroa_0_0_i3_i_i_i213_i_i_i;
-    u64 v_199;
+    u64 v_279;
     u1 v_3_i_i_i214_i_i_i;
     u1 v_4_i_i_i216_i_i_i;
     u1 v_5_i_i_i218_i_i_i;
     u1 v_6_i_i_i220_i_i_i;
-    u64 v_55_i_i;
+    u64 v_55_i_i__2;
     u64 v_sink50_i_i;
-    u64 v_200;
+    u64 v_280;
     u1 v_31_i_i224_i_i_i;
-    u64 v_201;
+    u64 v_281;
     u64 v_spec_select19_i_i225_i_i_i;
-    u64 v_202;
+    u64 v_282;
     u64 v_0_sroa_0_0_i170_i_i_i;
-    P v_203;
-    u64 v_0_1_i93_i_i_i_i_i;
-    P v_204;
     u64 v_4_1_i86_i_i_i_i_i;
     u1 v_5_i87_i_i_i_i_i;
-    u64 v_205;
+    u64 v_283;
     u64 v_0_sroa_0_0_i88_i_i_i_i_i;
     u64 v_10_sroa_0_0_i69_i_i_i_i_i;
     u64 v_0_i100_i_i_i_i_i;
     u1 v_3_i_i70_i_i_i_i_i;
     u64 v_0_sroa_0_0_i_i71_i_i_i_v_i_i;
     u64 v_0_sroa_0_0_i_i71_i_i_i_i_i;
-    u64 v_206;
+    u64 v_284;
     u1 v_3_i36_i_i_i_i_i;
     u1 v_4_i38_i_i_i_i_i;
     u1 v_5_i40_i_i_i_i_i;
     u1 v_6_i42_i_i_i_i_i;
-    u64 v_56_i_i;
+    u64 v_56_i_i__2;
     u64 v_sink51_i_i;
-    u64 v_207;
+    u64 v_285;
     u1 v_33_i_i_i_i_i;
-    u64 v_208;
+    u64 v_286;
     u64 v_spec_select_i_i_i_i_i;
-    u64 v_209;
+    u64 v_287;
     u64 v_0_sroa_0_0_i_i_i_i;
     u1 v_6_i_i_i;
-    u1 v_7_i_i_i;
+    u1 v_7_i_i_i204;
     u64 v_0_sroa_0_0_i_i18_i_i;
-    u64 v_210;
+    u64 v_288;
     u1 v_8_i_i_i;
-    u64 v_211;
+    u64 v_289;
     u1 v_9_i_i_i;
-    u64 v_212;
-    u64 v_213;
-    u64 v_214;
-    u1 v_10_i_i_i;
-    u64 v_215;
+    u64 v_290;
+    u64 v_291;
+    u64 v_292;
+    u1 v_10_i_i_i207;
+    u64 v_293;
     u64 v_sroa_5_0_extract_shift_i_i_i;
     u1 v_trunc_i_i;
     u64 v_0_sroa_31_0_in_i46_i_i;
     u1 v_4_i_i_i;
-    P v_216;
-    P v_217;
+    P v_294;
+    P v_295;
     u64 v_15_1_i_i_i;
     u64 v_14_i_i155_i;
     u64 v_7_i5_i_i;
@@ -12844,8 +12142,8 @@ static u32 f_oaep_write_others(P v_params, P v_out_0, u64 v_out_1, P v_len) {
     P v_48_0_i_i_i_i;
     u1 v_8_not_i_i_i_i_i;
     u1 v_15_not_i_i_i_i_i;
-    P v_218;
-    P v_219;
+    P v_296;
+    P v_297;
     u16 v_7_i_i_sroa_0_sroa_4_0_insert_shift_i_i;
     u16 v_7_i_i_sroa_0_sroa_0_0_insert_insert_i_i;
     u1 v_14_i_i_i_i;
@@ -12853,17 +12151,17 @@ static u32 f_oaep_write_others(P v_params, P v_out_0, u64 v_out_1, P v_len) {
     P v_51_0_i_i_i_i;
     u1 v_8_not_i12_i_i_i_i;
     u1 v_15_not_i15_i_i_i_i;
-    P v_220;
-    P v_221;
+    P v_298;
+    P v_299;
     P v_12_i_i_sroa_4_0_sroa_idx_i_i;
     P v_12_i_i_sroa_5_0_sroa_idx_i_i;
     u1 v_22_i_i_i_i;
     P v_54_0_i_i_i_i;
     u1 v_8_not_i27_i_i_i_i;
     u1 v_15_not_i30_i_i_i_i;
-    P v_222;
-    P v_223;
-    u32 v_224;
+    P v_300;
+    P v_301;
+    u32 v_302;
     u32 v_17_i_i_sroa_0_sroa_0_0_insert_insert_i_i;
     u64 v_371_i_i_i_i;
     u8 v_36_i_i_i_i;
@@ -12875,8 +12173,8 @@ static u32 f_oaep_write_others(P v_params, P v_out_0, u64 v_out_1, P v_len) {
     P v_60_0_i_i_i_i;
     u1 v_8_not_i57_i_i_i_i;
     u1 v_15_not_i60_i_i_i_i;
-    P v_225;
-    P v_226;
+    P v_303;
+    P v_304;
     P v_35_i_i_sroa_4_0_sroa_idx_i_i;
     P v_35_i_i_sroa_5_0_sroa_idx_i_i;
     P v_35_i_i_sroa_6_0_sroa_idx_i_i;
@@ -12890,37 +12188,731 @@ static u32 f_oaep_write_others(P v_params, P v_out_0, u64 v_out_1, P v_len) {
     P v_57_0_i_i_i_i;
     u1 v_8_not_i42_i_i_i_i;
     u1 v_15_not_i45_i_i_i_i;
-    P v_227;
-    P v_228;
+    P v_305;
+    P v_306;
     P v_25_i_i_sroa_4_0_sroa_idx_i_i;
     P v_25_i_i_sroa_5_0_sroa_idx_i_i;
     P v_25_i_i_sroa_6_0_sroa_idx_i_i;
     P v_25_i_i_sroa_7_0_sroa_idx_i_i;
-    u32 v_230;
-    u64 v_231;
+    u32 v_308;
+    u64 v_309;
     u8 v_error_sroa_0_0_extract_trunc_i_i;
-    u32 v_0_sroa_0_1_i157_i;
-    P v_232;
-    u8 v_11_sroa_0_0_copyload;
-    u8 v_233;
-    u64 v_234;
-    u1 v_235;
-    u64 v_236;
-    u64 v_2_i;
+    u1 v_310;
+    u64 v_0_1_i_i;
+    u1 v_311;
+    u1 v_or_cond640;
+    u8 v_312;
+    u1 v_313;
+    P v_314;
+    u8 v_315;
+    u1 v_316;
+    P v_317;
+    u8 v_318;
+    u1 v_319;
+    P v_320;
+    u8 v_321;
+    u1 v_322;
+    P v_323;
+    u8 v_10_i227;
+    u1 v_6_i228;
+    u64 v_8_sroa_3_0_copyload_i;
+    u64 v_324;
+    u1 v_325;
+    u1 v_326;
+    u1 v_0_sroa_0_1_i230;
+    u1 v_0_sroa_0_0_shrunk_i_i_i;
+    u1 v_3_i_i;
+    u8 v_2_i_i;
+    u1 v_327;
+    u1 v_3_i4_i;
+    u8 v_2_i5_i;
+    u1 v_328;
+    u64 v_0_1_i_i346;
+    u1 v_329;
+    u1 v_or_cond642;
+    u8 v_21_i_i350;
+    u1 v_20_i_i351;
+    P v_330;
+    u8 v_23_i_i352;
+    u1 v_22_i_i353;
+    u1 v_19_i_i354;
+    P v_331;
+    u8 v_25_i_i355;
+    u1 v_24_i_i356;
+    u1 v_18_i_i357;
+    P v_332;
+    u8 v_27_i_i358;
+    u1 v_26_i_i359;
+    u1 v_17_i_i360;
+    P v_333;
+    u8 v_29_i_i361;
+    u1 v_28_i_i362;
+    u1 v_16_i_i363;
+    P v_334;
+    u8 v_31_i_i364;
+    u1 v_30_i_i365;
+    u1 v_15_i_i366;
+    P v_335;
+    u8 v_33_i_i367;
+    u1 v_32_i_i368;
+    u1 v_14_i_i369;
+    P v_336;
+    u8 v_35_i_i370;
+    u1 v_34_i_i371;
+    u1 v_front_i_i372;
+    P v_337;
+    u8 v_36_i_i374;
+    u1 v_338;
+    u64 v_8_sroa_3_0_copyload_i377;
+    u64 v_339;
+    u1 v_340;
+    u1 v_341;
+    u1 v_0_sroa_0_1_i380;
+    u1 v_cond_fr;
+    u8 v_spec_select;
+    u1 v_0_sroa_0_0_i348668;
+    u8 v_342;
+    u8 v_0_i9_i;
+    u8 v_6_i_i97;
+    u8 v_0_i_i;
+    u1 v_343;
+    u64 v_4_1_i_i_i548_i_i;
+    u1 v_5_i84_i_i549_i_i;
+    u64 v_344;
+    u64 v_0_sroa_0_0_i85_i_i550_i_i;
+    u64 v_10_sroa_0_0_i79_i_i552_i_i;
+    u64 v_0_i_i_i554_i_i;
+    u1 v_3_i_i81_i_i555_i_i;
+    u64 v_0_sroa_0_0_i_i82_i_i556_i_v_i;
+    u64 v_0_sroa_0_0_i_i82_i_i556_i_i;
+    u64 v_345;
+    u1 v_10_i_i567_i_i;
+    u64 v_346;
+    u1 v_347;
+    u64 v_4_1_i_i_i682_i_i;
+    u1 v_5_i84_i_i683_i_i;
+    u64 v_348;
+    u64 v_0_sroa_0_0_i85_i_i684_i_i;
+    u64 v_10_sroa_0_0_i79_i_i686_i_i;
+    u64 v_0_i_i_i688_i_i;
+    u1 v_3_i_i81_i_i689_i_i;
+    u64 v_0_sroa_0_0_i_i82_i_i690_i_v_i;
+    u64 v_0_sroa_0_0_i_i82_i_i690_i_i;
+    u64 v_349;
+    u1 v_3_i22_i_i691_i_i;
+    u1 v_4_i24_i_i693_i_i;
+    u1 v_5_i26_i_i695_i_i;
+    u1 v_6_i28_i_i697_i_i;
+    u64 v_i519;
+    u64 v_sink_i;
+    u64 v_350;
+    u1 v_10_i_i701_i_i;
+    u64 v_351;
+    u64 v_spec_select20_i_i702_i_i;
+    u64 v_0_sroa_0_0_i705_i_i;
+    u64 v_0_1_i97_i_i49_i_i;
+    u1 v_352;
+    u64 v_0_1_i95_i_i53_i_i;
+    u1 v_353;
+    u64 v_4_1_i89_i_i56_i_i;
+    u1 v_5_i90_i_i57_i_i;
+    u64 v_354;
+    u64 v_0_sroa_0_0_i91_i_i58_i_i;
+    u64 v_10_sroa_0_0_i59_i_i60_i_i;
+    u64 v_0_i102_i_i62_i_i;
+    u1 v_3_i_i61_i_i63_i_i;
+    u64 v_0_sroa_0_0_i_i62_i_i64_i_v_i;
+    u64 v_0_sroa_0_0_i_i62_i_i64_i_i;
+    u64 v_355;
+    u1 v_3_i_i_i_i65_i_i;
+    u1 v_4_i_i_i_i67_i_i;
+    u64 v_356;
+    u1 v_5_i_i_i_i69_i_i;
+    u64 v_357;
+    u1 v_6_i_i_i_i71_i_i;
+    u64 v_358;
+    u64 v_359;
+    u64 v_360;
+    u64 v_10_sroa_0_0_i_i_i76_i_i;
+    u64 v_0_i104_i_i78_i_i;
+    u1 v_3_i2_i_i_i79_i_i;
+    u64 v_0_sroa_0_0_i3_i_i_i80_i_v_i;
+    u64 v_0_sroa_0_0_i3_i_i_i80_i_i;
+    u64 v_361;
+    u1 v_3_i_i_i81_i_i;
+    u1 v_4_i_i_i83_i_i;
+    u1 v_5_i_i_i85_i_i;
+    u1 v_6_i_i_i87_i_i;
+    u64 v_173_i;
+    u64 v_sink168_i;
+    u64 v_362;
+    u1 v_31_i_i91_i_i;
+    u64 v_363;
+    u64 v_spec_select19_i_i92_i_i;
+    u64 v_364;
+    u1 v_365;
+    u64 v_4_1_i_i_i281_i_i;
+    u1 v_5_i84_i_i282_i_i;
+    u64 v_366;
+    u64 v_0_sroa_0_0_i85_i_i283_i_i;
+    u64 v_10_sroa_0_0_i79_i_i285_i_i;
+    u64 v_0_i_i_i287_i_i;
+    u1 v_3_i_i81_i_i288_i_i;
+    u64 v_0_sroa_0_0_i_i82_i_i289_i_v_i;
+    u64 v_0_sroa_0_0_i_i82_i_i289_i_i;
+    u64 v_367;
+    u1 v_3_i22_i_i290_i_i;
+    u1 v_4_i24_i_i292_i_i;
+    u1 v_5_i26_i_i294_i_i;
+    u1 v_6_i28_i_i296_i_i;
+    u64 v_174_i;
+    u64 v_sink169_i;
+    u64 v_368;
+    u1 v_10_i_i300_i_i;
+    u64 v_369;
+    u64 v_spec_select20_i_i301_i_i;
+    u1 v_370;
+    u64 v_4_1_i_i_i414_i_i;
+    u1 v_5_i84_i_i415_i_i;
+    u64 v_371;
+    u64 v_0_sroa_0_0_i85_i_i416_i_i;
+    u64 v_10_sroa_0_0_i79_i_i418_i_i;
+    u64 v_0_i_i_i420_i_i;
+    u1 v_3_i_i81_i_i421_i_i;
+    u64 v_0_sroa_0_0_i_i82_i_i422_i_v_i;
+    u64 v_0_sroa_0_0_i_i82_i_i422_i_i;
+    u64 v_372;
+    u1 v_3_i22_i_i423_i_i;
+    u1 v_4_i24_i_i425_i_i;
+    u1 v_5_i26_i_i427_i_i;
+    u1 v_6_i28_i_i429_i_i;
+    u64 v_175_i;
+    u64 v_sink170_i;
+    u64 v_373;
+    u1 v_10_i_i433_i_i;
+    u64 v_374;
+    u64 v_spec_select20_i_i434_i_i;
+    u64 v_0_sroa_0_0_i437_i_i;
+    u64 v_0_1_i97_i_i182_i_i;
+    u1 v_375;
+    u64 v_0_1_i95_i_i186_i_i;
+    u1 v_376;
+    u64 v_4_1_i89_i_i189_i_i;
+    u1 v_5_i90_i_i190_i_i;
+    u64 v_377;
+    u64 v_0_sroa_0_0_i91_i_i191_i_i;
+    u64 v_10_sroa_0_0_i59_i_i193_i_i;
+    u64 v_0_i102_i_i195_i_i;
+    u1 v_3_i_i61_i_i196_i_i;
+    u64 v_0_sroa_0_0_i_i62_i_i197_i_v_i;
+    u64 v_0_sroa_0_0_i_i62_i_i197_i_i;
+    u64 v_378;
+    u1 v_3_i_i_i_i198_i_i;
+    u1 v_4_i_i_i_i200_i_i;
+    u64 v_379;
+    u1 v_5_i_i_i_i202_i_i;
+    u64 v_380;
+    u1 v_6_i_i_i_i204_i_i;
+    u64 v_381;
+    u64 v_382;
+    u64 v_383;
+    u64 v_10_sroa_0_0_i_i_i209_i_i;
+    u64 v_0_i104_i_i211_i_i;
+    u1 v_3_i2_i_i_i212_i_i;
+    u64 v_0_sroa_0_0_i3_i_i_i213_i_v_i;
+    u64 v_0_sroa_0_0_i3_i_i_i213_i_i;
+    u64 v_384;
+    u1 v_3_i_i_i214_i_i;
+    u1 v_4_i_i_i216_i_i;
+    u1 v_5_i_i_i218_i_i;
+    u1 v_6_i_i_i220_i_i;
+    u64 v_176_i;
+    u64 v_sink171_i;
+    u64 v_385;
+    u1 v_31_i_i224_i_i;
+    u64 v_386;
+    u64 v_spec_select19_i_i225_i_i;
+    u64 v_387;
+    u64 v_0_sroa_0_0_i170_i_i;
+    u1 v_388;
+    u64 v_4_1_i86_i_i_i_i;
+    u1 v_5_i87_i_i_i_i;
+    u64 v_389;
+    u64 v_0_sroa_0_0_i88_i_i_i_i;
+    u64 v_10_sroa_0_0_i69_i_i_i_i;
+    u64 v_0_i100_i_i_i_i;
+    u1 v_3_i_i70_i_i_i_i;
+    u64 v_0_sroa_0_0_i_i71_i_i_i_v_i;
+    u64 v_0_sroa_0_0_i_i71_i_i_i_i;
+    u64 v_390;
+    u1 v_3_i36_i_i_i_i;
+    u1 v_4_i38_i_i_i_i;
+    u1 v_5_i40_i_i_i_i;
+    u1 v_6_i42_i_i_i_i;
+    u64 v_177_i;
+    u64 v_sink172_i;
+    u64 v_391;
+    u1 v_33_i_i_i_i;
+    u64 v_392;
+    u64 v_spec_select_i_i_i_i;
+    u64 v_393;
+    u1 v_0_sroa_0_0_i348671;
+    u64 v_0_sroa_0_0_i_i21_i;
+    u1 v_3_i_i_i;
+    u1 v_4_i_i10_i;
+    u1 v_5_i_i_i;
+    u1 v_6_i_i_i398;
+    u64 v_394;
+    u1 v_6_i_i401;
+    u64 v_395;
+    u1 v_7_i_i402;
+    u64 v_396;
+    u64 v_397;
+    u64 v_398;
+    u1 v_8_i_i404;
+    u64 v_10_sroa_0_0_i_i677685;
+    u64 v_399;
+    u64 v_400;
+    u1 v_9_i_i406;
+    u64 v_401;
+    u64 v_10_sroa_0_0_i_i_ph691695;
+    u64 v_402;
+    u64 v_10_sroa_0_0_i_i_ph_ph701705;
+    u64 v_403;
+    u64 v_404;
+    u1 v_10_i_i408;
+    u64 v_4_1_i_i_i548_i_i_i_i_pre;
+    u64 v_pre;
+    u64 v_pre60;
+    u64 v_0_i_i_i554_i_i_i_i_pre_phi;
+    u64 v_pre_phi;
+    u64 v_4_1_i_i_i548_i_i_i_i;
+    u1 v_405;
+    u1 v_5_i84_i_i549_i_i_i_i;
+    u64 v_0_sroa_0_0_i85_i_i550_i_i_i_i;
+    u64 v_10_sroa_0_0_i79_i_i552_i_i_i_i;
+    u1 v_3_i_i81_i_i555_i_i_i_i;
+    u64 v_0_sroa_0_0_i_i82_i_i556_i_v_i_i_i;
+    u64 v_0_sroa_0_0_i_i82_i_i556_i_i_i_i;
+    u64 v_406;
+    u1 v_10_i_i567_i_i_i_i;
+    u64 v_407;
+    u1 v_408;
+    u64 v_4_1_i_i_i682_i_i_i_i;
+    u1 v_5_i84_i_i683_i_i_i_i;
+    u64 v_409;
+    u64 v_0_sroa_0_0_i85_i_i684_i_i_i_i;
+    u64 v_10_sroa_0_0_i79_i_i686_i_i_i_i;
+    u64 v_0_i_i_i688_i_i_i_i;
+    u1 v_3_i_i81_i_i689_i_i_i_i;
+    u64 v_0_sroa_0_0_i_i82_i_i690_i_v_i_i_i;
+    u64 v_0_sroa_0_0_i_i82_i_i690_i_i_i_i;
+    u64 v_410;
+    u1 v_3_i22_i_i691_i_i_i_i;
+    u1 v_4_i24_i_i693_i_i_i_i;
+    u1 v_5_i26_i_i695_i_i_i_i;
+    u1 v_6_i28_i_i697_i_i_i_i;
+    u64 v_i_i_i;
+    u64 v_sink_i_i_i;
+    u64 v_411;
+    u1 v_10_i_i701_i_i_i_i;
+    u64 v_412;
+    u64 v_spec_select20_i_i702_i_i_i_i;
+    u64 v_0_sroa_0_0_i705_i_i_i_i;
+    u64 v_0_1_i97_i_i49_i_i_i_i;
+    u1 v_413;
+    u64 v_0_1_i95_i_i53_i_i_i_i;
+    u1 v_414;
+    u64 v_4_1_i89_i_i56_i_i_i_i;
+    u1 v_5_i90_i_i57_i_i_i_i;
+    u64 v_415;
+    u64 v_0_sroa_0_0_i91_i_i58_i_i_i_i;
+    u64 v_10_sroa_0_0_i59_i_i60_i_i_i_i;
+    u64 v_0_i102_i_i62_i_i_i_i;
+    u1 v_3_i_i61_i_i63_i_i_i_i;
+    u64 v_0_sroa_0_0_i_i62_i_i64_i_v_i_i_i;
+    u64 v_0_sroa_0_0_i_i62_i_i64_i_i_i_i;
+    u64 v_416;
+    u1 v_3_i_i_i_i65_i_i_i_i;
+    u1 v_4_i_i_i_i67_i_i_i_i;
+    u64 v_417;
+    u1 v_5_i_i_i_i69_i_i_i_i;
+    u64 v_418;
+    u1 v_6_i_i_i_i71_i_i_i_i;
+    u64 v_419;
+    u64 v_420;
+    u64 v_421;
+    u64 v_10_sroa_0_0_i_i_i76_i_i_i_i;
+    u64 v_0_i104_i_i78_i_i_i_i;
+    u1 v_3_i2_i_i_i79_i_i_i_i;
+    u64 v_0_sroa_0_0_i3_i_i_i80_i_v_i_i_i;
+    u64 v_0_sroa_0_0_i3_i_i_i80_i_i_i_i;
+    u64 v_422;
+    u1 v_3_i_i_i81_i_i_i_i;
+    u1 v_4_i_i_i83_i_i_i_i;
+    u1 v_5_i_i_i85_i_i_i_i;
+    u1 v_6_i_i_i87_i_i_i_i;
+    u64 v_66_i_i_i;
+    u64 v_sink61_i_i_i;
+    u64 v_423;
+    u1 v_31_i_i91_i_i_i_i;
+    u64 v_424;
+    u64 v_spec_select19_i_i92_i_i_i_i;
+    u64 v_425;
+    u1 v_426;
+    u64 v_4_1_i_i_i281_i_i_i_i;
+    u1 v_5_i84_i_i282_i_i_i_i;
+    u64 v_427;
+    u64 v_0_sroa_0_0_i85_i_i283_i_i_i_i;
+    u64 v_10_sroa_0_0_i79_i_i285_i_i_i_i;
+    u64 v_0_i_i_i287_i_i_i_i;
+    u1 v_3_i_i81_i_i288_i_i_i_i;
+    u64 v_0_sroa_0_0_i_i82_i_i289_i_v_i_i_i;
+    u64 v_0_sroa_0_0_i_i82_i_i289_i_i_i_i;
+    u64 v_428;
+    u1 v_3_i22_i_i290_i_i_i_i;
+    u1 v_4_i24_i_i292_i_i_i_i;
+    u1 v_5_i26_i_i294_i_i_i_i;
+    u1 v_6_i28_i_i296_i_i_i_i;
+    u64 v_67_i_i_i;
+    u64 v_sink62_i_i_i;
+    u64 v_429;
+    u1 v_10_i_i300_i_i_i_i;
+    u64 v_430;
+    u64 v_spec_select20_i_i301_i_i_i_i;
+    u1 v_431;
+    u64 v_4_1_i_i_i414_i_i_i_i;
+    u1 v_5_i84_i_i415_i_i_i_i;
+    u64 v_432;
+    u64 v_0_sroa_0_0_i85_i_i416_i_i_i_i;
+    u64 v_10_sroa_0_0_i79_i_i418_i_i_i_i;
+    u64 v_0_i_i_i420_i_i_i_i;
+    u1 v_3_i_i81_i_i421_i_i_i_i;
+    u64 v_0_sroa_0_0_i_i82_i_i422_i_v_i_i_i;
+    u64 v_0_sroa_0_0_i_i82_i_i422_i_i_i_i;
+    u64 v_433;
+    u1 v_3_i22_i_i423_i_i_i_i;
+    u1 v_4_i24_i_i425_i_i_i_i;
+    u1 v_5_i26_i_i427_i_i_i_i;
+    u1 v_6_i28_i_i429_i_i_i_i;
+    u64 v_68_i_i_i;
+    u64 v_sink63_i_i_i;
+    u64 v_434;
+    u1 v_10_i_i433_i_i_i_i;
+    u64 v_435;
+    u64 v_spec_select20_i_i434_i_i_i_i;
+    u64 v_0_sroa_0_0_i437_i_i_i_i;
+    u64 v_0_1_i97_i_i182_i_i_i_i;
+    u1 v_436;
+    u64 v_0_1_i95_i_i186_i_i_i_i;
+    u1 v_437;
+    u64 v_4_1_i89_i_i189_i_i_i_i;
+    u1 v_5_i90_i_i190_i_i_i_i;
+    u64 v_438;
+    u64 v_0_sroa_0_0_i91_i_i191_i_i_i_i;
+    u64 v_10_sroa_0_0_i59_i_i193_i_i_i_i;
+    u64 v_0_i102_i_i195_i_i_i_i;
+    u1 v_3_i_i61_i_i196_i_i_i_i;
+    u64 v_0_sroa_0_0_i_i62_i_i197_i_v_i_i_i;
+    u64 v_0_sroa_0_0_i_i62_i_i197_i_i_i_i;
+    u64 v_439;
+    u1 v_3_i_i_i_i198_i_i_i_i;
+    u1 v_4_i_i_i_i200_i_i_i_i;
+    u64 v_440;
+    u1 v_5_i_i_i_i202_i_i_i_i;
+    u64 v_441;
+    u1 v_6_i_i_i_i204_i_i_i_i;
+    u64 v_442;
+    u64 v_443;
+    u64 v_444;
+    u64 v_10_sroa_0_0_i_i_i209_i_i_i_i;
+    u64 v_0_i104_i_i211_i_i_i_i;
+    u1 v_3_i2_i_i_i212_i_i_i_i;
+    u64 v_0_sroa_0_0_i3_i_i_i213_i_v_i_i_i;
+    u64 v_0_sroa_0_0_i3_i_i_i213_i_i_i_i;
+    u64 v_445;
+    u1 v_3_i_i_i214_i_i_i_i;
+    u1 v_4_i_i_i216_i_i_i_i;
+    u1 v_5_i_i_i218_i_i_i_i;
+    u1 v_6_i_i_i220_i_i_i_i;
+    u64 v_69_i_i_i;
+    u64 v_sink64_i_i_i;
+    u64 v_446;
+    u1 v_31_i_i224_i_i_i_i;
+    u64 v_447;
+    u64 v_spec_select19_i_i225_i_i_i_i;
+    u64 v_448;
+    u64 v_0_sroa_0_0_i170_i_i_i_i;
+    u1 v_449;
+    u64 v_4_1_i86_i_i_i_i_i_i;
+    u1 v_5_i87_i_i_i_i_i_i;
+    u64 v_450;
+    u64 v_0_sroa_0_0_i88_i_i_i_i_i_i;
+    u64 v_10_sroa_0_0_i69_i_i_i_i_i_i;
+    u64 v_0_i100_i_i_i_i_i_i;
+    u1 v_3_i_i70_i_i_i_i_i_i;
+    u64 v_0_sroa_0_0_i_i71_i_i_i_v_i_i_i;
+    u64 v_0_sroa_0_0_i_i71_i_i_i_i_i_i;
+    u64 v_451;
+    u1 v_3_i36_i_i_i_i_i_i;
+    u1 v_4_i38_i_i_i_i_i_i;
+    u1 v_5_i40_i_i_i_i_i_i;
+    u1 v_6_i42_i_i_i_i_i_i;
+    u64 v_70_i_i_i;
+    u64 v_sink65_i_i_i;
+    u64 v_452;
+    u1 v_33_i_i_i_i_i_i;
+    u64 v_453;
+    u64 v_spec_select_i_i_i_i_i_i;
+    u64 v_454;
+    u64 v_0_sroa_0_0_i_i_i_i29_i;
+    u1 v_6_i_i_i_i;
+    u1 v_7_i_i_i31_i;
+    u64 v_0_sroa_0_0_i_i38_i_i_i;
+    u64 v_455;
+    u1 v_8_i_i_i_i410;
+    u64 v_456;
+    u1 v_9_i_i_i_i411;
+    u64 v_457;
+    u64 v_458;
+    u64 v_459;
+    u1 v_10_i_i_i33_i;
+    u64 v_0_sroa_31_0_in_i_i_ph_i_i;
+    u64 v_0_sroa_31_0_insert_shift_i_i11_i_i;
+    u64 v_460;
+    u1 v_trunc18_i_i_i_i;
+    u64 v_sroa_09_0_insert_insert60_i_i_i;
+    u64 v_sroa_57_0_extract_shift_i_i_i_i;
+    u1 v_11_1_i_i_i_i_i;
+    u64 v_461;
+    u64 v_0_sroa_0_0_insert_insert_i_i_i_i_i;
+    u64 v_sroa_4_0_extract_shift14_i_i_i_i;
+    u1 v_trunc_i_i413;
+    u64 v_sroa_5_0_extract_shift_i36_i;
+    u1 v_10_i_i_i414;
+    u1 v_11_i_i38_i;
+    u1 v_12_i_i40_i;
+    u1 v_13_i_i41_i;
+    u64 v_i6_i_i;
+    u64 v_0_sroa_31_0_in_i_ph_i;
+    u64 v_0_sroa_31_0_insert_shift_i151_i;
+    u64 v_sink_i7_i_i;
+    u64 v_462;
+    u1 v_14_i_i42_i;
+    u64 v_463;
+    u64 v_464;
+    u64 v_0_sroa_0_0_insert_insert_i_i_i;
+    u1 v_trunc_i;
+    u64 v_0_sroa_0_0_insert_insert_i155_i;
+    u64 v_sroa_5_0_extract_shift_i;
+    u1 v_4_i_i;
+    P v_465;
+    P v_466;
+    u64 v_15_1_i_i_i417;
+    u64 v_14_i_i52_i;
+    u64 v_7_i_i53_i;
+    u32 v_16_i_i_i418;
+    u1 v_4_i_i_i_i419;
+    u1 v_9_i_i_i56_i;
+    u16 v_8_i_i_i70_i;
+    P v_48_0_i_i_i_i497;
+    u64 v_start1_i_i_i_i_i;
+    u1 v_8_not_i_i_i_i_i498;
+    u1 v_15_not_i_i_i_i_i500;
+    P v_467;
+    u16 v_7_i_i_sroa_0_sroa_4_0_insert_shift_i_i502;
+    u16 v_7_i_i_sroa_0_sroa_0_0_insert_insert_i_i503;
+    u1 v_14_i_i_i58_i;
+    u8 v_13_i_i_i_i487;
+    P v_51_0_i_i_i_i488;
+    u64 v_start1_i11_i_i_i_i;
+    u1 v_8_not_i12_i_i_i_i489;
+    u1 v_15_not_i15_i_i_i_i491;
+    P v_468;
+    P v_12_i_i_sroa_4_0_sroa_idx_i_i492;
+    P v_12_i_i_sroa_5_0_sroa_idx_i_i493;
+    u1 v_22_i_i_i_i420;
+    P v_54_0_i_i_i_i480;
+    u64 v_start1_i26_i_i_i_i;
+    u1 v_8_not_i27_i_i_i_i481;
+    u1 v_15_not_i30_i_i_i_i483;
+    P v_469;
+    u32 v_470;
+    u32 v_17_i_i_sroa_0_sroa_0_0_insert_insert_i_i484;
+    u64 v_371_i_i_i_i421;
+    u8 v_36_i_i_i_i422;
+    u64 v_402_i_i_i_i423;
+    u8 v_38_i_i_i_i424;
+    u64 v_433_i_i_i_i425;
+    u8 v_41_i_i_i_i426;
+    u8 v_44_i_i_i_i427;
+    P v_60_0_i_i_i_i428;
+    u64 v_start1_i56_i_i_i_i;
+    u1 v_8_not_i57_i_i_i_i429;
+    u1 v_15_not_i60_i_i_i_i431;
+    P v_471;
+    P v_35_i_i_sroa_4_0_sroa_idx_i_i432;
+    P v_35_i_i_sroa_5_0_sroa_idx_i_i433;
+    P v_35_i_i_sroa_6_0_sroa_idx_i_i434;
+    P v_35_i_i_sroa_7_0_sroa_idx_i_i435;
+    P v_35_i_i_sroa_8_0_sroa_idx_i_i436;
+    u64 v_274_i_i_i_i466;
+    u8 v_26_i_i_i_i467;
+    u64 v_305_i_i_i_i468;
+    u8 v_28_i_i_i_i469;
+    u8 v_31_i_i_i66_i;
+    P v_57_0_i_i_i_i470;
+    u64 v_start1_i41_i_i_i_i;
+    u1 v_8_not_i42_i_i_i_i471;
+    u1 v_15_not_i45_i_i_i_i473;
+    P v_472;
+    P v_25_i_i_sroa_4_0_sroa_idx_i_i474;
+    P v_25_i_i_sroa_5_0_sroa_idx_i_i475;
+    P v_25_i_i_sroa_6_0_sroa_idx_i_i476;
+    P v_25_i_i_sroa_7_0_sroa_idx_i_i477;
+    P v_48_0_i_i_i;
+    u64 v_11_i27_i_i;
+    u64 v_before_neg_i28_i_i;
+    u1 v_8_not_i_i_i62_i;
+    u1 v_15_not_i_i_i63_i;
+    u64 v_start1_i_i_i64_i;
+    P v_473;
+    u64 v_7_i31_i_i437;
+    u64 v_6_i32_i_i;
+    u32 v_16_i33_i_i;
+    u1 v_4_i_i35_i_i;
+    u1 v_9_i_i37_i_i;
+    u1 v_15_not_i_i_i127_i_i;
+    u64 v_start1_i_i_i123_i_i;
+    u16 v_8_i_i119_i_i;
+    P v_474;
+    u16 v_7_i_i25_sroa_0_sroa_4_0_insert_shift_i_i;
+    u16 v_7_i_i25_sroa_0_sroa_0_0_insert_insert_i_i;
+    u1 v_14_i_i39_i_i;
+    u1 v_15_not_i15_i_i111_i_i;
+    u64 v_start1_i11_i_i107_i_i;
+    u8 v_13_i_i103_i_i;
+    P v_475;
+    P v_12_i_i24_sroa_4_0_sroa_idx_i_i;
+    P v_12_i_i24_sroa_5_0_sroa_idx_i_i;
+    u1 v_22_i_i41_i_i;
+    u1 v_15_not_i30_i_i95_i_i;
+    u64 v_start1_i26_i_i91_i_i;
+    P v_476;
+    u32 v_477;
+    u32 v_17_i_i23_sroa_0_sroa_0_0_insert_insert_i_i;
+    u1 v_15_not_i60_i_i57_i_i;
+    u64 v_start1_i56_i_i53_i_i;
+    u8 v_44_i_i49_i_i;
+    u64 v_433_i_i47_i_i;
+    u8 v_41_i_i48_i_i;
+    u64 v_402_i_i45_i_i;
+    u8 v_38_i_i46_i_i;
+    u64 v_371_i_i43_i_i;
+    u8 v_36_i_i44_i_i;
+    P v_478;
+    P v_35_i_i21_sroa_4_0_sroa_idx_i_i;
+    P v_35_i_i21_sroa_5_0_sroa_idx_i_i;
+    P v_35_i_i21_sroa_6_0_sroa_idx_i_i;
+    P v_35_i_i21_sroa_7_0_sroa_idx_i_i;
+    P v_35_i_i21_sroa_8_0_sroa_idx_i_i;
+    u1 v_15_not_i45_i_i77_i_i;
+    u64 v_start1_i41_i_i73_i_i;
+    u8 v_31_i_i69_i_i;
+    u64 v_305_i_i67_i_i;
+    u8 v_28_i_i68_i_i;
+    u64 v_274_i_i65_i_i;
+    u8 v_26_i_i66_i_i;
+    P v_479;
+    P v_25_i_i22_sroa_4_0_sroa_idx_i_i;
+    P v_25_i_i22_sroa_5_0_sroa_idx_i_i;
+    P v_25_i_i22_sroa_6_0_sroa_idx_i_i;
+    P v_25_i_i22_sroa_7_0_sroa_idx_i_i;
+    u64 v_start1_i_i_i123_sink_i_i;
+    u64 v_7_i5_i;
+    u32 v_16_i_i439;
+    u1 v_4_i_i_i440;
+    u1 v_9_i_i_i442;
+    u16 v_8_i_i_i460;
+    u1 v_8_not_i_i_i_i;
+    u1 v_15_not_i_i_i_i;
+    P v_480;
+    P v_481;
+    u16 v_7_i_i_sroa_0_sroa_4_0_insert_shift_i;
+    u16 v_7_i_i_sroa_0_sroa_0_0_insert_insert_i;
+    u1 v_14_i_i_i444;
+    u8 v_13_i_i_i;
+    u1 v_8_not_i12_i_i_i;
+    u1 v_15_not_i15_i_i_i;
+    P v_482;
+    P v_483;
+    P v_12_i_i_sroa_4_0_sroa_idx_i;
+    P v_12_i_i_sroa_5_0_sroa_idx_i;
+    u1 v_22_i_i_i446;
+    u1 v_8_not_i27_i_i_i;
+    u1 v_15_not_i30_i_i_i;
+    P v_484;
+    P v_485;
+    u32 v_486;
+    u32 v_17_i_i_sroa_0_sroa_0_0_insert_insert_i;
+    u64 v_371_i_i_i;
+    u8 v_36_i_i_i448;
+    u64 v_402_i_i_i;
+    u8 v_38_i_i_i449;
+    u64 v_433_i_i_i;
+    u8 v_41_i_i_i450;
+    u8 v_44_i_i_i;
+    u1 v_8_not_i57_i_i_i;
+    u1 v_15_not_i60_i_i_i;
+    P v_487;
+    P v_488;
+    P v_35_i_i_sroa_4_0_sroa_idx_i;
+    P v_35_i_i_sroa_5_0_sroa_idx_i;
+    P v_35_i_i_sroa_6_0_sroa_idx_i;
+    P v_35_i_i_sroa_7_0_sroa_idx_i;
+    P v_35_i_i_sroa_8_0_sroa_idx_i;
+    u64 v_274_i_i_i;
+    u8 v_26_i_i_i454;
+    u64 v_305_i_i_i;
+    u8 v_28_i_i_i455;
+    u8 v_31_i_i_i456;
+    u1 v_8_not_i42_i_i_i;
+    u1 v_15_not_i45_i_i_i;
+    P v_489;
+    P v_490;
+    P v_25_i_i_sroa_4_0_sroa_idx_i;
+    P v_25_i_i_sroa_5_0_sroa_idx_i;
+    P v_25_i_i_sroa_6_0_sroa_idx_i;
+    P v_25_i_i_sroa_7_0_sroa_idx_i;
+    u32 v_492;
+    u64 v_0_sroa_0_0_insert_insert_i167_i;
+    u64 v_sroa_4_0_extract_shift_i505;
+    u8 v_error_sroa_0_0_extract_trunc_i;
+    u32 v_0_sroa_0_0_i3;
     u32 v_0_sroa_0_0;
-    u32 v_0_sroa_0_1;
-    u64 v_writer_i36_i_sroa_12_1_sink;
-    u64 v_23_i79_i_sink_in;
-    u64 v_0_sroa_5_0_i;
-    u16 v_23_i79_i_sink;
-    P v_237;
-    P v_238;
-    u16 v_22_i35_i_sroa_0_sroa_4_0_insert_shift;
-    u16 v_22_i35_i_sroa_0_sroa_0_0_insert_insert;
+    u64 v_start1_i_i102_i_sink;
+    u64 v_59_i98_i_sink_in_in;
+    u64 v_0_sroa_5_0_i_ph_ph;
+    u8 v_59_i98_i_sink_in;
+    u8 v_59_i98_i_sink;
+    P v_493;
+    P v_58_i33_i_sroa_4_0_sroa_idx;
+    P v_58_i33_i_sroa_5_0_sroa_idx;
+    P v_58_i33_i_sroa_6_0_sroa_idx;
+    P v_58_i33_i_sroa_7_0_sroa_idx;
+    P v_58_i33_i_sroa_8_0_sroa_idx;
+    P v_58_i33_i_sroa_9_0_sroa_idx;
+    P v_58_i33_i_sroa_10_0_sroa_idx;
+    P v_58_i33_i_sroa_11_0_sroa_idx;
+    P v_58_i33_i_sroa_12_0_sroa_idx;
+    P v_58_i33_i_sroa_13_0_sroa_idx;
+    P v_58_i33_i_sroa_14_0_sroa_idx;
+    P v_58_i33_i_sroa_15_0_sroa_idx;
     u64 v_0_sroa_5_0_i_ph;
+    u64 v_0_sroa_5_0_i;
+    v_writer_i_i393 = AT(m_v_writer_i_i393);
     v_writer_i_i_i = AT(m_v_writer_i_i_i);
-    v_9 = AT(m_v_9);
-    v_7 = AT(m_v_7);
+    v_made_i = AT(m_v_made_i);
     v_8_i = v_params + 40;
     v_0 = v_params + 16;
     v_1 = get_u8(v_0);
@@ -12932,13 +12924,13 @@ L_bb19_i_i:;
     v_4 = (u1)((v_3) & 1);
     v_5 = v_params + 80;
     v_6 = get_u8(v_5);
-    v_7__2 = (u1)((v_6) & 1);
+    v_7 = (u1)((v_6) & 1);
     v_not = (u1)(((u32)(v_4) ^ (u32)(1u)) & 1);
-    v_8 = v_not ? 1u : v_7__2;
+    v_8 = v_not ? 1u : v_7;
     if (v_8) { goto L_bb3; } else { goto L_bb2_i; }
 L_bb2_i:;
-    v_9__2 = v_params + 120;
-    v_10 = get_u8(v_9__2);
+    v_9 = v_params + 120;
+    v_10 = get_u8(v_9);
     v_16_i = (u1)((v_10) & 1);
     v_11 = v_params + 121;
     v_17_i = get_u8(v_11);
@@ -12964,7 +12956,8 @@ L_bb3_i:;
     v_15_0_i = get_P(v_18);
     v_19 = v_params + 136;
     v_15_1_i = get_u64(v_19);
-    v_9_not_i = v_15_1_i < 64u;
+    v_i = v_place_0 ? 51u : 64u;
+    v_9_not_i = v_i > v_15_1_i;
     v_20 = v_14_1_i == 9u;
     v_or_cond = (u1)(((u32)(v_20) & (u32)(v_9_not_i)) & 1);
     if (v_or_cond) { goto L_bb2_i_i; } else { goto L_bb3; }
@@ -13004,8 +12997,8 @@ L_hash_fields_is_pkcs1_exit_i:;
     v_28 = v_14_0_i + 8;
     v_36_i_i = get_u8(v_28);
     v_29 = v_36_i_i == 9u;
-    if (v_29) { goto L_bb3_i6; } else { goto L_bb3; }
-L_bb3_i6:;
+    if (v_29) { goto L_bb3_i9; } else { goto L_bb3; }
+L_bb3_i9:;
     v_30 = v_13_1_i == 9u;
     if (v_30) { goto L_bb2_i_i_i; } else { p_v_0_sroa_5_sroa_0_0_i_i = 0u; p_v_0_sroa_0_0_i9_i = 2u; goto L_known_known_hashes_exit_i; }
 L_bb2_i_i_i:;
@@ -13045,8 +13038,8 @@ L_hash_fields_is_pkcs1_exit_i_i:;
     v_36_i_i_i = get_u8(v_38);
     v_39 = v_36_i_i_i == 8u;
     v_40 = v_hash_1_i == 9u;
-    v_or_cond213 = (u1)(((u32)(v_40) & (u32)(v_39)) & 1);
-    if (v_or_cond213) { goto L_bb5_i36_i_i; } else { p_v_0_sroa_5_sroa_0_0_i_i = 0u; p_v_0_sroa_0_0_i9_i = 2u; goto L_known_known_hashes_exit_i; }
+    v_or_cond645 = (u1)(((u32)(v_40) & (u32)(v_39)) & 1);
+    if (v_or_cond645) { goto L_bb5_i36_i_i; } else { p_v_0_sroa_5_sroa_0_0_i_i = 0u; p_v_0_sroa_0_0_i9_i = 2u; goto L_known_known_hashes_exit_i; }
 L_bb5_i36_i_i:;
     v_22_i37_i_i = get_u8(v_hash_0_i);
     v_21_i38_i_i = v_22_i37_i_i == 96u;
@@ -13084,8 +13077,8 @@ L_bb6_i60_i_i:;
     v_38_i61_i_i = get_u8(v_48);
     v_37_i62_i_i = (u8)(v_38_i61_i_i ^ ((u8)1 << 7)) > (u8)(255u ^ ((u8)1 << 7));
     v_49 = v_under_1_i == 9u;
-    v_or_cond214 = (u1)(((u32)(v_49) & (u32)(v_37_i62_i_i)) & 1);
-    if (v_or_cond214) { goto L_bb5_i_i_i; } else { p_v_0_sroa_5_sroa_0_0_i_i = 0u; p_v_0_sroa_0_0_i9_i = 2u; goto L_known_known_hashes_exit_i; }
+    v_or_cond646 = (u1)(((u32)(v_49) & (u32)(v_37_i62_i_i)) & 1);
+    if (v_or_cond646) { goto L_bb5_i_i_i; } else { p_v_0_sroa_5_sroa_0_0_i_i = 0u; p_v_0_sroa_0_0_i9_i = 2u; goto L_known_known_hashes_exit_i; }
 L_bb5_i_i_i:;
     v_22_i10_i_i = get_u8(v_under_0_i);
     v_21_i11_i_i = v_22_i10_i_i == 96u;
@@ -13152,899 +13145,1527 @@ L_bb7_i:;
     v_spec_select_i40_i = v_hash_01_i ? 15u : 0u;
     v_28_sroa_0_0_i43_i = v_under_03_i_not_not ? 0u : 28u;
     v_10_i44_i = (u64)((u64)(v_spec_select_i40_i) + (u64)(v_28_sroa_0_0_i43_i));
-    v_len_i50_i = (u64)((u64)(v_10_i44_i) + (u64)(2u));
+    v_spec_select12_i49_i = v_place_0 ? 15u : 2u;
+    v_len_i50_i = (u64)((u64)(v_10_i44_i) + (u64)(v_spec_select12_i49_i));
     v_16_i51_i = v_len_i50_i > v_out_1;
-    if (v_16_i51_i) { p_v_0_sroa_5_0_i_ph = v_len_i50_i; goto L_bb13; } else { goto L_copy_from_slice_pkcs1_c_exit92; }
-L_copy_from_slice_pkcs1_c_exit92:;
-    if (v_under_03_i_not_not) { p_v_writer_i36_i_sroa_12_0 = v_len_i50_i; goto L_bb23_i75_i; } else { goto L_bb2_i7_i; }
+    if (v_16_i51_i) { p_v_0_sroa_5_0_i = v_len_i50_i; goto L_bb7; } else { goto L_copy_from_slice_pkcs1_c_exit105; }
+L_copy_from_slice_pkcs1_c_exit105:;
+    if (v_under_03_i_not_not) { p_v_writer_i36_i_sroa_14_0 = v_len_i50_i; goto L_bb23_i75_i; } else { goto L_bb2_i7_i; }
 L_bb2_i7_i:;
-    v_start1_i5_i = (u64)((u64)(v_10_i44_i) + (u64)(18446744073709551590ull));
-    v_15_not_i9_i = v_start1_i5_i > v_len_i50_i;
-    if (v_15_not_i9_i) { goto L_bb7_i13_i; } else { goto L_copy_from_slice_pkcs1_c_exit95; }
+    v_15_not_i9_i = v_len_i50_i < 28u;
+    if (v_15_not_i9_i) { goto L_bb7_i13_i; } else { goto L_copy_from_slice_pkcs1_c_exit109; }
 L_bb7_i13_i:;
     TRAP();
     TRAP();
-L_copy_from_slice_pkcs1_c_exit95:;
+L_copy_from_slice_pkcs1_c_exit109:;
+    v_start1_i5_i = (u64)((u64)(v_len_i50_i) + (u64)(18446744073709551588ull));
     v_66 = v_out_0 + (int64_t)(v_start1_i5_i);
     put_u8(v_66, 161u);
-    v_9_i14_sroa_4_0_sroa_idx = v_66 + 1;
-    put_u8(v_9_i14_sroa_4_0_sroa_idx, 26u);
-    v_9_i14_sroa_5_0_sroa_idx = v_66 + 2;
-    put_u8(v_9_i14_sroa_5_0_sroa_idx, 48u);
-    v_9_i14_sroa_6_0_sroa_idx = v_66 + 3;
-    put_u8(v_9_i14_sroa_6_0_sroa_idx, 24u);
-    v_9_i14_sroa_7_0_sroa_idx = v_66 + 4;
-    put_u8(v_9_i14_sroa_7_0_sroa_idx, 6u);
-    v_9_i14_sroa_8_0_sroa_idx = v_66 + 5;
-    put_u8(v_9_i14_sroa_8_0_sroa_idx, 9u);
-    v_9_i14_sroa_9_0_sroa_idx = v_66 + 6;
-    put_u8(v_9_i14_sroa_9_0_sroa_idx, 42u);
-    v_9_i14_sroa_10_0_sroa_idx = v_66 + 7;
-    put_u8(v_9_i14_sroa_10_0_sroa_idx, 134u);
-    v_9_i14_sroa_11_0_sroa_idx = v_66 + 8;
-    put_u8(v_9_i14_sroa_11_0_sroa_idx, 72u);
-    v_9_i14_sroa_12_0_sroa_idx = v_66 + 9;
-    put_u8(v_9_i14_sroa_12_0_sroa_idx, 134u);
-    v_9_i14_sroa_13_0_sroa_idx = v_66 + 10;
-    put_u8(v_9_i14_sroa_13_0_sroa_idx, 247u);
-    v_9_i14_sroa_14_0_sroa_idx = v_66 + 11;
-    put_u8(v_9_i14_sroa_14_0_sroa_idx, 13u);
-    v_9_i14_sroa_15_0_sroa_idx = v_66 + 12;
-    put_u8(v_9_i14_sroa_15_0_sroa_idx, 1u);
-    v_9_i14_sroa_16_0_sroa_idx = v_66 + 13;
-    put_u8(v_9_i14_sroa_16_0_sroa_idx, 1u);
-    v_9_i14_sroa_17_0_sroa_idx = v_66 + 14;
-    put_u8(v_9_i14_sroa_17_0_sroa_idx, 8u);
-    v_9_i14_sroa_18_0_sroa_idx = v_66 + 15;
-    put_u8(v_9_i14_sroa_18_0_sroa_idx, 48u);
-    v_9_i14_sroa_19_0_sroa_idx = v_66 + 16;
-    put_u8(v_9_i14_sroa_19_0_sroa_idx, 11u);
-    v_9_i14_sroa_20_0_sroa_idx = v_66 + 17;
-    put_u8(v_9_i14_sroa_20_0_sroa_idx, 6u);
-    v_9_i14_sroa_21_0_sroa_idx = v_66 + 18;
-    put_u8(v_9_i14_sroa_21_0_sroa_idx, 9u);
-    v_9_i14_sroa_22_0_sroa_idx = v_66 + 19;
-    put_u8(v_9_i14_sroa_22_0_sroa_idx, 96u);
-    v_9_i14_sroa_23_0_sroa_idx = v_66 + 20;
-    put_u8(v_9_i14_sroa_23_0_sroa_idx, 134u);
-    v_9_i14_sroa_24_0_sroa_idx = v_66 + 21;
-    put_u8(v_9_i14_sroa_24_0_sroa_idx, 72u);
-    v_9_i14_sroa_25_0_sroa_idx = v_66 + 22;
-    put_u8(v_9_i14_sroa_25_0_sroa_idx, 1u);
-    v_9_i14_sroa_26_0_sroa_idx = v_66 + 23;
-    put_u8(v_9_i14_sroa_26_0_sroa_idx, 101u);
-    v_9_i14_sroa_27_0_sroa_idx = v_66 + 24;
-    put_u8(v_9_i14_sroa_27_0_sroa_idx, 3u);
-    v_9_i14_sroa_28_0_sroa_idx = v_66 + 25;
-    put_u8(v_9_i14_sroa_28_0_sroa_idx, 4u);
-    v_9_i14_sroa_29_0_sroa_idx = v_out_0 + (int64_t)(v_10_i44_i);
-    put_u8(v_9_i14_sroa_29_0_sroa_idx, 2u);
-    v_9_i14_sroa_30_0_sroa_idx = v_66 + 27;
-    put_u8(v_9_i14_sroa_30_0_sroa_idx, v_sroa_6_0_extract_trunc_i);
-    { p_v_writer_i36_i_sroa_12_0 = v_start1_i5_i; goto L_bb23_i75_i; }
+    v_9_i17_sroa_4_0_sroa_idx = v_66 + 1;
+    put_u8(v_9_i17_sroa_4_0_sroa_idx, 26u);
+    v_9_i17_sroa_5_0_sroa_idx = v_66 + 2;
+    put_u8(v_9_i17_sroa_5_0_sroa_idx, 48u);
+    v_9_i17_sroa_6_0_sroa_idx = v_66 + 3;
+    put_u8(v_9_i17_sroa_6_0_sroa_idx, 24u);
+    v_9_i17_sroa_7_0_sroa_idx = v_66 + 4;
+    put_u8(v_9_i17_sroa_7_0_sroa_idx, 6u);
+    v_9_i17_sroa_8_0_sroa_idx = v_66 + 5;
+    put_u8(v_9_i17_sroa_8_0_sroa_idx, 9u);
+    v_9_i17_sroa_9_0_sroa_idx = v_66 + 6;
+    put_u8(v_9_i17_sroa_9_0_sroa_idx, 42u);
+    v_9_i17_sroa_10_0_sroa_idx = v_66 + 7;
+    put_u8(v_9_i17_sroa_10_0_sroa_idx, 134u);
+    v_9_i17_sroa_11_0_sroa_idx = v_66 + 8;
+    put_u8(v_9_i17_sroa_11_0_sroa_idx, 72u);
+    v_9_i17_sroa_12_0_sroa_idx = v_66 + 9;
+    put_u8(v_9_i17_sroa_12_0_sroa_idx, 134u);
+    v_9_i17_sroa_13_0_sroa_idx = v_66 + 10;
+    put_u8(v_9_i17_sroa_13_0_sroa_idx, 247u);
+    v_9_i17_sroa_14_0_sroa_idx = v_66 + 11;
+    put_u8(v_9_i17_sroa_14_0_sroa_idx, 13u);
+    v_9_i17_sroa_15_0_sroa_idx = v_66 + 12;
+    put_u8(v_9_i17_sroa_15_0_sroa_idx, 1u);
+    v_9_i17_sroa_16_0_sroa_idx = v_66 + 13;
+    put_u8(v_9_i17_sroa_16_0_sroa_idx, 1u);
+    v_9_i17_sroa_17_0_sroa_idx = v_66 + 14;
+    put_u8(v_9_i17_sroa_17_0_sroa_idx, 8u);
+    v_9_i17_sroa_18_0_sroa_idx = v_66 + 15;
+    put_u8(v_9_i17_sroa_18_0_sroa_idx, 48u);
+    v_9_i17_sroa_19_0_sroa_idx = v_66 + 16;
+    put_u8(v_9_i17_sroa_19_0_sroa_idx, 11u);
+    v_9_i17_sroa_20_0_sroa_idx = v_66 + 17;
+    put_u8(v_9_i17_sroa_20_0_sroa_idx, 6u);
+    v_9_i17_sroa_21_0_sroa_idx = v_66 + 18;
+    put_u8(v_9_i17_sroa_21_0_sroa_idx, 9u);
+    v_9_i17_sroa_22_0_sroa_idx = v_66 + 19;
+    put_u8(v_9_i17_sroa_22_0_sroa_idx, 96u);
+    v_9_i17_sroa_23_0_sroa_idx = v_66 + 20;
+    put_u8(v_9_i17_sroa_23_0_sroa_idx, 134u);
+    v_9_i17_sroa_24_0_sroa_idx = v_66 + 21;
+    put_u8(v_9_i17_sroa_24_0_sroa_idx, 72u);
+    v_9_i17_sroa_25_0_sroa_idx = v_66 + 22;
+    put_u8(v_9_i17_sroa_25_0_sroa_idx, 1u);
+    v_9_i17_sroa_26_0_sroa_idx = v_66 + 23;
+    put_u8(v_9_i17_sroa_26_0_sroa_idx, 101u);
+    v_9_i17_sroa_27_0_sroa_idx = v_66 + 24;
+    put_u8(v_9_i17_sroa_27_0_sroa_idx, 3u);
+    v_9_i17_sroa_28_0_sroa_idx = v_66 + 25;
+    put_u8(v_9_i17_sroa_28_0_sroa_idx, 4u);
+    v_9_i17_sroa_29_0_sroa_idx = v_66 + 26;
+    put_u8(v_9_i17_sroa_29_0_sroa_idx, 2u);
+    v_9_i17_sroa_30_0_sroa_idx = v_66 + 27;
+    put_u8(v_9_i17_sroa_30_0_sroa_idx, v_sroa_6_0_extract_trunc_i);
+    { p_v_writer_i36_i_sroa_14_0 = v_start1_i5_i; goto L_bb23_i75_i; }
 L_bb23_i75_i:;
-    v_writer_i36_i_sroa_12_0 = p_v_writer_i36_i_sroa_12_0;
-    if (v_hash_01_i) { goto L_bb24_i115_i; } else { p_v_writer_i36_i_sroa_12_1 = v_writer_i36_i_sroa_12_0; goto L_bb21_i78_i; }
+    v_writer_i36_i_sroa_14_0 = p_v_writer_i36_i_sroa_14_0;
+    if (v_hash_01_i) { goto L_bb24_i115_i; } else { p_v_writer_i36_i_sroa_14_1 = v_writer_i36_i_sroa_14_0; goto L_bb21_i78_i; }
 L_bb24_i115_i:;
-    v_15_not_i9_i59 = v_writer_i36_i_sroa_12_0 < 15u;
-    if (v_15_not_i9_i59) { goto L_bb7_i13_i64; } else { goto L_copy_from_slice_pkcs1_c_exit98; }
-L_bb7_i13_i64:;
+    v_start1_i5_i59 = (u64)((u64)(v_writer_i36_i_sroa_14_0) + (u64)(18446744073709551601ull));
+    v_8_not_i6_i60 = v_writer_i36_i_sroa_14_0 > v_len_i50_i;
+    if (v_8_not_i6_i60) { goto L_bb4_i14_i69; } else { goto L_bb2_i7_i61; }
+L_bb4_i14_i69:;
     TRAP();
     TRAP();
-L_copy_from_slice_pkcs1_c_exit98:;
-    v_start1_i5_i55 = (u64)((u64)(v_writer_i36_i_sroa_12_0) + (u64)(18446744073709551601ull));
-    v_67 = v_out_0 + (int64_t)(v_start1_i5_i55);
+L_bb2_i7_i61:;
+    v_15_not_i9_i63 = v_writer_i36_i_sroa_14_0 < 15u;
+    if (v_15_not_i9_i63) { goto L_bb7_i13_i68; } else { goto L_copy_from_slice_pkcs1_c_exit113; }
+L_bb7_i13_i68:;
+    TRAP();
+    TRAP();
+L_copy_from_slice_pkcs1_c_exit113:;
+    v_67 = v_out_0 + (int64_t)(v_start1_i5_i59);
     put_u8(v_67, 160u);
-    v_9_i50_sroa_4_0_sroa_idx = v_67 + 1;
-    put_u8(v_9_i50_sroa_4_0_sroa_idx, 13u);
-    v_9_i50_sroa_5_0_sroa_idx = v_67 + 2;
-    put_u8(v_9_i50_sroa_5_0_sroa_idx, 48u);
-    v_9_i50_sroa_6_0_sroa_idx = v_67 + 3;
-    put_u8(v_9_i50_sroa_6_0_sroa_idx, 11u);
-    v_9_i50_sroa_7_0_sroa_idx = v_67 + 4;
-    put_u8(v_9_i50_sroa_7_0_sroa_idx, 6u);
-    v_9_i50_sroa_8_0_sroa_idx = v_67 + 5;
-    put_u8(v_9_i50_sroa_8_0_sroa_idx, 9u);
-    v_9_i50_sroa_9_0_sroa_idx = v_67 + 6;
-    put_u8(v_9_i50_sroa_9_0_sroa_idx, 96u);
-    v_9_i50_sroa_10_0_sroa_idx = v_67 + 7;
-    put_u8(v_9_i50_sroa_10_0_sroa_idx, 134u);
-    v_9_i50_sroa_11_0_sroa_idx = v_67 + 8;
-    put_u8(v_9_i50_sroa_11_0_sroa_idx, 72u);
-    v_9_i50_sroa_12_0_sroa_idx = v_67 + 9;
-    put_u8(v_9_i50_sroa_12_0_sroa_idx, 1u);
-    v_9_i50_sroa_13_0_sroa_idx = v_67 + 10;
-    put_u8(v_9_i50_sroa_13_0_sroa_idx, 101u);
-    v_9_i50_sroa_14_0_sroa_idx = v_67 + 11;
-    put_u8(v_9_i50_sroa_14_0_sroa_idx, 3u);
-    v_9_i50_sroa_15_0_sroa_idx = v_67 + 12;
-    put_u8(v_9_i50_sroa_15_0_sroa_idx, 4u);
-    v_9_i50_sroa_16_0_sroa_idx = v_67 + 13;
-    put_u8(v_9_i50_sroa_16_0_sroa_idx, 2u);
-    v_9_i50_sroa_17_0_sroa_idx = v_67 + 14;
-    put_u8(v_9_i50_sroa_17_0_sroa_idx, v_sroa_4_0_extract_trunc_i);
-    { p_v_writer_i36_i_sroa_12_1 = v_start1_i5_i55; goto L_bb21_i78_i; }
+    v_9_i54_sroa_4_0_sroa_idx = v_67 + 1;
+    put_u8(v_9_i54_sroa_4_0_sroa_idx, 13u);
+    v_9_i54_sroa_5_0_sroa_idx = v_67 + 2;
+    put_u8(v_9_i54_sroa_5_0_sroa_idx, 48u);
+    v_9_i54_sroa_6_0_sroa_idx = v_67 + 3;
+    put_u8(v_9_i54_sroa_6_0_sroa_idx, 11u);
+    v_9_i54_sroa_7_0_sroa_idx = v_67 + 4;
+    put_u8(v_9_i54_sroa_7_0_sroa_idx, 6u);
+    v_9_i54_sroa_8_0_sroa_idx = v_67 + 5;
+    put_u8(v_9_i54_sroa_8_0_sroa_idx, 9u);
+    v_9_i54_sroa_9_0_sroa_idx = v_67 + 6;
+    put_u8(v_9_i54_sroa_9_0_sroa_idx, 96u);
+    v_9_i54_sroa_10_0_sroa_idx = v_67 + 7;
+    put_u8(v_9_i54_sroa_10_0_sroa_idx, 134u);
+    v_9_i54_sroa_11_0_sroa_idx = v_67 + 8;
+    put_u8(v_9_i54_sroa_11_0_sroa_idx, 72u);
+    v_9_i54_sroa_12_0_sroa_idx = v_67 + 9;
+    put_u8(v_9_i54_sroa_12_0_sroa_idx, 1u);
+    v_9_i54_sroa_13_0_sroa_idx = v_67 + 10;
+    put_u8(v_9_i54_sroa_13_0_sroa_idx, 101u);
+    v_9_i54_sroa_14_0_sroa_idx = v_67 + 11;
+    put_u8(v_9_i54_sroa_14_0_sroa_idx, 3u);
+    v_9_i54_sroa_15_0_sroa_idx = v_67 + 12;
+    put_u8(v_9_i54_sroa_15_0_sroa_idx, 4u);
+    v_9_i54_sroa_16_0_sroa_idx = v_67 + 13;
+    put_u8(v_9_i54_sroa_16_0_sroa_idx, 2u);
+    v_9_i54_sroa_17_0_sroa_idx = v_67 + 14;
+    put_u8(v_9_i54_sroa_17_0_sroa_idx, v_sroa_4_0_extract_trunc_i);
+    { p_v_writer_i36_i_sroa_14_1 = v_start1_i5_i59; goto L_bb21_i78_i; }
 L_bb21_i78_i:;
-    v_writer_i36_i_sroa_12_1 = p_v_writer_i36_i_sroa_12_1;
-    v_8_not_i18_i84_i = v_writer_i36_i_sroa_12_1 > v_len_i50_i;
+    v_writer_i36_i_sroa_14_1 = p_v_writer_i36_i_sroa_14_1;
+    v_start1_i17_i83_i = (u64)((u64)(v_writer_i36_i_sroa_14_1) + (u64)(18446744073709551614ull));
+    v_8_not_i18_i84_i = v_writer_i36_i_sroa_14_1 > v_len_i50_i;
     if (v_8_not_i18_i84_i) { goto L_bb4_i26_i114_i; } else { goto L_bb2_i19_i85_i; }
 L_bb4_i26_i114_i:;
     TRAP();
     TRAP();
 L_bb2_i19_i85_i:;
-    v_15_not_i21_i87_i = v_writer_i36_i_sroa_12_1 < 2u;
-    if (v_15_not_i21_i87_i) { goto L_bb7_i25_i113_i; } else { p_v_writer_i36_i_sroa_12_1_sink = v_writer_i36_i_sroa_12_1; p_v_23_i79_i_sink_in = v_10_i44_i; p_v_0_sroa_5_0_i = v_len_i50_i; goto L_bb14; }
+    v_15_not_i21_i87_i = v_writer_i36_i_sroa_14_1 < 2u;
+    if (v_15_not_i21_i87_i) { goto L_bb7_i25_i113_i; } else { goto L_copy_from_slice_pkcs1_c_exit117; }
 L_bb7_i25_i113_i:;
     TRAP();
     TRAP();
+L_copy_from_slice_pkcs1_c_exit117:;
+    v_68 = v_out_0 + (int64_t)(v_start1_i17_i83_i);
+    v_69 = (u16)(v_10_i44_i);
+    v_22_i35_i_sroa_0_sroa_4_0_insert_shift = (u16)((u32)(v_69) << (u32)((8u & 31)));
+    v_22_i35_i_sroa_0_sroa_0_0_insert_insert = (u16)((u32)(v_22_i35_i_sroa_0_sroa_4_0_insert_shift) | (u32)(48u));
+    put_u16(v_68, v_22_i35_i_sroa_0_sroa_0_0_insert_insert);
+    if (v_place_0) { goto L_bb27_i97_i; } else { p_v_0_sroa_5_0_i_ph = v_len_i50_i; goto L_bb8; }
+L_bb27_i97_i:;
+    v_8_not_i_i103_i = v_start1_i17_i83_i > v_len_i50_i;
+    if (v_8_not_i_i103_i) { goto L_bb4_i_i112_i; } else { goto L_bb2_i_i104_i; }
+L_bb4_i_i112_i:;
+    TRAP();
+    TRAP();
+L_bb2_i_i104_i:;
+    v_start1_i_i102_i = (u64)((u64)(v_writer_i36_i_sroa_14_1) + (u64)(18446744073709551601ull));
+    v_15_not_i_i106_i = v_start1_i_i102_i > v_start1_i17_i83_i;
+    if (v_15_not_i_i106_i) { goto L_bb7_i_i111_i; } else { p_v_start1_i_i102_i_sink = v_start1_i_i102_i; p_v_59_i98_i_sink_in_in = v_10_i44_i; p_v_0_sroa_5_0_i_ph_ph = v_len_i50_i; goto L_bb8_sink_split; }
+L_bb7_i_i111_i:;
+    TRAP();
+    TRAP();
 L_bb9_i:;
-    v_17_i7 = (u8)(v_15_1_i);
-    v_24_i = (u8)((u32)(v_17_i7) + (u32)(15u));
-    v_25_i = (u8)((u32)(v_17_i7) + (u32)(13u));
+    v_17_i10 = (u8)(v_15_1_i);
+    v_24_i = (u8)((u32)(v_17_i10) + (u32)(15u));
+    v_25_i = (u8)((u32)(v_17_i10) + (u32)(13u));
     v_spec_select_i_i = v_hash_01_i ? 15u : 0u;
     v_28_sroa_0_0_i_i = v_under_03_i_not_not ? 0u : 28u;
     v_10_i_i = (u64)((u64)(v_15_1_i) + (u64)(17u));
     v_9_i_i = (u64)((u64)(v_10_i_i) + (u64)(v_28_sroa_0_0_i_i));
     v_count_i_i = (u64)((u64)(v_9_i_i) + (u64)(v_spec_select_i_i));
-    v_len_i_i = (u64)((u64)(v_count_i_i) + (u64)(2u));
+    v_spec_select12_i_i = v_place_0 ? 15u : 2u;
+    v_len_i_i = (u64)((u64)(v_count_i_i) + (u64)(v_spec_select12_i_i));
     v_16_i13_i = v_len_i_i > v_out_1;
-    if (v_16_i13_i) { p_v_0_sroa_5_0_i_ph = v_len_i_i; goto L_bb13; } else { goto L_bb2_i34_i_i; }
+    if (v_16_i13_i) { p_v_0_sroa_5_0_i = v_len_i_i; goto L_bb7; } else { goto L_bb2_i34_i_i; }
 L_bb2_i34_i_i:;
     v_start1_i47_i_i = (u64)((u64)(v_len_i_i) - (u64)(v_15_1_i));
-    v_68 = v_out_0 + (int64_t)(v_start1_i47_i_i);
-    copy(v_68, v_15_0_i, v_15_1_i);
+    v_70 = v_out_0 + (int64_t)(v_start1_i47_i_i);
+    copy(v_70, v_15_0_i, v_15_1_i);
     v_start1_i32_i_i = (u64)((u64)(v_start1_i47_i_i) + (u64)(18446744073709551599ull));
     v_15_not_i36_i_i = v_start1_i47_i_i < 17u;
-    if (v_15_not_i36_i_i) { goto L_bb7_i40_i_i; } else { goto L_copy_from_slice_pkcs1_c_exit107; }
+    if (v_15_not_i36_i_i) { goto L_bb7_i40_i_i; } else { goto L_copy_from_slice_pkcs1_c_exit129; }
 L_bb7_i40_i_i:;
     TRAP();
     TRAP();
-L_copy_from_slice_pkcs1_c_exit107:;
-    v_69 = v_out_0 + (int64_t)(v_start1_i32_i_i);
-    put_u8(v_69, 162u);
-    v_later_i_sroa_4_0_sroa_idx = v_69 + 1;
+L_copy_from_slice_pkcs1_c_exit129:;
+    v_71 = v_out_0 + (int64_t)(v_start1_i32_i_i);
+    put_u8(v_71, 162u);
+    v_later_i_sroa_4_0_sroa_idx = v_71 + 1;
     put_u8(v_later_i_sroa_4_0_sroa_idx, v_24_i);
-    v_later_i_sroa_5_0_sroa_idx = v_69 + 2;
+    v_later_i_sroa_5_0_sroa_idx = v_71 + 2;
     put_u8(v_later_i_sroa_5_0_sroa_idx, 48u);
-    v_later_i_sroa_6_0_sroa_idx = v_69 + 3;
+    v_later_i_sroa_6_0_sroa_idx = v_71 + 3;
     put_u8(v_later_i_sroa_6_0_sroa_idx, v_25_i);
-    v_later_i_sroa_7_0_sroa_idx = v_69 + 4;
+    v_later_i_sroa_7_0_sroa_idx = v_71 + 4;
     put_u8(v_later_i_sroa_7_0_sroa_idx, 6u);
-    v_later_i_sroa_8_0_sroa_idx = v_69 + 5;
+    v_later_i_sroa_8_0_sroa_idx = v_71 + 5;
     put_u8(v_later_i_sroa_8_0_sroa_idx, 9u);
-    v_later_i_sroa_9_0_sroa_idx = v_69 + 6;
+    v_later_i_sroa_9_0_sroa_idx = v_71 + 6;
     put_u8(v_later_i_sroa_9_0_sroa_idx, 42u);
-    v_later_i_sroa_10_0_sroa_idx = v_69 + 7;
+    v_later_i_sroa_10_0_sroa_idx = v_71 + 7;
     put_u8(v_later_i_sroa_10_0_sroa_idx, 134u);
-    v_later_i_sroa_11_0_sroa_idx = v_69 + 8;
+    v_later_i_sroa_11_0_sroa_idx = v_71 + 8;
     put_u8(v_later_i_sroa_11_0_sroa_idx, 72u);
-    v_later_i_sroa_12_0_sroa_idx = v_69 + 9;
+    v_later_i_sroa_12_0_sroa_idx = v_71 + 9;
     put_u8(v_later_i_sroa_12_0_sroa_idx, 134u);
-    v_later_i_sroa_13_0_sroa_idx = v_69 + 10;
+    v_later_i_sroa_13_0_sroa_idx = v_71 + 10;
     put_u8(v_later_i_sroa_13_0_sroa_idx, 247u);
-    v_later_i_sroa_14_0_sroa_idx = v_69 + 11;
+    v_later_i_sroa_14_0_sroa_idx = v_71 + 11;
     put_u8(v_later_i_sroa_14_0_sroa_idx, 13u);
-    v_later_i_sroa_15_0_sroa_idx = v_69 + 12;
+    v_later_i_sroa_15_0_sroa_idx = v_71 + 12;
     put_u8(v_later_i_sroa_15_0_sroa_idx, 1u);
-    v_later_i_sroa_16_0_sroa_idx = v_69 + 13;
+    v_later_i_sroa_16_0_sroa_idx = v_71 + 13;
     put_u8(v_later_i_sroa_16_0_sroa_idx, 1u);
-    v_later_i_sroa_17_0_sroa_idx = v_69 + 14;
+    v_later_i_sroa_17_0_sroa_idx = v_71 + 14;
     put_u8(v_later_i_sroa_17_0_sroa_idx, 9u);
-    v_later_i_sroa_18_0_sroa_idx = v_69 + 15;
+    v_later_i_sroa_18_0_sroa_idx = v_71 + 15;
     put_u8(v_later_i_sroa_18_0_sroa_idx, 4u);
-    v_later_i_sroa_19_0_sroa_idx = v_69 + 16;
-    put_u8(v_later_i_sroa_19_0_sroa_idx, v_17_i7);
-    if (v_under_03_i_not_not) { p_v_writer_i_i_sroa_12_0 = v_start1_i32_i_i; goto L_bb23_i_i; } else { goto L_bb22_i_i; }
+    v_later_i_sroa_19_0_sroa_idx = v_71 + 16;
+    put_u8(v_later_i_sroa_19_0_sroa_idx, v_17_i10);
+    if (v_under_03_i_not_not) { p_v_writer_i_i_sroa_14_0 = v_start1_i32_i_i; goto L_bb23_i_i; } else { goto L_bb22_i_i; }
 L_bb22_i_i:;
-    v_start1_i5_i31 = (u64)((u64)(v_start1_i47_i_i) + (u64)(18446744073709551571ull));
-    v_8_not_i6_i32 = v_start1_i32_i_i > v_len_i_i;
-    if (v_8_not_i6_i32) { goto L_bb4_i14_i41; } else { goto L_bb2_i7_i33; }
-L_bb4_i14_i41:;
+    v_start1_i5_i35 = (u64)((u64)(v_start1_i47_i_i) + (u64)(18446744073709551571ull));
+    v_8_not_i6_i36 = v_start1_i32_i_i > v_len_i_i;
+    if (v_8_not_i6_i36) { goto L_bb4_i14_i45; } else { goto L_bb2_i7_i37; }
+L_bb4_i14_i45:;
     TRAP();
     TRAP();
-L_bb2_i7_i33:;
-    v_15_not_i9_i35 = v_start1_i5_i31 > v_start1_i32_i_i;
-    if (v_15_not_i9_i35) { goto L_bb7_i13_i40; } else { goto L_copy_from_slice_pkcs1_c_exit110; }
-L_bb7_i13_i40:;
+L_bb2_i7_i37:;
+    v_15_not_i9_i39 = v_start1_i5_i35 > v_start1_i32_i_i;
+    if (v_15_not_i9_i39) { goto L_bb7_i13_i44; } else { goto L_copy_from_slice_pkcs1_c_exit133; }
+L_bb7_i13_i44:;
     TRAP();
     TRAP();
-L_copy_from_slice_pkcs1_c_exit110:;
-    v_70 = v_out_0 + (int64_t)(v_start1_i5_i31);
-    put_u8(v_70, 161u);
-    v_9_i26_sroa_4_0_sroa_idx = v_70 + 1;
-    put_u8(v_9_i26_sroa_4_0_sroa_idx, 26u);
-    v_9_i26_sroa_5_0_sroa_idx = v_70 + 2;
-    put_u8(v_9_i26_sroa_5_0_sroa_idx, 48u);
-    v_9_i26_sroa_6_0_sroa_idx = v_70 + 3;
-    put_u8(v_9_i26_sroa_6_0_sroa_idx, 24u);
-    v_9_i26_sroa_7_0_sroa_idx = v_70 + 4;
-    put_u8(v_9_i26_sroa_7_0_sroa_idx, 6u);
-    v_9_i26_sroa_8_0_sroa_idx = v_70 + 5;
-    put_u8(v_9_i26_sroa_8_0_sroa_idx, 9u);
-    v_9_i26_sroa_9_0_sroa_idx = v_70 + 6;
-    put_u8(v_9_i26_sroa_9_0_sroa_idx, 42u);
-    v_9_i26_sroa_10_0_sroa_idx = v_70 + 7;
-    put_u8(v_9_i26_sroa_10_0_sroa_idx, 134u);
-    v_9_i26_sroa_11_0_sroa_idx = v_70 + 8;
-    put_u8(v_9_i26_sroa_11_0_sroa_idx, 72u);
-    v_9_i26_sroa_12_0_sroa_idx = v_70 + 9;
-    put_u8(v_9_i26_sroa_12_0_sroa_idx, 134u);
-    v_9_i26_sroa_13_0_sroa_idx = v_70 + 10;
-    put_u8(v_9_i26_sroa_13_0_sroa_idx, 247u);
-    v_9_i26_sroa_14_0_sroa_idx = v_70 + 11;
-    put_u8(v_9_i26_sroa_14_0_sroa_idx, 13u);
-    v_9_i26_sroa_15_0_sroa_idx = v_70 + 12;
-    put_u8(v_9_i26_sroa_15_0_sroa_idx, 1u);
-    v_9_i26_sroa_16_0_sroa_idx = v_70 + 13;
-    put_u8(v_9_i26_sroa_16_0_sroa_idx, 1u);
-    v_9_i26_sroa_17_0_sroa_idx = v_70 + 14;
-    put_u8(v_9_i26_sroa_17_0_sroa_idx, 8u);
-    v_9_i26_sroa_18_0_sroa_idx = v_70 + 15;
-    put_u8(v_9_i26_sroa_18_0_sroa_idx, 48u);
-    v_9_i26_sroa_19_0_sroa_idx = v_70 + 16;
-    put_u8(v_9_i26_sroa_19_0_sroa_idx, 11u);
-    v_9_i26_sroa_20_0_sroa_idx = v_70 + 17;
-    put_u8(v_9_i26_sroa_20_0_sroa_idx, 6u);
-    v_9_i26_sroa_21_0_sroa_idx = v_70 + 18;
-    put_u8(v_9_i26_sroa_21_0_sroa_idx, 9u);
-    v_9_i26_sroa_22_0_sroa_idx = v_70 + 19;
-    put_u8(v_9_i26_sroa_22_0_sroa_idx, 96u);
-    v_9_i26_sroa_23_0_sroa_idx = v_70 + 20;
-    put_u8(v_9_i26_sroa_23_0_sroa_idx, 134u);
-    v_9_i26_sroa_24_0_sroa_idx = v_70 + 21;
-    put_u8(v_9_i26_sroa_24_0_sroa_idx, 72u);
-    v_9_i26_sroa_25_0_sroa_idx = v_70 + 22;
-    put_u8(v_9_i26_sroa_25_0_sroa_idx, 1u);
-    v_9_i26_sroa_26_0_sroa_idx = v_70 + 23;
-    put_u8(v_9_i26_sroa_26_0_sroa_idx, 101u);
-    v_9_i26_sroa_27_0_sroa_idx = v_70 + 24;
-    put_u8(v_9_i26_sroa_27_0_sroa_idx, 3u);
-    v_9_i26_sroa_28_0_sroa_idx = v_70 + 25;
-    put_u8(v_9_i26_sroa_28_0_sroa_idx, 4u);
-    v_9_i26_sroa_29_0_sroa_idx = v_70 + 26;
-    put_u8(v_9_i26_sroa_29_0_sroa_idx, 2u);
-    v_9_i26_sroa_30_0_sroa_idx = v_70 + 27;
-    put_u8(v_9_i26_sroa_30_0_sroa_idx, v_sroa_6_0_extract_trunc_i);
-    { p_v_writer_i_i_sroa_12_0 = v_start1_i5_i31; goto L_bb23_i_i; }
+L_copy_from_slice_pkcs1_c_exit133:;
+    v_72 = v_out_0 + (int64_t)(v_start1_i5_i35);
+    put_u8(v_72, 161u);
+    v_9_i30_sroa_4_0_sroa_idx = v_72 + 1;
+    put_u8(v_9_i30_sroa_4_0_sroa_idx, 26u);
+    v_9_i30_sroa_5_0_sroa_idx = v_72 + 2;
+    put_u8(v_9_i30_sroa_5_0_sroa_idx, 48u);
+    v_9_i30_sroa_6_0_sroa_idx = v_72 + 3;
+    put_u8(v_9_i30_sroa_6_0_sroa_idx, 24u);
+    v_9_i30_sroa_7_0_sroa_idx = v_72 + 4;
+    put_u8(v_9_i30_sroa_7_0_sroa_idx, 6u);
+    v_9_i30_sroa_8_0_sroa_idx = v_72 + 5;
+    put_u8(v_9_i30_sroa_8_0_sroa_idx, 9u);
+    v_9_i30_sroa_9_0_sroa_idx = v_72 + 6;
+    put_u8(v_9_i30_sroa_9_0_sroa_idx, 42u);
+    v_9_i30_sroa_10_0_sroa_idx = v_72 + 7;
+    put_u8(v_9_i30_sroa_10_0_sroa_idx, 134u);
+    v_9_i30_sroa_11_0_sroa_idx = v_72 + 8;
+    put_u8(v_9_i30_sroa_11_0_sroa_idx, 72u);
+    v_9_i30_sroa_12_0_sroa_idx = v_72 + 9;
+    put_u8(v_9_i30_sroa_12_0_sroa_idx, 134u);
+    v_9_i30_sroa_13_0_sroa_idx = v_72 + 10;
+    put_u8(v_9_i30_sroa_13_0_sroa_idx, 247u);
+    v_9_i30_sroa_14_0_sroa_idx = v_72 + 11;
+    put_u8(v_9_i30_sroa_14_0_sroa_idx, 13u);
+    v_9_i30_sroa_15_0_sroa_idx = v_72 + 12;
+    put_u8(v_9_i30_sroa_15_0_sroa_idx, 1u);
+    v_9_i30_sroa_16_0_sroa_idx = v_72 + 13;
+    put_u8(v_9_i30_sroa_16_0_sroa_idx, 1u);
+    v_9_i30_sroa_17_0_sroa_idx = v_72 + 14;
+    put_u8(v_9_i30_sroa_17_0_sroa_idx, 8u);
+    v_9_i30_sroa_18_0_sroa_idx = v_72 + 15;
+    put_u8(v_9_i30_sroa_18_0_sroa_idx, 48u);
+    v_9_i30_sroa_19_0_sroa_idx = v_72 + 16;
+    put_u8(v_9_i30_sroa_19_0_sroa_idx, 11u);
+    v_9_i30_sroa_20_0_sroa_idx = v_72 + 17;
+    put_u8(v_9_i30_sroa_20_0_sroa_idx, 6u);
+    v_9_i30_sroa_21_0_sroa_idx = v_72 + 18;
+    put_u8(v_9_i30_sroa_21_0_sroa_idx, 9u);
+    v_9_i30_sroa_22_0_sroa_idx = v_72 + 19;
+    put_u8(v_9_i30_sroa_22_0_sroa_idx, 96u);
+    v_9_i30_sroa_23_0_sroa_idx = v_72 + 20;
+    put_u8(v_9_i30_sroa_23_0_sroa_idx, 134u);
+    v_9_i30_sroa_24_0_sroa_idx = v_72 + 21;
+    put_u8(v_9_i30_sroa_24_0_sroa_idx, 72u);
+    v_9_i30_sroa_25_0_sroa_idx = v_72 + 22;
+    put_u8(v_9_i30_sroa_25_0_sroa_idx, 1u);
+    v_9_i30_sroa_26_0_sroa_idx = v_72 + 23;
+    put_u8(v_9_i30_sroa_26_0_sroa_idx, 101u);
+    v_9_i30_sroa_27_0_sroa_idx = v_72 + 24;
+    put_u8(v_9_i30_sroa_27_0_sroa_idx, 3u);
+    v_9_i30_sroa_28_0_sroa_idx = v_72 + 25;
+    put_u8(v_9_i30_sroa_28_0_sroa_idx, 4u);
+    v_9_i30_sroa_29_0_sroa_idx = v_72 + 26;
+    put_u8(v_9_i30_sroa_29_0_sroa_idx, 2u);
+    v_9_i30_sroa_30_0_sroa_idx = v_72 + 27;
+    put_u8(v_9_i30_sroa_30_0_sroa_idx, v_sroa_6_0_extract_trunc_i);
+    { p_v_writer_i_i_sroa_14_0 = v_start1_i5_i35; goto L_bb23_i_i; }
 L_bb23_i_i:;
-    v_writer_i_i_sroa_12_0 = p_v_writer_i_i_sroa_12_0;
-    if (v_hash_01_i) { goto L_bb24_i_i; } else { p_v_writer_i_i_sroa_12_1 = v_writer_i_i_sroa_12_0; goto L_bb21_i_i; }
+    v_writer_i_i_sroa_14_0 = p_v_writer_i_i_sroa_14_0;
+    if (v_hash_01_i) { goto L_bb24_i_i; } else { p_v_writer_i_i_sroa_14_1 = v_writer_i_i_sroa_14_0; goto L_bb21_i_i; }
 L_bb24_i_i:;
-    v_start1_i5_i78 = (u64)((u64)(v_writer_i_i_sroa_12_0) + (u64)(18446744073709551601ull));
-    v_8_not_i6_i79 = v_writer_i_i_sroa_12_0 > v_len_i_i;
-    if (v_8_not_i6_i79) { goto L_bb4_i14_i88; } else { goto L_bb2_i7_i80; }
-L_bb4_i14_i88:;
+    v_start1_i5_i82 = (u64)((u64)(v_writer_i_i_sroa_14_0) + (u64)(18446744073709551601ull));
+    v_8_not_i6_i83 = v_writer_i_i_sroa_14_0 > v_len_i_i;
+    if (v_8_not_i6_i83) { goto L_bb4_i14_i92; } else { goto L_bb2_i7_i84; }
+L_bb4_i14_i92:;
     TRAP();
     TRAP();
-L_bb2_i7_i80:;
-    v_15_not_i9_i82 = v_writer_i_i_sroa_12_0 < 15u;
-    if (v_15_not_i9_i82) { goto L_bb7_i13_i87; } else { goto L_copy_from_slice_pkcs1_c_exit113; }
-L_bb7_i13_i87:;
+L_bb2_i7_i84:;
+    v_15_not_i9_i86 = v_writer_i_i_sroa_14_0 < 15u;
+    if (v_15_not_i9_i86) { goto L_bb7_i13_i91; } else { goto L_copy_from_slice_pkcs1_c_exit137; }
+L_bb7_i13_i91:;
     TRAP();
     TRAP();
-L_copy_from_slice_pkcs1_c_exit113:;
-    v_71 = v_out_0 + (int64_t)(v_start1_i5_i78);
-    put_u8(v_71, 160u);
-    v_9_i73_sroa_4_0_sroa_idx = v_71 + 1;
-    put_u8(v_9_i73_sroa_4_0_sroa_idx, 13u);
-    v_9_i73_sroa_5_0_sroa_idx = v_71 + 2;
-    put_u8(v_9_i73_sroa_5_0_sroa_idx, 48u);
-    v_9_i73_sroa_6_0_sroa_idx = v_71 + 3;
-    put_u8(v_9_i73_sroa_6_0_sroa_idx, 11u);
-    v_9_i73_sroa_7_0_sroa_idx = v_71 + 4;
-    put_u8(v_9_i73_sroa_7_0_sroa_idx, 6u);
-    v_9_i73_sroa_8_0_sroa_idx = v_71 + 5;
-    put_u8(v_9_i73_sroa_8_0_sroa_idx, 9u);
-    v_9_i73_sroa_9_0_sroa_idx = v_71 + 6;
-    put_u8(v_9_i73_sroa_9_0_sroa_idx, 96u);
-    v_9_i73_sroa_10_0_sroa_idx = v_71 + 7;
-    put_u8(v_9_i73_sroa_10_0_sroa_idx, 134u);
-    v_9_i73_sroa_11_0_sroa_idx = v_71 + 8;
-    put_u8(v_9_i73_sroa_11_0_sroa_idx, 72u);
-    v_9_i73_sroa_12_0_sroa_idx = v_71 + 9;
-    put_u8(v_9_i73_sroa_12_0_sroa_idx, 1u);
-    v_9_i73_sroa_13_0_sroa_idx = v_71 + 10;
-    put_u8(v_9_i73_sroa_13_0_sroa_idx, 101u);
-    v_9_i73_sroa_14_0_sroa_idx = v_71 + 11;
-    put_u8(v_9_i73_sroa_14_0_sroa_idx, 3u);
-    v_9_i73_sroa_15_0_sroa_idx = v_71 + 12;
-    put_u8(v_9_i73_sroa_15_0_sroa_idx, 4u);
-    v_9_i73_sroa_16_0_sroa_idx = v_71 + 13;
-    put_u8(v_9_i73_sroa_16_0_sroa_idx, 2u);
-    v_9_i73_sroa_17_0_sroa_idx = v_71 + 14;
-    put_u8(v_9_i73_sroa_17_0_sroa_idx, v_sroa_4_0_extract_trunc_i);
-    { p_v_writer_i_i_sroa_12_1 = v_start1_i5_i78; goto L_bb21_i_i; }
+L_copy_from_slice_pkcs1_c_exit137:;
+    v_73 = v_out_0 + (int64_t)(v_start1_i5_i82);
+    put_u8(v_73, 160u);
+    v_9_i77_sroa_4_0_sroa_idx = v_73 + 1;
+    put_u8(v_9_i77_sroa_4_0_sroa_idx, 13u);
+    v_9_i77_sroa_5_0_sroa_idx = v_73 + 2;
+    put_u8(v_9_i77_sroa_5_0_sroa_idx, 48u);
+    v_9_i77_sroa_6_0_sroa_idx = v_73 + 3;
+    put_u8(v_9_i77_sroa_6_0_sroa_idx, 11u);
+    v_9_i77_sroa_7_0_sroa_idx = v_73 + 4;
+    put_u8(v_9_i77_sroa_7_0_sroa_idx, 6u);
+    v_9_i77_sroa_8_0_sroa_idx = v_73 + 5;
+    put_u8(v_9_i77_sroa_8_0_sroa_idx, 9u);
+    v_9_i77_sroa_9_0_sroa_idx = v_73 + 6;
+    put_u8(v_9_i77_sroa_9_0_sroa_idx, 96u);
+    v_9_i77_sroa_10_0_sroa_idx = v_73 + 7;
+    put_u8(v_9_i77_sroa_10_0_sroa_idx, 134u);
+    v_9_i77_sroa_11_0_sroa_idx = v_73 + 8;
+    put_u8(v_9_i77_sroa_11_0_sroa_idx, 72u);
+    v_9_i77_sroa_12_0_sroa_idx = v_73 + 9;
+    put_u8(v_9_i77_sroa_12_0_sroa_idx, 1u);
+    v_9_i77_sroa_13_0_sroa_idx = v_73 + 10;
+    put_u8(v_9_i77_sroa_13_0_sroa_idx, 101u);
+    v_9_i77_sroa_14_0_sroa_idx = v_73 + 11;
+    put_u8(v_9_i77_sroa_14_0_sroa_idx, 3u);
+    v_9_i77_sroa_15_0_sroa_idx = v_73 + 12;
+    put_u8(v_9_i77_sroa_15_0_sroa_idx, 4u);
+    v_9_i77_sroa_16_0_sroa_idx = v_73 + 13;
+    put_u8(v_9_i77_sroa_16_0_sroa_idx, 2u);
+    v_9_i77_sroa_17_0_sroa_idx = v_73 + 14;
+    put_u8(v_9_i77_sroa_17_0_sroa_idx, v_sroa_4_0_extract_trunc_i);
+    { p_v_writer_i_i_sroa_14_1 = v_start1_i5_i82; goto L_bb21_i_i; }
 L_bb21_i_i:;
-    v_writer_i_i_sroa_12_1 = p_v_writer_i_i_sroa_12_1;
-    v_8_not_i18_i_i = v_writer_i_i_sroa_12_1 > v_len_i_i;
+    v_writer_i_i_sroa_14_1 = p_v_writer_i_i_sroa_14_1;
+    v_start1_i17_i_i = (u64)((u64)(v_writer_i_i_sroa_14_1) + (u64)(18446744073709551614ull));
+    v_8_not_i18_i_i = v_writer_i_i_sroa_14_1 > v_len_i_i;
     if (v_8_not_i18_i_i) { goto L_bb4_i26_i_i; } else { goto L_bb2_i19_i_i; }
 L_bb4_i26_i_i:;
     TRAP();
     TRAP();
 L_bb2_i19_i_i:;
-    v_15_not_i21_i_i = v_writer_i_i_sroa_12_1 < 2u;
-    if (v_15_not_i21_i_i) { goto L_bb7_i25_i_i; } else { p_v_writer_i36_i_sroa_12_1_sink = v_writer_i_i_sroa_12_1; p_v_23_i79_i_sink_in = v_count_i_i; p_v_0_sroa_5_0_i = v_len_i_i; goto L_bb14; }
+    v_15_not_i21_i_i = v_writer_i_i_sroa_14_1 < 2u;
+    if (v_15_not_i21_i_i) { goto L_bb7_i25_i_i; } else { goto L_copy_from_slice_pkcs1_c_exit141; }
 L_bb7_i25_i_i:;
     TRAP();
     TRAP();
-L_bb3:;
-    f_oaep_from_c_oaep(v_7, v_params);
-    v_72 = get_P(v_7);
-    v_73 = v_72 == (P)0;
-    if (v_73) { goto L_bb7; } else { goto L_bb8; }
-L_bb8:;
-    copy(v_9, v_7, 136u);
-    v_6_i31_i = v_9 + 40;
-    v_9_i_i118 = v_9 + 96;
-    v_74 = v_9 + 16;
-    v_75 = get_P(v_74);
-    v_76 = v_75 == (P)0;
-    if (v_76) { p_v_0_sroa_0_0_shrunk_i_i_i = 0u; goto L_bb2_i_i17_i; } else { goto L_bb3_i_i119; }
-L_bb3_i_i119:;
-    v_0_0_i_i_i = get_P(v_9);
-    v_77 = v_9 + 8;
-    v_0_1_i_i_i = get_u64(v_77);
-    v_78 = v_0_1_i_i_i == 5u;
-    if (v_78) { goto L_bb11_i_i; } else { p_v_0_sroa_0_0_shrunk_i_i_i = 0u; goto L_bb2_i_i17_i; }
-L_bb11_i_i:;
-    v_79 = get_u8(v_0_0_i_i_i);
-    v_80 = v_79 == 43u;
-    if (v_80) { goto L_bb12_i_i122; } else { p_v_0_sroa_0_0_shrunk_i_i_i = 0u; goto L_bb2_i_i17_i; }
-L_bb12_i_i122:;
-    v_81 = v_0_0_i_i_i + 1;
-    v_82 = get_u8(v_81);
-    v_83 = v_82 == 14u;
-    if (v_83) { goto L_bb13_i_i; } else { p_v_0_sroa_0_0_shrunk_i_i_i = 0u; goto L_bb2_i_i17_i; }
-L_bb13_i_i:;
-    v_84 = v_0_0_i_i_i + 2;
-    v_85 = get_u8(v_84);
-    v_86 = v_85 == 3u;
-    if (v_86) { goto L_bb14_i_i; } else { p_v_0_sroa_0_0_shrunk_i_i_i = 0u; goto L_bb2_i_i17_i; }
-L_bb14_i_i:;
-    v_87 = v_0_0_i_i_i + 3;
-    v_88 = get_u8(v_87);
-    v_89 = v_88 == 2u;
-    if (v_89) { goto L_bb15_i_i; } else { p_v_0_sroa_0_0_shrunk_i_i_i = 0u; goto L_bb2_i_i17_i; }
-L_bb15_i_i:;
-    v_90 = v_0_0_i_i_i + 4;
-    v_10_i_i123 = get_u8(v_90);
-    v_6_i32_i = v_10_i_i123 == 26u;
-    if (v_6_i32_i) { goto L_bb5_i_i; } else { p_v_0_sroa_0_0_shrunk_i_i_i = 0u; goto L_bb2_i_i17_i; }
-L_bb5_i_i:;
-    v_8_sroa_3_0_sroa_idx_i_i = v_9 + 24;
-    v_8_sroa_3_0_copyload_i_i = get_u64(v_8_sroa_3_0_sroa_idx_i_i);
-    v_8_sroa_4_0_sroa_idx_i_i = v_9 + 32;
-    v_8_sroa_4_0_copyload_i_i = get_u64(v_8_sroa_4_0_sroa_idx_i_i);
-    v_91 = (u64)((u64)(v_8_sroa_4_0_copyload_i_i) & (u64)(255u));
-    v_92 = v_91 == 5u;
-    v_93 = v_8_sroa_3_0_copyload_i_i == 0u;
-    v_0_sroa_0_1_i_i = v_92 ? v_93 : 0u;
-    { p_v_0_sroa_0_0_shrunk_i_i_i = v_0_sroa_0_1_i_i; goto L_bb2_i_i17_i; }
+L_copy_from_slice_pkcs1_c_exit141:;
+    v_74 = v_out_0 + (int64_t)(v_start1_i17_i_i);
+    v_75 = (u16)(v_count_i_i);
+    v_22_i12_i_sroa_0_sroa_4_0_insert_ext = (u16)((u32)(v_75) << (u32)((8u & 31)));
+    v_22_i12_i_sroa_0_sroa_0_0_insert_insert = (u16)((u32)(v_22_i12_i_sroa_0_sroa_4_0_insert_ext) | (u32)(48u));
+    put_u16(v_74, v_22_i12_i_sroa_0_sroa_0_0_insert_insert);
+    if (v_place_0) { goto L_bb27_i_i; } else { p_v_0_sroa_5_0_i_ph = v_len_i_i; goto L_bb8; }
+L_bb27_i_i:;
+    v_8_not_i_i_i = v_start1_i17_i_i > v_len_i_i;
+    if (v_8_not_i_i_i) { goto L_bb4_i_i_i; } else { goto L_bb2_i_i17_i; }
+L_bb4_i_i_i:;
+    TRAP();
+    TRAP();
 L_bb2_i_i17_i:;
-    v_0_sroa_0_0_shrunk_i_i_i = p_v_0_sroa_0_0_shrunk_i_i_i;
-    v_3_i_i = (u1)(((u32)(v_0_sroa_0_0_shrunk_i_i_i) ^ (u32)(1u)) & 1);
-    v_2_i_i = (u8)v_3_i_i;
-    v_94 = v_9 + 56;
-    v_95 = get_P(v_94);
-    v_96 = v_95 == (P)0;
-    if (v_96) { p_v_0_sroa_0_0_i141 = 0u; goto L_MaskHolder_is_default_exit; } else { goto L_bb3_i140; }
-L_bb3_i140:;
-    v_0_0_i_i = get_P(v_6_i31_i);
-    v_97 = v_9 + 48;
-    v_0_1_i_i = get_u64(v_97);
-    v_98 = v_0_1_i_i == 9u;
-    if (v_98) { goto L_bb2_i_i142; } else { p_v_0_sroa_0_0_i141 = 0u; goto L_MaskHolder_is_default_exit; }
-L_bb2_i_i142:;
-    v_21_i_i143 = get_u8(v_0_0_i_i);
-    v_20_i_i144 = v_21_i_i143 == 42u;
-    v_99 = v_0_0_i_i + 1;
-    v_23_i_i145 = get_u8(v_99);
-    v_22_i_i146 = v_23_i_i145 == 134u;
-    v_19_i_i147 = (u1)(((u32)(v_20_i_i144) & (u32)(v_22_i_i146)) & 1);
-    v_100 = v_0_0_i_i + 2;
-    v_25_i_i148 = get_u8(v_100);
-    v_24_i_i149 = v_25_i_i148 == 72u;
-    v_18_i_i150 = (u1)(((u32)(v_19_i_i147) & (u32)(v_24_i_i149)) & 1);
-    v_101 = v_0_0_i_i + 3;
-    v_27_i_i151 = get_u8(v_101);
-    v_26_i_i152 = v_27_i_i151 == 134u;
-    v_17_i_i153 = (u1)(((u32)(v_18_i_i150) & (u32)(v_26_i_i152)) & 1);
-    v_102 = v_0_0_i_i + 4;
-    v_29_i_i154 = get_u8(v_102);
-    v_28_i_i155 = v_29_i_i154 == 247u;
-    v_16_i_i156 = (u1)(((u32)(v_17_i_i153) & (u32)(v_28_i_i155)) & 1);
-    v_103 = v_0_0_i_i + 5;
-    v_31_i_i157 = get_u8(v_103);
-    v_30_i_i158 = v_31_i_i157 == 13u;
-    v_15_i_i159 = (u1)(((u32)(v_16_i_i156) & (u32)(v_30_i_i158)) & 1);
-    v_104 = v_0_0_i_i + 6;
-    v_33_i_i160 = get_u8(v_104);
-    v_32_i_i161 = v_33_i_i160 == 1u;
-    v_14_i_i162 = (u1)(((u32)(v_15_i_i159) & (u32)(v_32_i_i161)) & 1);
-    v_105 = v_0_0_i_i + 7;
-    v_35_i_i163 = get_u8(v_105);
-    v_34_i_i164 = v_35_i_i163 == 1u;
-    v_front_i_i165 = (u1)(((u32)(v_14_i_i162) & (u32)(v_34_i_i164)) & 1);
-    if (v_front_i_i165) { goto L_hash_fields_is_pkcs1_exit_i166; } else { p_v_0_sroa_0_0_i141 = 0u; goto L_MaskHolder_is_default_exit; }
-L_hash_fields_is_pkcs1_exit_i166:;
-    v_106 = v_0_0_i_i + 8;
-    v_36_i_i167 = get_u8(v_106);
-    v_107 = v_36_i_i167 == 8u;
-    if (v_107) { goto L_bb5_i168; } else { p_v_0_sroa_0_0_i141 = 0u; goto L_MaskHolder_is_default_exit; }
-L_bb5_i168:;
-    v_108 = v_9 + 72;
-    v_109 = get_P(v_108);
-    v_110 = v_109 != (P)0;
-    v_111 = v_9 + 64;
-    v_0_1_i_i_i169 = get_u64(v_111);
-    v_112 = v_0_1_i_i_i169 == 5u;
-    v_or_cond_i170 = v_110 ? v_112 : 0u;
-    if (v_or_cond_i170) { goto L_bb11_i_i171; } else { p_v_0_sroa_0_0_i141 = 0u; goto L_MaskHolder_is_default_exit; }
-L_bb11_i_i171:;
-    v_113 = get_u8(v_95);
-    v_114 = v_113 == 43u;
-    if (v_114) { goto L_bb12_i_i172; } else { p_v_0_sroa_0_0_i141 = 0u; goto L_MaskHolder_is_default_exit; }
-L_bb12_i_i172:;
-    v_115 = v_95 + 1;
-    v_116 = get_u8(v_115);
-    v_117 = v_116 == 14u;
-    if (v_117) { goto L_bb13_i_i173; } else { p_v_0_sroa_0_0_i141 = 0u; goto L_MaskHolder_is_default_exit; }
-L_bb13_i_i173:;
-    v_118 = v_95 + 2;
-    v_119 = get_u8(v_118);
-    v_120 = v_119 == 3u;
-    if (v_120) { goto L_bb14_i_i174; } else { p_v_0_sroa_0_0_i141 = 0u; goto L_MaskHolder_is_default_exit; }
-L_bb14_i_i174:;
-    v_121 = v_95 + 3;
+    v_start1_i_i_i = (u64)((u64)(v_writer_i_i_sroa_14_1) + (u64)(18446744073709551601ull));
+    v_15_not_i_i_i = v_start1_i_i_i > v_start1_i17_i_i;
+    if (v_15_not_i_i_i) { goto L_bb7_i_i_i; } else { p_v_start1_i_i102_i_sink = v_start1_i_i_i; p_v_59_i98_i_sink_in_in = v_count_i_i; p_v_0_sroa_5_0_i_ph_ph = v_len_i_i; goto L_bb8_sink_split; }
+L_bb7_i_i_i:;
+    TRAP();
+    TRAP();
+L_bb3:;
+    v_18_0_i8_i = get_P(v_params);
+    v_76 = v_params + 8;
+    v_18_1_i9_i = get_u64(v_76);
+    v_77 = (u64)((u64)(v_18_1_i9_i) + (u64)(18446744073709551615ull));
+    v_or_cond_i65_i = v_77 < 39u;
+    if (v_or_cond_i65_i) { goto L_bb9_i67_i; } else { p_v_0_sroa_0_0 = 6u; goto L_bb5; }
+L_bb9_i67_i:;
+    v_78 = v_18_0_i8_i + (int64_t)(v_77);
+    v_11_i69_i = get_u8(v_78);
+    v_10_i70_i = (u8)(v_11_i69_i ^ ((u8)1 << 7)) > (u8)(255u ^ ((u8)1 << 7));
+    if (v_10_i70_i) { p_v_octets_0_tr_i_i = v_18_0_i8_i; p_v_octets_1_tr_i_i = v_77; goto L_tailrecurse_i_i; } else { goto L_bb9_preheader_i_i; }
+L_bb5_i71_i:;
+    v_911_not_i_i = v_18_1_i9_i == 0u;
+    if (v_911_not_i_i) { goto L_bb8_i12_i; } else { goto L_bb9_preheader_i_i; }
+L_bb9_preheader_i_i:;
+    v_5_peel_i_i = get_u8(v_18_0_i8_i);
+    v_79 = v_5_peel_i_i == 128u;
+    if (v_79) { p_v_0_sroa_0_0 = 6u; goto L_bb5; } else { goto L_bb7_peel_i_i; }
+L_bb7_peel_i_i:;
+    v_exitcond_peel_not_i_i = v_18_1_i9_i == 1u;
+    if (v_exitcond_peel_not_i_i) { goto L_object_identifier_is_identifier_exit74_i; } else { p_v_iter_sroa_0_012_i_i = 1u; goto L_bb9_i85_i; }
+L_bb9_i85_i:;
+    v_iter_sroa_0_012_i_i = p_v_iter_sroa_0_012_i_i;
+    v_0_i_i_i = (u64)((u64)(v_iter_sroa_0_012_i_i) + (u64)(1u));
+    v_80 = v_18_0_i8_i + (int64_t)(v_iter_sroa_0_012_i_i);
+    v_5_i_i = get_u8(v_80);
+    v_81 = v_5_i_i == 128u;
+    if (v_81) { goto L_bb2_i2_i_i; } else { goto L_bb7_i_i; }
+L_bb2_i2_i_i:;
+    v_4_i3_i_i = (u64)((u64)(v_iter_sroa_0_012_i_i) + (u64)(18446744073709551615ull));
+    v_6_i4_i_i = v_4_i3_i_i < v_18_1_i9_i;
+    if (v_6_i4_i_i) { goto L_object_identifier_is_start_exit9_i_i; } else { p_v_4_i3_i_i_lcssa = v_4_i3_i_i; goto L_panic_i5_i_i; }
+L_panic_i5_i_i:;
+    v_4_i3_i_i_lcssa = p_v_4_i3_i_i_lcssa;
+    TRAP();
+    TRAP();
+L_object_identifier_is_start_exit9_i_i:;
+    v_82 = v_18_0_i8_i + (int64_t)(v_4_i3_i_i);
+    v_3_i7_i_i = get_u8(v_82);
+    v_83 = (u8)(v_3_i7_i_i ^ ((u8)1 << 7)) > (u8)(255u ^ ((u8)1 << 7));
+    if (v_83) { p_v_0_sroa_0_0 = 6u; goto L_bb5; } else { goto L_bb7_i_i; }
+L_bb7_i_i:;
+    v_exitcond_not_i_i = v_0_i_i_i == v_18_1_i9_i;
+    if (v_exitcond_not_i_i) { goto L_object_identifier_is_identifier_exit74_i; } else { p_v_iter_sroa_0_012_i_i = v_0_i_i_i; goto L_bb9_i85_i; }
+L_tailrecurse_i_i:;
+    v_octets_0_tr_i_i = p_v_octets_0_tr_i_i;
+    v_octets_1_tr_i_i = p_v_octets_1_tr_i_i;
+    v_3_i89_i = v_octets_1_tr_i_i > 7u;
+    if (v_3_i89_i) { goto L_bb6_i_i; } else { goto L_bb1_i90_i; }
+L_bb1_i90_i:;
+    v_5_i91_i = v_octets_1_tr_i_i > 3u;
+    if (v_5_i91_i) { goto L_bb5_i95_i; } else { goto L_bb2_i92_i; }
+L_bb6_i_i:;
+    v_27_i96_i = get_u8(v_octets_0_tr_i_i);
+    v_26_i97_i = v_27_i96_i != 128u;
+    v_84 = v_octets_0_tr_i_i + 1;
+    v_29_i_i162 = get_u8(v_84);
+    v_28_i98_i = v_29_i_i162 != 128u;
+    v_25_i_i163 = (u1)(((u32)(v_26_i97_i) & (u32)(v_28_i98_i)) & 1);
+    v_85 = v_octets_0_tr_i_i + 2;
+    v_31_i_i164 = get_u8(v_85);
+    v_30_i_i165 = v_31_i_i164 != 128u;
+    v_24_i_i166 = (u1)(((u32)(v_25_i_i163) & (u32)(v_30_i_i165)) & 1);
+    v_86 = v_octets_0_tr_i_i + 3;
+    v_33_i_i167 = get_u8(v_86);
+    v_32_i_i168 = v_33_i_i167 != 128u;
+    v_23_i_i169 = (u1)(((u32)(v_24_i_i166) & (u32)(v_32_i_i168)) & 1);
+    v_87 = v_octets_0_tr_i_i + 4;
+    v_35_i99_i = get_u8(v_87);
+    v_34_i_i170 = v_35_i99_i != 128u;
+    v_22_i_i171 = (u1)(((u32)(v_23_i_i169) & (u32)(v_34_i_i170)) & 1);
+    v_88 = v_octets_0_tr_i_i + 5;
+    v_37_i_i = get_u8(v_88);
+    v_36_i_i172 = v_37_i_i != 128u;
+    v_21_i_i173 = (u1)(((u32)(v_22_i_i171) & (u32)(v_36_i_i172)) & 1);
+    v_89 = v_octets_0_tr_i_i + 6;
+    v_39_i_i = get_u8(v_89);
+    v_38_i_i174 = v_39_i_i != 128u;
+    v_20_i_i175 = (u1)(((u32)(v_21_i_i173) & (u32)(v_38_i_i174)) & 1);
+    v_90 = v_octets_0_tr_i_i + 7;
+    v_41_i100_i = get_u8(v_90);
+    v_40_i_i = v_41_i100_i != 128u;
+    v_eight_i_i = (u1)(((u32)(v_20_i_i175) & (u32)(v_40_i_i)) & 1);
+    if (v_eight_i_i) { p_v_sink10_i_i = 18446744073709551608ull; p_v_sink_i_i = 8u; goto L_tailrecurse_backedge_i_i; } else { goto L_bb5_i71_i; }
+L_bb2_i92_i:;
+    v_9_not_i_i = v_octets_1_tr_i_i == 0u;
+    if (v_9_not_i_i) { goto L_bb8_i12_i; } else { goto L_bb4_i93_i; }
+L_bb5_i95_i:;
+    v_51_i_i = get_u8(v_octets_0_tr_i_i);
+    v_50_i_i = v_51_i_i != 128u;
+    v_91 = v_octets_0_tr_i_i + 1;
+    v_53_i_i161 = get_u8(v_91);
+    v_52_i_i = v_53_i_i161 != 128u;
+    v_49_i_i = (u1)(((u32)(v_50_i_i) & (u32)(v_52_i_i)) & 1);
+    v_92 = v_octets_0_tr_i_i + 2;
+    v_55_i_i = get_u8(v_92);
+    v_54_i_i = v_55_i_i != 128u;
+    v_48_i_i = (u1)(((u32)(v_49_i_i) & (u32)(v_54_i_i)) & 1);
+    v_93 = v_octets_0_tr_i_i + 3;
+    v_57_i_i = get_u8(v_93);
+    v_56_i_i = v_57_i_i != 128u;
+    v_four_i_i = (u1)(((u32)(v_48_i_i) & (u32)(v_56_i_i)) & 1);
+    if (v_four_i_i) { p_v_sink10_i_i = 18446744073709551612ull; p_v_sink_i_i = 4u; goto L_tailrecurse_backedge_i_i; } else { goto L_bb5_i71_i; }
+L_bb4_i93_i:;
+    v_60_i_i = get_u8(v_octets_0_tr_i_i);
+    v_94 = v_60_i_i == 128u;
+    if (v_94) { goto L_bb5_i71_i; } else { p_v_sink10_i_i = 18446744073709551615ull; p_v_sink_i_i = 1u; goto L_tailrecurse_backedge_i_i; }
+L_tailrecurse_backedge_i_i:;
+    v_sink10_i_i = p_v_sink10_i_i;
+    v_sink_i_i = p_v_sink_i_i;
+    v_later_1_i_i = (u64)((u64)(v_sink10_i_i) + (u64)(v_octets_1_tr_i_i));
+    v_later_0_i_i = v_octets_0_tr_i_i + (int64_t)(v_sink_i_i);
+    { p_v_octets_0_tr_i_i = v_later_0_i_i; p_v_octets_1_tr_i_i = v_later_1_i_i; goto L_tailrecurse_i_i; }
+L_object_identifier_is_identifier_exit74_i:;
+    if (v_10_i70_i) { goto L_bb8_i12_i; } else { p_v_0_sroa_0_0 = 6u; goto L_bb5; }
+L_bb8_i12_i:;
+    if (v_6_i_i) { goto L_bb1_i26_i; } else { p_v_parameters_sroa_6_sroa_5_0_i15_i = 0u; p_v_parameters_sroa_6_sroa_6_0_i16_i = 0u; p_v_parameters_sroa_6_sroa_0_sroa_0_0_i17_i = 0u; p_v_parameters_sroa_0_0_i18_i = (P)0; p_v_parameters_sroa_6_sroa_0_sroa_5_0_i19_i = 0u; goto L_bb9_i148; }
+L_bb1_i26_i:;
+    v_95 = v_params + 17;
+    v_10_i27_i = get_u8(v_95);
+    v_28_i28_i = (u8)((u32)(v_10_i27_i) & (u32)(31u));
+    v_96 = v_28_i28_i == 31u;
+    v_97 = (u8)((u32)(v_10_i27_i) & (u32)(223u));
+    v_98 = v_97 == 0u;
+    v_or_cond3_i29_i = (u1)(((u32)(v_96) | (u32)(v_98)) & 1);
+    if (v_or_cond3_i29_i) { p_v_0_sroa_0_0 = 12u; goto L_bb5; } else { goto L_bb14_i30_i; }
+L_bb14_i30_i:;
+    v_99 = v_params + 32;
+    v_19_1_i31_i = get_u64(v_99);
+    v_35_i32_i = v_19_1_i31_i > 4294967295ull;
+    if (v_35_i32_i) { p_v_0_sroa_0_0 = 8u; goto L_bb5; } else { goto L_bb16_i33_i; }
+L_bb16_i33_i:;
+    v_100 = v_params + 24;
+    v_19_0_i34_i = get_P(v_100);
+    v_41_i35_i = (u64)v_10_i27_i;
+    v_39_sroa_4_sroa_0_0_extract_trunc_i36_i = (u8)(v_19_1_i31_i);
+    v_39_sroa_4_sroa_4_0_extract_shift_i37_i = (u64)((u64)(v_19_1_i31_i) >> (u64)((8u & 63)));
+    v_39_sroa_4_sroa_4_0_extract_trunc_i38_i = (u16)(v_39_sroa_4_sroa_4_0_extract_shift_i37_i);
+    v_39_sroa_4_sroa_5_0_extract_shift_i39_i = (u64)((u64)(v_19_1_i31_i) >> (u64)((24u & 63)));
+    v_39_sroa_4_sroa_5_0_extract_trunc_i40_i = (u64)((v_39_sroa_4_sroa_5_0_extract_shift_i39_i) & (((u64)1 << 40) - 1));
+    { p_v_parameters_sroa_6_sroa_5_0_i15_i = v_39_sroa_4_sroa_5_0_extract_trunc_i40_i; p_v_parameters_sroa_6_sroa_6_0_i16_i = v_41_i35_i; p_v_parameters_sroa_6_sroa_0_sroa_0_0_i17_i = v_39_sroa_4_sroa_0_0_extract_trunc_i36_i; p_v_parameters_sroa_0_0_i18_i = v_19_0_i34_i; p_v_parameters_sroa_6_sroa_0_sroa_5_0_i19_i = v_39_sroa_4_sroa_4_0_extract_trunc_i38_i; goto L_bb9_i148; }
+L_bb9_i148:;
+    v_parameters_sroa_6_sroa_5_0_i15_i = p_v_parameters_sroa_6_sroa_5_0_i15_i;
+    v_parameters_sroa_6_sroa_6_0_i16_i = p_v_parameters_sroa_6_sroa_6_0_i16_i;
+    v_parameters_sroa_6_sroa_0_sroa_0_0_i17_i = p_v_parameters_sroa_6_sroa_0_sroa_0_0_i17_i;
+    v_parameters_sroa_0_0_i18_i = p_v_parameters_sroa_0_0_i18_i;
+    v_parameters_sroa_6_sroa_0_sroa_5_0_i19_i = p_v_parameters_sroa_6_sroa_0_sroa_5_0_i19_i;
+    v_101 = (u32)((v_18_1_i9_i) & (((u32)1 << 24) - 1));
+    v_15_0_i_i = get_P(v_8_i);
+    v_102 = v_params + 48;
+    v_15_1_i_i = get_u64(v_102);
+    v_103 = (u64)((u64)(v_15_1_i_i) + (u64)(18446744073709551615ull));
+    v_or_cond_i55_i = v_103 < 39u;
+    if (v_or_cond_i55_i) { goto L_bb9_i57_i; } else { p_v_0_sroa_0_0 = 6u; goto L_bb5; }
+L_bb9_i57_i:;
+    v_104 = v_15_0_i_i + (int64_t)(v_103);
+    v_11_i59_i = get_u8(v_104);
+    v_10_i60_i = (u8)(v_11_i59_i ^ ((u8)1 << 7)) > (u8)(255u ^ ((u8)1 << 7));
+    if (v_10_i60_i) { p_v_octets_0_tr_i124_i = v_15_0_i_i; p_v_octets_1_tr_i125_i = v_103; goto L_tailrecurse_i123_i; } else { goto L_bb9_preheader_i102_i; }
+L_bb5_i61_i:;
+    v_911_not_i101_i = v_15_1_i_i == 0u;
+    if (v_911_not_i101_i) { goto L_bb9_i47_i; } else { goto L_bb9_preheader_i102_i; }
+L_bb9_preheader_i102_i:;
+    v_5_peel_i103_i = get_u8(v_15_0_i_i);
+    v_105 = v_5_peel_i103_i == 128u;
+    if (v_105) { p_v_0_sroa_0_0 = 6u; goto L_bb5; } else { goto L_bb7_peel_i104_i; }
+L_bb7_peel_i104_i:;
+    v_exitcond_peel_not_i105_i = v_15_1_i_i == 1u;
+    if (v_exitcond_peel_not_i105_i) { goto L_object_identifier_is_identifier_exit64_i; } else { p_v_iter_sroa_0_012_i107_i = 1u; goto L_bb9_i106_i; }
+L_bb9_i106_i:;
+    v_iter_sroa_0_012_i107_i = p_v_iter_sroa_0_012_i107_i;
+    v_0_i_i108_i = (u64)((u64)(v_iter_sroa_0_012_i107_i) + (u64)(1u));
+    v_106 = v_15_0_i_i + (int64_t)(v_iter_sroa_0_012_i107_i);
+    v_5_i109_i = get_u8(v_106);
+    v_107 = v_5_i109_i == 128u;
+    if (v_107) { goto L_bb2_i2_i116_i; } else { goto L_bb7_i110_i; }
+L_bb2_i2_i116_i:;
+    v_4_i3_i117_i = (u64)((u64)(v_iter_sroa_0_012_i107_i) + (u64)(18446744073709551615ull));
+    v_6_i4_i118_i = v_4_i3_i117_i < v_15_1_i_i;
+    if (v_6_i4_i118_i) { goto L_object_identifier_is_start_exit9_i120_i; } else { p_v_4_i3_i117_i_lcssa = v_4_i3_i117_i; goto L_panic_i5_i119_i; }
+L_panic_i5_i119_i:;
+    v_4_i3_i117_i_lcssa = p_v_4_i3_i117_i_lcssa;
+    TRAP();
+    TRAP();
+L_object_identifier_is_start_exit9_i120_i:;
+    v_108 = v_15_0_i_i + (int64_t)(v_4_i3_i117_i);
+    v_3_i7_i121_i = get_u8(v_108);
+    v_109 = (u8)(v_3_i7_i121_i ^ ((u8)1 << 7)) > (u8)(255u ^ ((u8)1 << 7));
+    if (v_109) { p_v_0_sroa_0_0 = 6u; goto L_bb5; } else { goto L_bb7_i110_i; }
+L_bb7_i110_i:;
+    v_exitcond_not_i111_i = v_0_i_i108_i == v_15_1_i_i;
+    if (v_exitcond_not_i111_i) { goto L_object_identifier_is_identifier_exit64_i; } else { p_v_iter_sroa_0_012_i107_i = v_0_i_i108_i; goto L_bb9_i106_i; }
+L_tailrecurse_i123_i:;
+    v_octets_0_tr_i124_i = p_v_octets_0_tr_i124_i;
+    v_octets_1_tr_i125_i = p_v_octets_1_tr_i125_i;
+    v_3_i126_i = v_octets_1_tr_i125_i > 7u;
+    if (v_3_i126_i) { goto L_bb6_i152_i; } else { goto L_bb1_i127_i; }
+L_bb1_i127_i:;
+    v_5_i128_i = v_octets_1_tr_i125_i > 3u;
+    if (v_5_i128_i) { goto L_bb5_i140_i; } else { goto L_bb2_i129_i; }
+L_bb6_i152_i:;
+    v_27_i153_i = get_u8(v_octets_0_tr_i124_i);
+    v_26_i154_i = v_27_i153_i != 128u;
+    v_110 = v_octets_0_tr_i124_i + 1;
+    v_29_i155_i = get_u8(v_110);
+    v_28_i156_i = v_29_i155_i != 128u;
+    v_25_i157_i = (u1)(((u32)(v_26_i154_i) & (u32)(v_28_i156_i)) & 1);
+    v_111 = v_octets_0_tr_i124_i + 2;
+    v_31_i158_i = get_u8(v_111);
+    v_30_i159_i = v_31_i158_i != 128u;
+    v_24_i160_i = (u1)(((u32)(v_25_i157_i) & (u32)(v_30_i159_i)) & 1);
+    v_112 = v_octets_0_tr_i124_i + 3;
+    v_33_i161_i = get_u8(v_112);
+    v_32_i162_i = v_33_i161_i != 128u;
+    v_23_i163_i = (u1)(((u32)(v_24_i160_i) & (u32)(v_32_i162_i)) & 1);
+    v_113 = v_octets_0_tr_i124_i + 4;
+    v_35_i164_i = get_u8(v_113);
+    v_34_i165_i = v_35_i164_i != 128u;
+    v_22_i166_i = (u1)(((u32)(v_23_i163_i) & (u32)(v_34_i165_i)) & 1);
+    v_114 = v_octets_0_tr_i124_i + 5;
+    v_37_i167_i = get_u8(v_114);
+    v_36_i168_i = v_37_i167_i != 128u;
+    v_21_i169_i = (u1)(((u32)(v_22_i166_i) & (u32)(v_36_i168_i)) & 1);
+    v_115 = v_octets_0_tr_i124_i + 6;
+    v_39_i170_i = get_u8(v_115);
+    v_38_i171_i = v_39_i170_i != 128u;
+    v_20_i172_i = (u1)(((u32)(v_21_i169_i) & (u32)(v_38_i171_i)) & 1);
+    v_116 = v_octets_0_tr_i124_i + 7;
+    v_41_i173_i = get_u8(v_116);
+    v_40_i174_i = v_41_i173_i != 128u;
+    v_eight_i175_i = (u1)(((u32)(v_20_i172_i) & (u32)(v_40_i174_i)) & 1);
+    if (v_eight_i175_i) { p_v_sink10_i134_i = 18446744073709551608ull; p_v_sink_i135_i = 8u; goto L_tailrecurse_backedge_i133_i; } else { goto L_bb5_i61_i; }
+L_bb2_i129_i:;
+    v_9_not_i130_i = v_octets_1_tr_i125_i == 0u;
+    if (v_9_not_i130_i) { goto L_bb9_i47_i; } else { goto L_bb4_i131_i; }
+L_bb5_i140_i:;
+    v_51_i141_i = get_u8(v_octets_0_tr_i124_i);
+    v_50_i142_i = v_51_i141_i != 128u;
+    v_117 = v_octets_0_tr_i124_i + 1;
+    v_53_i143_i = get_u8(v_117);
+    v_52_i144_i = v_53_i143_i != 128u;
+    v_49_i145_i = (u1)(((u32)(v_50_i142_i) & (u32)(v_52_i144_i)) & 1);
+    v_118 = v_octets_0_tr_i124_i + 2;
+    v_55_i146_i = get_u8(v_118);
+    v_54_i147_i = v_55_i146_i != 128u;
+    v_48_i148_i = (u1)(((u32)(v_49_i145_i) & (u32)(v_54_i147_i)) & 1);
+    v_119 = v_octets_0_tr_i124_i + 3;
+    v_57_i149_i = get_u8(v_119);
+    v_56_i150_i = v_57_i149_i != 128u;
+    v_four_i151_i = (u1)(((u32)(v_48_i148_i) & (u32)(v_56_i150_i)) & 1);
+    if (v_four_i151_i) { p_v_sink10_i134_i = 18446744073709551612ull; p_v_sink_i135_i = 4u; goto L_tailrecurse_backedge_i133_i; } else { goto L_bb5_i61_i; }
+L_bb4_i131_i:;
+    v_60_i132_i = get_u8(v_octets_0_tr_i124_i);
+    v_120 = v_60_i132_i == 128u;
+    if (v_120) { goto L_bb5_i61_i; } else { p_v_sink10_i134_i = 18446744073709551615ull; p_v_sink_i135_i = 1u; goto L_tailrecurse_backedge_i133_i; }
+L_tailrecurse_backedge_i133_i:;
+    v_sink10_i134_i = p_v_sink10_i134_i;
+    v_sink_i135_i = p_v_sink_i135_i;
+    v_later_1_i136_i = (u64)((u64)(v_sink10_i134_i) + (u64)(v_octets_1_tr_i125_i));
+    v_later_0_i137_i = v_octets_0_tr_i124_i + (int64_t)(v_sink_i135_i);
+    { p_v_octets_0_tr_i124_i = v_later_0_i137_i; p_v_octets_1_tr_i125_i = v_later_1_i136_i; goto L_tailrecurse_i123_i; }
+L_object_identifier_is_identifier_exit64_i:;
+    if (v_10_i60_i) { goto L_bb9_i47_i; } else { p_v_0_sroa_0_0 = 6u; goto L_bb5; }
+L_bb9_i47_i:;
+    v_121 = v_params + 56;
     v_122 = get_u8(v_121);
-    v_123 = v_122 == 2u;
-    if (v_123) { goto L_bb15_i_i175; } else { p_v_0_sroa_0_0_i141 = 0u; goto L_MaskHolder_is_default_exit; }
-L_bb15_i_i175:;
-    v_124 = v_95 + 4;
-    v_10_i_i176 = get_u8(v_124);
-    v_6_i_i177 = v_10_i_i176 == 26u;
-    if (v_6_i_i177) { goto L_bb5_i_i178; } else { p_v_0_sroa_0_0_i141 = 0u; goto L_MaskHolder_is_default_exit; }
-L_bb5_i_i178:;
-    v_8_sroa_3_0_sroa_idx_i_i179 = v_9 + 80;
-    v_8_sroa_3_0_copyload_i_i180 = get_u64(v_8_sroa_3_0_sroa_idx_i_i179);
-    v_8_sroa_4_0_sroa_idx_i_i181 = v_9 + 88;
-    v_8_sroa_4_0_copyload_i_i182 = get_u64(v_8_sroa_4_0_sroa_idx_i_i181);
-    v_125 = (u64)((u64)(v_8_sroa_4_0_copyload_i_i182) & (u64)(255u));
-    v_126 = v_125 == 5u;
-    v_127 = v_8_sroa_3_0_copyload_i_i180 == 0u;
-    v_0_sroa_0_1_i_i183 = v_126 ? v_127 : 0u;
-    { p_v_0_sroa_0_0_i141 = v_0_sroa_0_1_i_i183; goto L_MaskHolder_is_default_exit; }
+    v_7_i48_i = (u1)((v_122) & 1);
+    if (v_7_i48_i) { goto L_bb2_i_i155; } else { p_v_151 = (P)0; p_v_parameters_sroa_6_i_sroa_7_0_i = 0u; p_v_parameters_sroa_6_i_sroa_8_0_i = 0u; p_v_parameters_sroa_6_i_sroa_9_0_i = 0u; p_v_8_sroa_4_0_copyload_i_i565 = 0u; p_v_parameters_sroa_6_i_sroa_0_sroa_0_0_i = 0u; p_v_152 = (P)0; goto L_bb11_i; }
+L_bb2_i_i155:;
+    v_10_i50_i = v_params + 64;
+    v_18_0_i_i_i = get_P(v_10_i50_i);
+    v_123 = v_params + 72;
+    v_18_1_i_i_i = get_u64(v_123);
+    v_124 = (u64)((u64)(v_18_1_i_i_i) + (u64)(18446744073709551615ull));
+    v_or_cond_i_i = v_124 < 39u;
+    if (v_or_cond_i_i) { goto L_bb9_i51_i; } else { p_v_0_sroa_0_0 = 6u; goto L_bb5; }
+L_bb9_i51_i:;
+    v_125 = v_18_0_i_i_i + (int64_t)(v_124);
+    v_11_i_i = get_u8(v_125);
+    v_10_i52_i = (u8)(v_11_i_i ^ ((u8)1 << 7)) > (u8)(255u ^ ((u8)1 << 7));
+    if (v_10_i52_i) { p_v_octets_0_tr_i200_i = v_18_0_i_i_i; p_v_octets_1_tr_i201_i = v_124; goto L_tailrecurse_i199_i; } else { goto L_bb9_preheader_i178_i; }
+L_bb5_i53_i:;
+    v_911_not_i177_i = v_18_1_i_i_i == 0u;
+    if (v_911_not_i177_i) { goto L_bb8_i_i_i; } else { goto L_bb9_preheader_i178_i; }
+L_bb9_preheader_i178_i:;
+    v_5_peel_i179_i = get_u8(v_18_0_i_i_i);
+    v_126 = v_5_peel_i179_i == 128u;
+    if (v_126) { p_v_0_sroa_0_0 = 6u; goto L_bb5; } else { goto L_bb7_peel_i180_i; }
+L_bb7_peel_i180_i:;
+    v_exitcond_peel_not_i181_i = v_18_1_i_i_i == 1u;
+    if (v_exitcond_peel_not_i181_i) { goto L_object_identifier_is_identifier_exit_i; } else { p_v_iter_sroa_0_012_i183_i = 1u; goto L_bb9_i182_i; }
+L_bb9_i182_i:;
+    v_iter_sroa_0_012_i183_i = p_v_iter_sroa_0_012_i183_i;
+    v_0_i_i184_i = (u64)((u64)(v_iter_sroa_0_012_i183_i) + (u64)(1u));
+    v_127 = v_18_0_i_i_i + (int64_t)(v_iter_sroa_0_012_i183_i);
+    v_5_i185_i = get_u8(v_127);
+    v_128 = v_5_i185_i == 128u;
+    if (v_128) { goto L_bb2_i2_i192_i; } else { goto L_bb7_i186_i; }
+L_bb2_i2_i192_i:;
+    v_4_i3_i193_i = (u64)((u64)(v_iter_sroa_0_012_i183_i) + (u64)(18446744073709551615ull));
+    v_6_i4_i194_i = v_4_i3_i193_i < v_18_1_i_i_i;
+    if (v_6_i4_i194_i) { goto L_object_identifier_is_start_exit9_i196_i; } else { p_v_4_i3_i193_i_lcssa = v_4_i3_i193_i; goto L_panic_i5_i195_i; }
+L_panic_i5_i195_i:;
+    v_4_i3_i193_i_lcssa = p_v_4_i3_i193_i_lcssa;
+    TRAP();
+    TRAP();
+L_object_identifier_is_start_exit9_i196_i:;
+    v_129 = v_18_0_i_i_i + (int64_t)(v_4_i3_i193_i);
+    v_3_i7_i197_i = get_u8(v_129);
+    v_130 = (u8)(v_3_i7_i197_i ^ ((u8)1 << 7)) > (u8)(255u ^ ((u8)1 << 7));
+    if (v_130) { p_v_0_sroa_0_0 = 6u; goto L_bb5; } else { goto L_bb7_i186_i; }
+L_bb7_i186_i:;
+    v_exitcond_not_i187_i = v_0_i_i184_i == v_18_1_i_i_i;
+    if (v_exitcond_not_i187_i) { goto L_object_identifier_is_identifier_exit_i; } else { p_v_iter_sroa_0_012_i183_i = v_0_i_i184_i; goto L_bb9_i182_i; }
+L_tailrecurse_i199_i:;
+    v_octets_0_tr_i200_i = p_v_octets_0_tr_i200_i;
+    v_octets_1_tr_i201_i = p_v_octets_1_tr_i201_i;
+    v_3_i202_i = v_octets_1_tr_i201_i > 7u;
+    if (v_3_i202_i) { goto L_bb6_i228_i; } else { goto L_bb1_i203_i; }
+L_bb1_i203_i:;
+    v_5_i204_i = v_octets_1_tr_i201_i > 3u;
+    if (v_5_i204_i) { goto L_bb5_i216_i; } else { goto L_bb2_i205_i; }
+L_bb6_i228_i:;
+    v_27_i229_i = get_u8(v_octets_0_tr_i200_i);
+    v_26_i230_i = v_27_i229_i != 128u;
+    v_131 = v_octets_0_tr_i200_i + 1;
+    v_29_i231_i = get_u8(v_131);
+    v_28_i232_i = v_29_i231_i != 128u;
+    v_25_i233_i = (u1)(((u32)(v_26_i230_i) & (u32)(v_28_i232_i)) & 1);
+    v_132 = v_octets_0_tr_i200_i + 2;
+    v_31_i234_i = get_u8(v_132);
+    v_30_i235_i = v_31_i234_i != 128u;
+    v_24_i236_i = (u1)(((u32)(v_25_i233_i) & (u32)(v_30_i235_i)) & 1);
+    v_133 = v_octets_0_tr_i200_i + 3;
+    v_33_i237_i = get_u8(v_133);
+    v_32_i238_i = v_33_i237_i != 128u;
+    v_23_i239_i = (u1)(((u32)(v_24_i236_i) & (u32)(v_32_i238_i)) & 1);
+    v_134 = v_octets_0_tr_i200_i + 4;
+    v_35_i240_i = get_u8(v_134);
+    v_34_i241_i = v_35_i240_i != 128u;
+    v_22_i242_i = (u1)(((u32)(v_23_i239_i) & (u32)(v_34_i241_i)) & 1);
+    v_135 = v_octets_0_tr_i200_i + 5;
+    v_37_i243_i = get_u8(v_135);
+    v_36_i244_i = v_37_i243_i != 128u;
+    v_21_i245_i = (u1)(((u32)(v_22_i242_i) & (u32)(v_36_i244_i)) & 1);
+    v_136 = v_octets_0_tr_i200_i + 6;
+    v_39_i246_i = get_u8(v_136);
+    v_38_i247_i = v_39_i246_i != 128u;
+    v_20_i248_i = (u1)(((u32)(v_21_i245_i) & (u32)(v_38_i247_i)) & 1);
+    v_137 = v_octets_0_tr_i200_i + 7;
+    v_41_i249_i = get_u8(v_137);
+    v_40_i250_i = v_41_i249_i != 128u;
+    v_eight_i251_i = (u1)(((u32)(v_20_i248_i) & (u32)(v_40_i250_i)) & 1);
+    if (v_eight_i251_i) { p_v_sink10_i210_i = 18446744073709551608ull; p_v_sink_i211_i = 8u; goto L_tailrecurse_backedge_i209_i; } else { goto L_bb5_i53_i; }
+L_bb2_i205_i:;
+    v_9_not_i206_i = v_octets_1_tr_i201_i == 0u;
+    if (v_9_not_i206_i) { goto L_bb8_i_i_i; } else { goto L_bb4_i207_i; }
+L_bb5_i216_i:;
+    v_51_i217_i = get_u8(v_octets_0_tr_i200_i);
+    v_50_i218_i = v_51_i217_i != 128u;
+    v_138 = v_octets_0_tr_i200_i + 1;
+    v_53_i219_i = get_u8(v_138);
+    v_52_i220_i = v_53_i219_i != 128u;
+    v_49_i221_i = (u1)(((u32)(v_50_i218_i) & (u32)(v_52_i220_i)) & 1);
+    v_139 = v_octets_0_tr_i200_i + 2;
+    v_55_i222_i = get_u8(v_139);
+    v_54_i223_i = v_55_i222_i != 128u;
+    v_48_i224_i = (u1)(((u32)(v_49_i221_i) & (u32)(v_54_i223_i)) & 1);
+    v_140 = v_octets_0_tr_i200_i + 3;
+    v_57_i225_i = get_u8(v_140);
+    v_56_i226_i = v_57_i225_i != 128u;
+    v_four_i227_i = (u1)(((u32)(v_48_i224_i) & (u32)(v_56_i226_i)) & 1);
+    if (v_four_i227_i) { p_v_sink10_i210_i = 18446744073709551612ull; p_v_sink_i211_i = 4u; goto L_tailrecurse_backedge_i209_i; } else { goto L_bb5_i53_i; }
+L_bb4_i207_i:;
+    v_60_i208_i = get_u8(v_octets_0_tr_i200_i);
+    v_141 = v_60_i208_i == 128u;
+    if (v_141) { goto L_bb5_i53_i; } else { p_v_sink10_i210_i = 18446744073709551615ull; p_v_sink_i211_i = 1u; goto L_tailrecurse_backedge_i209_i; }
+L_tailrecurse_backedge_i209_i:;
+    v_sink10_i210_i = p_v_sink10_i210_i;
+    v_sink_i211_i = p_v_sink_i211_i;
+    v_later_1_i212_i = (u64)((u64)(v_sink10_i210_i) + (u64)(v_octets_1_tr_i201_i));
+    v_later_0_i213_i = v_octets_0_tr_i200_i + (int64_t)(v_sink_i211_i);
+    { p_v_octets_0_tr_i200_i = v_later_0_i213_i; p_v_octets_1_tr_i201_i = v_later_1_i212_i; goto L_tailrecurse_i199_i; }
+L_object_identifier_is_identifier_exit_i:;
+    if (v_10_i52_i) { goto L_bb8_i_i_i; } else { p_v_0_sroa_0_0 = 6u; goto L_bb5; }
+L_bb8_i_i_i:;
+    v_142 = v_params + 80;
+    v_143 = get_u8(v_142);
+    v_7_i_i_i156 = (u1)((v_143) & 1);
+    if (v_7_i_i_i156) { goto L_bb1_i_i_i; } else { p_v_parameters_sroa_6_sroa_5_0_i_i_i = 0u; p_v_parameters_sroa_6_sroa_6_0_i_i_i = 0u; p_v_parameters_sroa_6_sroa_0_sroa_0_0_i_i_i = 0u; p_v_parameters_sroa_0_0_i_i_i = (P)0; p_v_parameters_sroa_6_sroa_0_sroa_5_0_i_i_i = 0u; goto L_bb12_i_i157; }
+L_bb1_i_i_i:;
+    v_144 = v_params + 81;
+    v_10_i_i_i158 = get_u8(v_144);
+    v_28_i_i_i159 = (u8)((u32)(v_10_i_i_i158) & (u32)(31u));
+    v_145 = v_28_i_i_i159 == 31u;
+    v_146 = (u8)((u32)(v_10_i_i_i158) & (u32)(223u));
+    v_147 = v_146 == 0u;
+    v_or_cond3_i_i_i = (u1)(((u32)(v_145) | (u32)(v_147)) & 1);
+    if (v_or_cond3_i_i_i) { p_v_0_sroa_0_0 = 12u; goto L_bb5; } else { goto L_bb14_i_i_i; }
+L_bb14_i_i_i:;
+    v_148 = v_params + 96;
+    v_19_1_i_i_i = get_u64(v_148);
+    v_35_i_i_i160 = v_19_1_i_i_i > 4294967295ull;
+    if (v_35_i_i_i160) { p_v_0_sroa_0_0 = 8u; goto L_bb5; } else { goto L_bb16_i_i_i; }
+L_bb16_i_i_i:;
+    v_149 = v_params + 88;
+    v_19_0_i_i_i = get_P(v_149);
+    v_41_i_i_i = (u64)v_10_i_i_i158;
+    v_39_sroa_4_sroa_0_0_extract_trunc_i_i_i = (u8)(v_19_1_i_i_i);
+    v_39_sroa_4_sroa_4_0_extract_shift_i_i_i = (u64)((u64)(v_19_1_i_i_i) >> (u64)((8u & 63)));
+    v_39_sroa_4_sroa_4_0_extract_trunc_i_i_i = (u16)(v_39_sroa_4_sroa_4_0_extract_shift_i_i_i);
+    v_39_sroa_4_sroa_5_0_extract_shift_i_i_i = (u64)((u64)(v_19_1_i_i_i) >> (u64)((24u & 63)));
+    v_39_sroa_4_sroa_5_0_extract_trunc_i_i_i = (u64)((v_39_sroa_4_sroa_5_0_extract_shift_i_i_i) & (((u64)1 << 40) - 1));
+    { p_v_parameters_sroa_6_sroa_5_0_i_i_i = v_39_sroa_4_sroa_5_0_extract_trunc_i_i_i; p_v_parameters_sroa_6_sroa_6_0_i_i_i = v_41_i_i_i; p_v_parameters_sroa_6_sroa_0_sroa_0_0_i_i_i = v_39_sroa_4_sroa_0_0_extract_trunc_i_i_i; p_v_parameters_sroa_0_0_i_i_i = v_19_0_i_i_i; p_v_parameters_sroa_6_sroa_0_sroa_5_0_i_i_i = v_39_sroa_4_sroa_4_0_extract_trunc_i_i_i; goto L_bb12_i_i157; }
+L_bb12_i_i157:;
+    v_parameters_sroa_6_sroa_5_0_i_i_i = p_v_parameters_sroa_6_sroa_5_0_i_i_i;
+    v_parameters_sroa_6_sroa_6_0_i_i_i = p_v_parameters_sroa_6_sroa_6_0_i_i_i;
+    v_parameters_sroa_6_sroa_0_sroa_0_0_i_i_i = p_v_parameters_sroa_6_sroa_0_sroa_0_0_i_i_i;
+    v_parameters_sroa_0_0_i_i_i = p_v_parameters_sroa_0_0_i_i_i;
+    v_parameters_sroa_6_sroa_0_sroa_5_0_i_i_i = p_v_parameters_sroa_6_sroa_0_sroa_5_0_i_i_i;
+    v_150 = (u32)((v_18_1_i_i_i) & (((u32)1 << 24) - 1));
+    { p_v_151 = v_parameters_sroa_0_0_i_i_i; p_v_parameters_sroa_6_i_sroa_7_0_i = v_parameters_sroa_6_sroa_0_sroa_0_0_i_i_i; p_v_parameters_sroa_6_i_sroa_8_0_i = v_parameters_sroa_6_sroa_0_sroa_5_0_i_i_i; p_v_parameters_sroa_6_i_sroa_9_0_i = v_parameters_sroa_6_sroa_5_0_i_i_i; p_v_8_sroa_4_0_copyload_i_i565 = v_parameters_sroa_6_sroa_6_0_i_i_i; p_v_parameters_sroa_6_i_sroa_0_sroa_0_0_i = v_150; p_v_152 = v_18_0_i_i_i; goto L_bb11_i; }
+L_bb11_i:;
+    v_151 = p_v_151;
+    v_parameters_sroa_6_i_sroa_7_0_i = p_v_parameters_sroa_6_i_sroa_7_0_i;
+    v_parameters_sroa_6_i_sroa_8_0_i = p_v_parameters_sroa_6_i_sroa_8_0_i;
+    v_parameters_sroa_6_i_sroa_9_0_i = p_v_parameters_sroa_6_i_sroa_9_0_i;
+    v_8_sroa_4_0_copyload_i_i565 = p_v_8_sroa_4_0_copyload_i_i565;
+    v_parameters_sroa_6_i_sroa_0_sroa_0_0_i = p_v_parameters_sroa_6_i_sroa_0_sroa_0_0_i;
+    v_152 = p_v_152;
+    v_9_sroa_7_sroa_0_0_extract_trunc_i = (u32)((v_15_1_i_i) & (((u32)1 << 24) - 1));
+    v_15_i = v_params + 104;
+    v_18_0_i_i = get_P(v_15_i);
+    v_153 = v_params + 112;
+    v_18_1_i_i = get_u64(v_153);
+    v_154 = (u64)((u64)(v_18_1_i_i) + (u64)(18446744073709551615ull));
+    v_or_cond_i75_i = v_154 < 39u;
+    if (v_or_cond_i75_i) { goto L_bb9_i77_i; } else { p_v_0_sroa_0_0 = 6u; goto L_bb5; }
+L_bb9_i77_i:;
+    v_155 = v_18_0_i_i + (int64_t)(v_154);
+    v_11_i79_i = get_u8(v_155);
+    v_10_i80_i = (u8)(v_11_i79_i ^ ((u8)1 << 7)) > (u8)(255u ^ ((u8)1 << 7));
+    if (v_10_i80_i) { p_v_octets_0_tr_i276_i = v_18_0_i_i; p_v_octets_1_tr_i277_i = v_154; goto L_tailrecurse_i275_i; } else { goto L_bb9_preheader_i254_i; }
+L_bb5_i81_i:;
+    v_911_not_i253_i = v_18_1_i_i == 0u;
+    if (v_911_not_i253_i) { goto L_bb8_i_i; } else { goto L_bb9_preheader_i254_i; }
+L_bb9_preheader_i254_i:;
+    v_5_peel_i255_i = get_u8(v_18_0_i_i);
+    v_156 = v_5_peel_i255_i == 128u;
+    if (v_156) { p_v_0_sroa_0_0 = 6u; goto L_bb5; } else { goto L_bb7_peel_i256_i; }
+L_bb7_peel_i256_i:;
+    v_exitcond_peel_not_i257_i = v_18_1_i_i == 1u;
+    if (v_exitcond_peel_not_i257_i) { goto L_object_identifier_is_identifier_exit84_i; } else { p_v_iter_sroa_0_012_i259_i = 1u; goto L_bb9_i258_i; }
+L_bb9_i258_i:;
+    v_iter_sroa_0_012_i259_i = p_v_iter_sroa_0_012_i259_i;
+    v_0_i_i260_i = (u64)((u64)(v_iter_sroa_0_012_i259_i) + (u64)(1u));
+    v_157 = v_18_0_i_i + (int64_t)(v_iter_sroa_0_012_i259_i);
+    v_5_i261_i = get_u8(v_157);
+    v_158 = v_5_i261_i == 128u;
+    if (v_158) { goto L_bb2_i2_i268_i; } else { goto L_bb7_i262_i; }
+L_bb2_i2_i268_i:;
+    v_4_i3_i269_i = (u64)((u64)(v_iter_sroa_0_012_i259_i) + (u64)(18446744073709551615ull));
+    v_6_i4_i270_i = v_4_i3_i269_i < v_18_1_i_i;
+    if (v_6_i4_i270_i) { goto L_object_identifier_is_start_exit9_i272_i; } else { p_v_4_i3_i269_i_lcssa = v_4_i3_i269_i; goto L_panic_i5_i271_i; }
+L_panic_i5_i271_i:;
+    v_4_i3_i269_i_lcssa = p_v_4_i3_i269_i_lcssa;
+    TRAP();
+    TRAP();
+L_object_identifier_is_start_exit9_i272_i:;
+    v_159 = v_18_0_i_i + (int64_t)(v_4_i3_i269_i);
+    v_3_i7_i273_i = get_u8(v_159);
+    v_160 = (u8)(v_3_i7_i273_i ^ ((u8)1 << 7)) > (u8)(255u ^ ((u8)1 << 7));
+    if (v_160) { p_v_0_sroa_0_0 = 6u; goto L_bb5; } else { goto L_bb7_i262_i; }
+L_bb7_i262_i:;
+    v_exitcond_not_i263_i = v_0_i_i260_i == v_18_1_i_i;
+    if (v_exitcond_not_i263_i) { goto L_object_identifier_is_identifier_exit84_i; } else { p_v_iter_sroa_0_012_i259_i = v_0_i_i260_i; goto L_bb9_i258_i; }
+L_tailrecurse_i275_i:;
+    v_octets_0_tr_i276_i = p_v_octets_0_tr_i276_i;
+    v_octets_1_tr_i277_i = p_v_octets_1_tr_i277_i;
+    v_3_i_i154 = v_octets_1_tr_i277_i > 7u;
+    if (v_3_i_i154) { goto L_bb6_i303_i; } else { goto L_bb1_i278_i; }
+L_bb1_i278_i:;
+    v_5_i279_i = v_octets_1_tr_i277_i > 3u;
+    if (v_5_i279_i) { goto L_bb5_i291_i; } else { goto L_bb2_i280_i; }
+L_bb6_i303_i:;
+    v_27_i304_i = get_u8(v_octets_0_tr_i276_i);
+    v_26_i305_i = v_27_i304_i != 128u;
+    v_161 = v_octets_0_tr_i276_i + 1;
+    v_29_i306_i = get_u8(v_161);
+    v_28_i307_i = v_29_i306_i != 128u;
+    v_25_i308_i = (u1)(((u32)(v_26_i305_i) & (u32)(v_28_i307_i)) & 1);
+    v_162 = v_octets_0_tr_i276_i + 2;
+    v_31_i309_i = get_u8(v_162);
+    v_30_i310_i = v_31_i309_i != 128u;
+    v_24_i311_i = (u1)(((u32)(v_25_i308_i) & (u32)(v_30_i310_i)) & 1);
+    v_163 = v_octets_0_tr_i276_i + 3;
+    v_33_i312_i = get_u8(v_163);
+    v_32_i313_i = v_33_i312_i != 128u;
+    v_23_i314_i = (u1)(((u32)(v_24_i311_i) & (u32)(v_32_i313_i)) & 1);
+    v_164 = v_octets_0_tr_i276_i + 4;
+    v_35_i315_i = get_u8(v_164);
+    v_34_i316_i = v_35_i315_i != 128u;
+    v_22_i317_i = (u1)(((u32)(v_23_i314_i) & (u32)(v_34_i316_i)) & 1);
+    v_165 = v_octets_0_tr_i276_i + 5;
+    v_37_i318_i = get_u8(v_165);
+    v_36_i319_i = v_37_i318_i != 128u;
+    v_21_i320_i = (u1)(((u32)(v_22_i317_i) & (u32)(v_36_i319_i)) & 1);
+    v_166 = v_octets_0_tr_i276_i + 6;
+    v_39_i321_i = get_u8(v_166);
+    v_38_i322_i = v_39_i321_i != 128u;
+    v_20_i323_i = (u1)(((u32)(v_21_i320_i) & (u32)(v_38_i322_i)) & 1);
+    v_167 = v_octets_0_tr_i276_i + 7;
+    v_41_i324_i = get_u8(v_167);
+    v_40_i325_i = v_41_i324_i != 128u;
+    v_eight_i326_i = (u1)(((u32)(v_20_i323_i) & (u32)(v_40_i325_i)) & 1);
+    if (v_eight_i326_i) { p_v_sink10_i285_i = 18446744073709551608ull; p_v_sink_i286_i = 8u; goto L_tailrecurse_backedge_i284_i; } else { goto L_bb5_i81_i; }
+L_bb2_i280_i:;
+    v_9_not_i281_i = v_octets_1_tr_i277_i == 0u;
+    if (v_9_not_i281_i) { goto L_bb8_i_i; } else { goto L_bb4_i282_i; }
+L_bb5_i291_i:;
+    v_51_i292_i = get_u8(v_octets_0_tr_i276_i);
+    v_50_i293_i = v_51_i292_i != 128u;
+    v_168 = v_octets_0_tr_i276_i + 1;
+    v_53_i294_i = get_u8(v_168);
+    v_52_i295_i = v_53_i294_i != 128u;
+    v_49_i296_i = (u1)(((u32)(v_50_i293_i) & (u32)(v_52_i295_i)) & 1);
+    v_169 = v_octets_0_tr_i276_i + 2;
+    v_55_i297_i = get_u8(v_169);
+    v_54_i298_i = v_55_i297_i != 128u;
+    v_48_i299_i = (u1)(((u32)(v_49_i296_i) & (u32)(v_54_i298_i)) & 1);
+    v_170 = v_octets_0_tr_i276_i + 3;
+    v_57_i300_i = get_u8(v_170);
+    v_56_i301_i = v_57_i300_i != 128u;
+    v_four_i302_i = (u1)(((u32)(v_48_i299_i) & (u32)(v_56_i301_i)) & 1);
+    if (v_four_i302_i) { p_v_sink10_i285_i = 18446744073709551612ull; p_v_sink_i286_i = 4u; goto L_tailrecurse_backedge_i284_i; } else { goto L_bb5_i81_i; }
+L_bb4_i282_i:;
+    v_60_i283_i = get_u8(v_octets_0_tr_i276_i);
+    v_171 = v_60_i283_i == 128u;
+    if (v_171) { goto L_bb5_i81_i; } else { p_v_sink10_i285_i = 18446744073709551615ull; p_v_sink_i286_i = 1u; goto L_tailrecurse_backedge_i284_i; }
+L_tailrecurse_backedge_i284_i:;
+    v_sink10_i285_i = p_v_sink10_i285_i;
+    v_sink_i286_i = p_v_sink_i286_i;
+    v_later_1_i287_i = (u64)((u64)(v_sink10_i285_i) + (u64)(v_octets_1_tr_i277_i));
+    v_later_0_i288_i = v_octets_0_tr_i276_i + (int64_t)(v_sink_i286_i);
+    { p_v_octets_0_tr_i276_i = v_later_0_i288_i; p_v_octets_1_tr_i277_i = v_later_1_i287_i; goto L_tailrecurse_i275_i; }
+L_object_identifier_is_identifier_exit84_i:;
+    if (v_10_i80_i) { goto L_bb8_i_i; } else { p_v_0_sroa_0_0 = 6u; goto L_bb5; }
+L_bb8_i_i:;
+    v_172 = v_params + 120;
+    v_173 = get_u8(v_172);
+    v_7_i_i = (u1)((v_173) & 1);
+    if (v_7_i_i) { goto L_bb1_i_i149; } else { p_v_parameters_sroa_6_sroa_5_0_i_i = 0u; p_v_8_sroa_4_0_copyload_i379 = 0u; p_v_parameters_sroa_6_sroa_0_sroa_0_0_i_i = 0u; p_v_180 = (P)0; p_v_parameters_sroa_6_sroa_0_sroa_5_0_i_i = 0u; goto L_bb4_i; }
+L_bb1_i_i149:;
+    v_174 = v_params + 121;
+    v_10_i_i150 = get_u8(v_174);
+    v_28_i_i151 = (u8)((u32)(v_10_i_i150) & (u32)(31u));
+    v_175 = v_28_i_i151 == 31u;
+    v_176 = (u8)((u32)(v_10_i_i150) & (u32)(223u));
+    v_177 = v_176 == 0u;
+    v_or_cond3_i_i = (u1)(((u32)(v_175) | (u32)(v_177)) & 1);
+    if (v_or_cond3_i_i) { p_v_0_sroa_0_0 = 12u; goto L_bb5; } else { goto L_bb14_i_i; }
+L_bb14_i_i:;
+    v_178 = v_params + 136;
+    v_19_1_i_i = get_u64(v_178);
+    v_35_i_i152 = v_19_1_i_i > 4294967295ull;
+    if (v_35_i_i152) { p_v_0_sroa_0_0 = 8u; goto L_bb5; } else { goto L_bb16_i_i153; }
+L_bb16_i_i153:;
+    v_179 = v_params + 128;
+    v_19_0_i_i = get_P(v_179);
+    v_41_i_i = (u64)v_10_i_i150;
+    v_39_sroa_4_sroa_0_0_extract_trunc_i_i = (u8)(v_19_1_i_i);
+    v_39_sroa_4_sroa_4_0_extract_shift_i_i = (u64)((u64)(v_19_1_i_i) >> (u64)((8u & 63)));
+    v_39_sroa_4_sroa_4_0_extract_trunc_i_i = (u16)(v_39_sroa_4_sroa_4_0_extract_shift_i_i);
+    v_39_sroa_4_sroa_5_0_extract_shift_i_i = (u64)((u64)(v_19_1_i_i) >> (u64)((24u & 63)));
+    v_39_sroa_4_sroa_5_0_extract_trunc_i_i = (u64)((v_39_sroa_4_sroa_5_0_extract_shift_i_i) & (((u64)1 << 40) - 1));
+    { p_v_parameters_sroa_6_sroa_5_0_i_i = v_39_sroa_4_sroa_5_0_extract_trunc_i_i; p_v_8_sroa_4_0_copyload_i379 = v_41_i_i; p_v_parameters_sroa_6_sroa_0_sroa_0_0_i_i = v_39_sroa_4_sroa_0_0_extract_trunc_i_i; p_v_180 = v_19_0_i_i; p_v_parameters_sroa_6_sroa_0_sroa_5_0_i_i = v_39_sroa_4_sroa_4_0_extract_trunc_i_i; goto L_bb4_i; }
+L_bb4_i:;
+    v_parameters_sroa_6_sroa_5_0_i_i = p_v_parameters_sroa_6_sroa_5_0_i_i;
+    v_8_sroa_4_0_copyload_i379 = p_v_8_sroa_4_0_copyload_i379;
+    v_parameters_sroa_6_sroa_0_sroa_0_0_i_i = p_v_parameters_sroa_6_sroa_0_sroa_0_0_i_i;
+    v_180 = p_v_180;
+    v_parameters_sroa_6_sroa_0_sroa_5_0_i_i = p_v_parameters_sroa_6_sroa_0_sroa_5_0_i_i;
+    v_181 = (u32)((v_18_1_i_i) & (((u32)1 << 24) - 1));
+    put_P(v_made_i, v_18_0_i8_i);
+    v_5_i_sroa_8_0_made_i_sroa_idx = v_made_i + 8;
+    put_24(v_5_i_sroa_8_0_made_i_sroa_idx, v_101);
+    v_5_i_sroa_13_0_made_i_sroa_idx = v_made_i + 11;
+    put_40(v_5_i_sroa_13_0_made_i_sroa_idx, 0u);
+    v_5_i_sroa_14_0_made_i_sroa_idx = v_made_i + 16;
+    put_P(v_5_i_sroa_14_0_made_i_sroa_idx, v_parameters_sroa_0_0_i18_i);
+    v_5_i_sroa_15_0_made_i_sroa_idx = v_made_i + 24;
+    put_u8(v_5_i_sroa_15_0_made_i_sroa_idx, v_parameters_sroa_6_sroa_0_sroa_0_0_i17_i);
+    v_5_i_sroa_16_0_made_i_sroa_idx = v_made_i + 25;
+    put_u16(v_5_i_sroa_16_0_made_i_sroa_idx, v_parameters_sroa_6_sroa_0_sroa_5_0_i19_i);
+    v_5_i_sroa_17_0_made_i_sroa_idx = v_made_i + 27;
+    put_40(v_5_i_sroa_17_0_made_i_sroa_idx, v_parameters_sroa_6_sroa_5_0_i15_i);
+    v_5_i_sroa_18_0_made_i_sroa_idx = v_made_i + 32;
+    put_u64(v_5_i_sroa_18_0_made_i_sroa_idx, v_parameters_sroa_6_sroa_6_0_i16_i);
+    v_5_i_sroa_19_0_made_i_sroa_idx = v_made_i + 40;
+    put_P(v_5_i_sroa_19_0_made_i_sroa_idx, v_15_0_i_i);
+    v_5_i_sroa_20_0_made_i_sroa_idx = v_made_i + 48;
+    put_24(v_5_i_sroa_20_0_made_i_sroa_idx, v_9_sroa_7_sroa_0_0_extract_trunc_i);
+    v_5_i_sroa_21_0_made_i_sroa_idx = v_made_i + 51;
+    put_40(v_5_i_sroa_21_0_made_i_sroa_idx, 0u);
+    v_5_i_sroa_22_0_made_i_sroa_idx = v_made_i + 56;
+    put_P(v_5_i_sroa_22_0_made_i_sroa_idx, v_152);
+    v_5_i_sroa_23_0_made_i_sroa_idx = v_made_i + 64;
+    put_24(v_5_i_sroa_23_0_made_i_sroa_idx, v_parameters_sroa_6_i_sroa_0_sroa_0_0_i);
+    v_5_i_sroa_24_0_made_i_sroa_idx = v_made_i + 67;
+    put_40(v_5_i_sroa_24_0_made_i_sroa_idx, 0u);
+    v_5_i_sroa_25_0_made_i_sroa_idx = v_made_i + 72;
+    put_P(v_5_i_sroa_25_0_made_i_sroa_idx, v_151);
+    v_5_i_sroa_26_0_made_i_sroa_idx = v_made_i + 80;
+    put_u8(v_5_i_sroa_26_0_made_i_sroa_idx, v_parameters_sroa_6_i_sroa_7_0_i);
+    v_5_i_sroa_27_0_made_i_sroa_idx = v_made_i + 81;
+    put_u16(v_5_i_sroa_27_0_made_i_sroa_idx, v_parameters_sroa_6_i_sroa_8_0_i);
+    v_5_i_sroa_28_0_made_i_sroa_idx = v_made_i + 83;
+    put_40(v_5_i_sroa_28_0_made_i_sroa_idx, v_parameters_sroa_6_i_sroa_9_0_i);
+    v_5_i_sroa_29_0_made_i_sroa_idx = v_made_i + 88;
+    put_u64(v_5_i_sroa_29_0_made_i_sroa_idx, v_8_sroa_4_0_copyload_i_i565);
+    v_5_i_sroa_30_0_made_i_sroa_idx = v_made_i + 96;
+    put_P(v_5_i_sroa_30_0_made_i_sroa_idx, v_18_0_i_i);
+    v_5_i_sroa_31_0_made_i_sroa_idx = v_made_i + 104;
+    put_24(v_5_i_sroa_31_0_made_i_sroa_idx, v_181);
+    v_5_i_sroa_32_0_made_i_sroa_idx = v_made_i + 107;
+    put_40(v_5_i_sroa_32_0_made_i_sroa_idx, 0u);
+    v_5_i_sroa_33_0_made_i_sroa_idx = v_made_i + 112;
+    put_P(v_5_i_sroa_33_0_made_i_sroa_idx, v_180);
+    v_5_i_sroa_34_0_made_i_sroa_idx = v_made_i + 120;
+    put_u8(v_5_i_sroa_34_0_made_i_sroa_idx, v_parameters_sroa_6_sroa_0_sroa_0_0_i_i);
+    v_5_i_sroa_35_0_made_i_sroa_idx = v_made_i + 121;
+    put_u16(v_5_i_sroa_35_0_made_i_sroa_idx, v_parameters_sroa_6_sroa_0_sroa_5_0_i_i);
+    v_5_i_sroa_36_0_made_i_sroa_idx = v_made_i + 123;
+    put_40(v_5_i_sroa_36_0_made_i_sroa_idx, v_parameters_sroa_6_sroa_5_0_i_i);
+    v_5_i_sroa_37_0_made_i_sroa_idx = v_made_i + 128;
+    put_u64(v_5_i_sroa_37_0_made_i_sroa_idx, v_8_sroa_4_0_copyload_i379);
+    if (v_place_0) { goto L_bb6_i_i_i100; } else { goto L_bb6_i; }
+L_bb6_i:;
+    v_182 = v_parameters_sroa_0_0_i18_i != (P)0;
+    v_0_1_i_i_i = get_u64(v_5_i_sroa_8_0_made_i_sroa_idx);
+    v_183 = v_0_1_i_i_i == 5u;
+    v_or_cond635 = v_182 ? v_183 : 0u;
+    if (v_or_cond635) { goto L_bb11_i_i213; } else { p_v_0_sroa_0_0_shrunk_i_i_i196 = 0u; goto L_bb2_i_i17_i195; }
+L_bb11_i_i213:;
+    v_184 = get_u8(v_18_0_i8_i);
+    v_185 = v_184 == 43u;
+    if (v_185) { goto L_bb12_i_i214; } else { p_v_0_sroa_0_0_shrunk_i_i_i196 = 0u; goto L_bb2_i_i17_i195; }
+L_bb12_i_i214:;
+    v_186 = v_18_0_i8_i + 1;
+    v_187 = get_u8(v_186);
+    v_188 = v_187 == 14u;
+    if (v_188) { goto L_bb13_i_i215; } else { p_v_0_sroa_0_0_shrunk_i_i_i196 = 0u; goto L_bb2_i_i17_i195; }
+L_bb13_i_i215:;
+    v_189 = v_18_0_i8_i + 2;
+    v_190 = get_u8(v_189);
+    v_191 = v_190 == 3u;
+    if (v_191) { goto L_bb14_i_i216; } else { p_v_0_sroa_0_0_shrunk_i_i_i196 = 0u; goto L_bb2_i_i17_i195; }
+L_bb14_i_i216:;
+    v_192 = v_18_0_i8_i + 3;
+    v_193 = get_u8(v_192);
+    v_194 = v_193 == 2u;
+    if (v_194) { goto L_bb15_i_i217; } else { p_v_0_sroa_0_0_shrunk_i_i_i196 = 0u; goto L_bb2_i_i17_i195; }
+L_bb15_i_i217:;
+    v_195 = v_18_0_i8_i + 4;
+    v_10_i_i218 = get_u8(v_195);
+    v_6_i32_i = v_10_i_i218 == 26u;
+    if (v_6_i32_i) { goto L_bb5_i_i219; } else { p_v_0_sroa_0_0_shrunk_i_i_i196 = 0u; goto L_bb2_i_i17_i195; }
+L_bb5_i_i219:;
+    v_8_sroa_3_0_copyload_i_i = get_u64(v_5_i_sroa_15_0_made_i_sroa_idx);
+    v_196 = (u64)((u64)(v_parameters_sroa_6_sroa_6_0_i16_i) & (u64)(255u));
+    v_197 = v_196 == 5u;
+    v_198 = v_8_sroa_3_0_copyload_i_i == 0u;
+    v_0_sroa_0_1_i_i = v_197 ? v_198 : 0u;
+    { p_v_0_sroa_0_0_shrunk_i_i_i196 = v_0_sroa_0_1_i_i; goto L_bb2_i_i17_i195; }
+L_bb2_i_i17_i195:;
+    v_0_sroa_0_0_shrunk_i_i_i196 = p_v_0_sroa_0_0_shrunk_i_i_i196;
+    v_3_i_i197 = (u1)(((u32)(v_0_sroa_0_0_shrunk_i_i_i196) ^ (u32)(1u)) & 1);
+    v_2_i_i198 = (u8)v_3_i_i197;
+    v_199 = v_152 != (P)0;
+    v_0_1_i_i522 = get_u64(v_5_i_sroa_20_0_made_i_sroa_idx);
+    v_200 = v_0_1_i_i522 == 9u;
+    v_or_cond637 = v_199 ? v_200 : 0u;
+    if (v_or_cond637) { goto L_bb2_i_i525; } else { p_v_0_sroa_0_0_i524 = 0u; goto L_MaskHolder_is_default_exit; }
+L_bb2_i_i525:;
+    v_21_i_i526 = get_u8(v_15_0_i_i);
+    v_20_i_i527 = v_21_i_i526 == 42u;
+    v_201 = v_15_0_i_i + 1;
+    v_23_i_i528 = get_u8(v_201);
+    v_22_i_i529 = v_23_i_i528 == 134u;
+    v_19_i_i530 = (u1)(((u32)(v_20_i_i527) & (u32)(v_22_i_i529)) & 1);
+    v_202 = v_15_0_i_i + 2;
+    v_25_i_i531 = get_u8(v_202);
+    v_24_i_i532 = v_25_i_i531 == 72u;
+    v_18_i_i533 = (u1)(((u32)(v_19_i_i530) & (u32)(v_24_i_i532)) & 1);
+    v_203 = v_15_0_i_i + 3;
+    v_27_i_i534 = get_u8(v_203);
+    v_26_i_i535 = v_27_i_i534 == 134u;
+    v_17_i_i536 = (u1)(((u32)(v_18_i_i533) & (u32)(v_26_i_i535)) & 1);
+    v_204 = v_15_0_i_i + 4;
+    v_29_i_i537 = get_u8(v_204);
+    v_28_i_i538 = v_29_i_i537 == 247u;
+    v_16_i_i539 = (u1)(((u32)(v_17_i_i536) & (u32)(v_28_i_i538)) & 1);
+    v_205 = v_15_0_i_i + 5;
+    v_31_i_i540 = get_u8(v_205);
+    v_30_i_i541 = v_31_i_i540 == 13u;
+    v_15_i_i542 = (u1)(((u32)(v_16_i_i539) & (u32)(v_30_i_i541)) & 1);
+    v_206 = v_15_0_i_i + 6;
+    v_33_i_i543 = get_u8(v_206);
+    v_32_i_i544 = v_33_i_i543 == 1u;
+    v_14_i_i545 = (u1)(((u32)(v_15_i_i542) & (u32)(v_32_i_i544)) & 1);
+    v_207 = v_15_0_i_i + 7;
+    v_35_i_i546 = get_u8(v_207);
+    v_34_i_i547 = v_35_i_i546 == 1u;
+    v_front_i_i548 = (u1)(((u32)(v_14_i_i545) & (u32)(v_34_i_i547)) & 1);
+    if (v_front_i_i548) { goto L_hash_fields_is_pkcs1_exit_i549; } else { p_v_0_sroa_0_0_i524 = 0u; goto L_MaskHolder_is_default_exit; }
+L_hash_fields_is_pkcs1_exit_i549:;
+    v_208 = v_15_0_i_i + 8;
+    v_36_i_i550 = get_u8(v_208);
+    v_209 = v_36_i_i550 == 8u;
+    if (v_209) { goto L_bb5_i551; } else { p_v_0_sroa_0_0_i524 = 0u; goto L_MaskHolder_is_default_exit; }
+L_bb5_i551:;
+    v_210 = v_151 != (P)0;
+    v_0_1_i_i_i552 = get_u64(v_5_i_sroa_23_0_made_i_sroa_idx);
+    v_211 = v_0_1_i_i_i552 == 5u;
+    v_or_cond_i553 = v_210 ? v_211 : 0u;
+    if (v_or_cond_i553) { goto L_bb11_i_i554; } else { p_v_0_sroa_0_0_i524 = 0u; goto L_MaskHolder_is_default_exit; }
+L_bb11_i_i554:;
+    v_212 = get_u8(v_152);
+    v_213 = v_212 == 43u;
+    if (v_213) { goto L_bb12_i_i555; } else { p_v_0_sroa_0_0_i524 = 0u; goto L_MaskHolder_is_default_exit; }
+L_bb12_i_i555:;
+    v_214 = v_152 + 1;
+    v_215 = get_u8(v_214);
+    v_216 = v_215 == 14u;
+    if (v_216) { goto L_bb13_i_i556; } else { p_v_0_sroa_0_0_i524 = 0u; goto L_MaskHolder_is_default_exit; }
+L_bb13_i_i556:;
+    v_217 = v_152 + 2;
+    v_218 = get_u8(v_217);
+    v_219 = v_218 == 3u;
+    if (v_219) { goto L_bb14_i_i557; } else { p_v_0_sroa_0_0_i524 = 0u; goto L_MaskHolder_is_default_exit; }
+L_bb14_i_i557:;
+    v_220 = v_152 + 3;
+    v_221 = get_u8(v_220);
+    v_222 = v_221 == 2u;
+    if (v_222) { goto L_bb15_i_i558; } else { p_v_0_sroa_0_0_i524 = 0u; goto L_MaskHolder_is_default_exit; }
+L_bb15_i_i558:;
+    v_223 = v_152 + 4;
+    v_10_i_i559 = get_u8(v_223);
+    v_6_i_i560 = v_10_i_i559 == 26u;
+    if (v_6_i_i560) { goto L_bb5_i_i561; } else { p_v_0_sroa_0_0_i524 = 0u; goto L_MaskHolder_is_default_exit; }
+L_bb5_i_i561:;
+    v_8_sroa_3_0_copyload_i_i563 = get_u64(v_5_i_sroa_26_0_made_i_sroa_idx);
+    v_224 = (u64)((u64)(v_8_sroa_4_0_copyload_i_i565) & (u64)(255u));
+    v_225 = v_224 == 5u;
+    v_226 = v_8_sroa_3_0_copyload_i_i563 == 0u;
+    v_0_sroa_0_1_i_i566 = v_225 ? v_226 : 0u;
+    { p_v_0_sroa_0_0_i524 = v_0_sroa_0_1_i_i566; goto L_MaskHolder_is_default_exit; }
 L_MaskHolder_is_default_exit:;
-    v_0_sroa_0_0_i141 = p_v_0_sroa_0_0_i141;
-    v_3_i4_i = (u1)(((u32)(v_0_sroa_0_0_i141) ^ (u32)(1u)) & 1);
-    v_2_i5_i = (u8)v_3_i4_i;
-    v_128 = v_9 + 112;
-    v_129 = get_P(v_128);
-    v_130 = v_129 == (P)0;
-    if (v_130) { p_v_0_sroa_0_0_i120168_i = 0u; p_v_145 = 2u; goto L_Fields_non_defaults_exit_thread_i; } else { goto L_bb3_i117_i; }
-L_bb3_i117_i:;
-    v_0_0_i_i118_i = get_P(v_9_i_i118);
-    v_131 = v_9 + 104;
-    v_0_1_i_i119_i = get_u64(v_131);
-    v_132 = v_0_1_i_i119_i == 9u;
-    if (v_132) { goto L_bb2_i_i121_i; } else { p_v_0_sroa_0_0_i120168_i = 0u; p_v_145 = 2u; goto L_Fields_non_defaults_exit_thread_i; }
+    v_0_sroa_0_0_i524 = p_v_0_sroa_0_0_i524;
+    v_3_i4_i199 = (u1)(((u32)(v_0_sroa_0_0_i524) ^ (u32)(1u)) & 1);
+    v_2_i5_i200 = (u8)v_3_i4_i199;
+    v_227 = v_180 != (P)0;
+    v_0_1_i_i119_i = get_u64(v_5_i_sroa_31_0_made_i_sroa_idx);
+    v_228 = v_0_1_i_i119_i == 9u;
+    v_or_cond639 = v_227 ? v_228 : 0u;
+    if (v_or_cond639) { goto L_bb2_i_i121_i; } else { p_v_0_sroa_0_0_i120168_i = 0u; p_v_241 = 2u; goto L_Fields_non_defaults_exit_thread_i; }
 L_bb2_i_i121_i:;
-    v_21_i_i122_i = get_u8(v_0_0_i_i118_i);
+    v_21_i_i122_i = get_u8(v_18_0_i_i);
     v_20_i_i123_i = v_21_i_i122_i == 42u;
-    v_133 = v_0_0_i_i118_i + 1;
-    v_23_i_i124_i = get_u8(v_133);
+    v_229 = v_18_0_i_i + 1;
+    v_23_i_i124_i = get_u8(v_229);
     v_22_i_i125_i = v_23_i_i124_i == 134u;
     v_19_i_i126_i = (u1)(((u32)(v_20_i_i123_i) & (u32)(v_22_i_i125_i)) & 1);
-    v_134 = v_0_0_i_i118_i + 2;
-    v_25_i_i127_i = get_u8(v_134);
+    v_230 = v_18_0_i_i + 2;
+    v_25_i_i127_i = get_u8(v_230);
     v_24_i_i128_i = v_25_i_i127_i == 72u;
     v_18_i_i129_i = (u1)(((u32)(v_19_i_i126_i) & (u32)(v_24_i_i128_i)) & 1);
-    v_135 = v_0_0_i_i118_i + 3;
-    v_27_i_i130_i = get_u8(v_135);
+    v_231 = v_18_0_i_i + 3;
+    v_27_i_i130_i = get_u8(v_231);
     v_26_i_i131_i = v_27_i_i130_i == 134u;
     v_17_i_i132_i = (u1)(((u32)(v_18_i_i129_i) & (u32)(v_26_i_i131_i)) & 1);
-    v_136 = v_0_0_i_i118_i + 4;
-    v_29_i_i133_i = get_u8(v_136);
+    v_232 = v_18_0_i_i + 4;
+    v_29_i_i133_i = get_u8(v_232);
     v_28_i_i134_i = v_29_i_i133_i == 247u;
     v_16_i_i135_i = (u1)(((u32)(v_17_i_i132_i) & (u32)(v_28_i_i134_i)) & 1);
-    v_137 = v_0_0_i_i118_i + 5;
-    v_31_i_i136_i = get_u8(v_137);
+    v_233 = v_18_0_i_i + 5;
+    v_31_i_i136_i = get_u8(v_233);
     v_30_i_i137_i = v_31_i_i136_i == 13u;
     v_15_i_i138_i = (u1)(((u32)(v_16_i_i135_i) & (u32)(v_30_i_i137_i)) & 1);
-    v_138 = v_0_0_i_i118_i + 6;
-    v_33_i_i139_i = get_u8(v_138);
+    v_234 = v_18_0_i_i + 6;
+    v_33_i_i139_i = get_u8(v_234);
     v_32_i_i140_i = v_33_i_i139_i == 1u;
     v_14_i_i141_i = (u1)(((u32)(v_15_i_i138_i) & (u32)(v_32_i_i140_i)) & 1);
-    v_139 = v_0_0_i_i118_i + 7;
-    v_35_i_i142_i = get_u8(v_139);
+    v_235 = v_18_0_i_i + 7;
+    v_35_i_i142_i = get_u8(v_235);
     v_34_i_i143_i = v_35_i_i142_i == 1u;
     v_front_i_i144_i = (u1)(((u32)(v_14_i_i141_i) & (u32)(v_34_i_i143_i)) & 1);
-    if (v_front_i_i144_i) { goto L_hash_fields_is_pkcs1_exit_i145_i; } else { p_v_0_sroa_0_0_i120168_i = 0u; p_v_145 = 2u; goto L_Fields_non_defaults_exit_thread_i; }
+    if (v_front_i_i144_i) { goto L_hash_fields_is_pkcs1_exit_i145_i; } else { p_v_0_sroa_0_0_i120168_i = 0u; p_v_241 = 2u; goto L_Fields_non_defaults_exit_thread_i; }
 L_hash_fields_is_pkcs1_exit_i145_i:;
-    v_140 = v_0_0_i_i118_i + 8;
-    v_36_i_i146_i = get_u8(v_140);
-    v_141 = v_36_i_i146_i == 9u;
-    if (v_141) { goto L_Fields_non_defaults_exit_i; } else { p_v_0_sroa_0_0_i120168_i = 0u; p_v_145 = 2u; goto L_Fields_non_defaults_exit_thread_i; }
+    v_236 = v_18_0_i_i + 8;
+    v_36_i_i146_i = get_u8(v_236);
+    v_237 = v_36_i_i146_i == 9u;
+    if (v_237) { goto L_Fields_non_defaults_exit_i; } else { p_v_0_sroa_0_0_i120168_i = 0u; p_v_241 = 2u; goto L_Fields_non_defaults_exit_thread_i; }
 L_Fields_non_defaults_exit_i:;
-    v_8_sroa_3_0_sroa_idx_i148_i = v_9 + 120;
-    v_8_sroa_3_0_copyload_i149_i = get_u64(v_8_sroa_3_0_sroa_idx_i148_i);
-    v_8_sroa_4_0_sroa_idx_i150_i = v_9 + 128;
-    v_8_sroa_4_0_copyload_i151_i = get_u64(v_8_sroa_4_0_sroa_idx_i150_i);
-    v_142 = (u64)((u64)(v_8_sroa_4_0_copyload_i151_i) & (u64)(255u));
-    v_143 = v_142 == 4u;
-    v_144 = v_8_sroa_3_0_copyload_i149_i == 0u;
-    v_0_sroa_0_1_i152_i = v_143 ? v_144 : 0u;
+    v_8_sroa_3_0_copyload_i149_i = get_u64(v_5_i_sroa_34_0_made_i_sroa_idx);
+    v_238 = (u64)((u64)(v_8_sroa_4_0_copyload_i379) & (u64)(255u));
+    v_239 = v_238 == 4u;
+    v_240 = v_8_sroa_3_0_copyload_i149_i == 0u;
+    v_0_sroa_0_1_i152_i = v_239 ? v_240 : 0u;
     v_cond_fr_i = v_0_sroa_0_1_i152_i;
     v_spec_select_i = v_cond_fr_i ? 0u : 2u;
-    { p_v_0_sroa_0_0_i120168_i = v_cond_fr_i; p_v_145 = v_spec_select_i; goto L_Fields_non_defaults_exit_thread_i; }
+    { p_v_0_sroa_0_0_i120168_i = v_cond_fr_i; p_v_241 = v_spec_select_i; goto L_Fields_non_defaults_exit_thread_i; }
 L_Fields_non_defaults_exit_thread_i:;
     v_0_sroa_0_0_i120168_i = p_v_0_sroa_0_0_i120168_i;
-    v_145 = p_v_145;
-    v_0_i9_i = (u8)((u32)(v_145) | (u32)(v_2_i5_i));
-    v_6_i_i120 = (u8)((u32)(v_0_i9_i) << (u32)((1u & 31)));
-    v_0_i_i = (u8)((u32)(v_6_i_i120) | (u32)(v_2_i_i));
-    if (v_0_sroa_0_0_shrunk_i_i_i) { goto L_bb6_i_i11_i_i; } else { goto L_bb7_i_i7_i_i; }
+    v_241 = p_v_241;
+    v_0_i9_i201 = (u8)((u32)(v_241) | (u32)(v_2_i5_i200));
+    v_6_i_i202 = (u8)((u32)(v_0_i9_i201) << (u32)((1u & 31)));
+    v_0_i_i203 = (u8)((u32)(v_6_i_i202) | (u32)(v_2_i_i198));
+    if (v_0_sroa_0_0_shrunk_i_i_i196) { goto L_bb6_i_i11_i_i; } else { goto L_bb7_i_i7_i_i; }
 L_bb6_i_i11_i_i:;
-    if (v_0_sroa_0_0_i141) { goto L_bb6_i133_i_i_i; } else { goto L_bb7_i7_i_i_i; }
+    if (v_0_sroa_0_0_i524) { goto L_bb6_i133_i_i_i; } else { goto L_bb7_i7_i_i_i; }
 L_bb6_i133_i_i_i:;
     if (v_0_sroa_0_0_i120168_i) { p_v_0_sroa_0_0_i_i18_i_i = 0u; goto L_bb4_i_i162_i; } else { goto L_bb2_i_i542_i_i_i; }
 L_bb2_i_i542_i_i_i:;
-    v_146 = v_9 + 104;
-    v_0_1_i_i_i545_i_i_i = get_u64(v_146);
-    v_147 = v_9 + 120;
-    v_4_1_i_i_i548_i_i_i = get_u64(v_147);
+    v_4_1_i_i_i548_i_i_i = get_u64(v_5_i_sroa_34_0_made_i_sroa_idx);
     v_5_i84_i_i549_i_i_i = v_4_1_i_i_i548_i_i_i < 128u;
-    v_148 = (u64)((u64)(v_4_1_i_i_i548_i_i_i) + (u64)(2u));
-    v_0_sroa_0_0_i85_i_i550_i_i_i = v_5_i84_i_i549_i_i_i ? v_148 : 4294967296ull;
-    v_10_sroa_0_0_i79_i_i552_i_i_i = v_130 ? 0u : v_0_sroa_0_0_i85_i_i550_i_i_i;
-    v_0_i_i_i554_i_i_i = (u64)((u64)(v_0_1_i_i_i545_i_i_i) & (u64)(255u));
+    v_242 = (u64)((u64)(v_4_1_i_i_i548_i_i_i) + (u64)(2u));
+    v_0_sroa_0_0_i85_i_i550_i_i_i = v_5_i84_i_i549_i_i_i ? v_242 : 4294967296ull;
+    v_10_sroa_0_0_i79_i_i552_i_i_i = v_227 ? v_0_sroa_0_0_i85_i_i550_i_i_i : 0u;
+    v_0_i_i_i554_i_i_i = (u64)((u64)(v_0_1_i_i119_i) & (u64)(255u));
     v_3_i_i81_i_i555_i_i_i = v_0_i_i_i554_i_i_i < 128u;
     v_0_sroa_0_0_i_i82_i_i556_i_v_i_i = v_3_i_i81_i_i555_i_i_i ? 2u : 3u;
     v_0_sroa_0_0_i_i82_i_i556_i_i_i = (u64)((u64)(v_0_sroa_0_0_i_i82_i_i556_i_v_i_i) + (u64)(v_0_i_i_i554_i_i_i));
-    v_149 = (u64)((u64)(v_0_sroa_0_0_i_i82_i_i556_i_i_i) + (u64)(v_10_sroa_0_0_i79_i_i552_i_i_i));
-    v_10_i_i567_i_i_i = v_149 < 126u;
-    v_150 = (u64)((u64)(v_149) + (u64)(4u));
-    if (v_10_i_i567_i_i_i) { p_v_0_sroa_0_0_i_i_i_i = v_150; goto L_EncodeValue_quick_value_len_exit_i_i; } else { goto L_Encode_encoded_len_exit_i_i; }
+    v_243 = (u64)((u64)(v_0_sroa_0_0_i_i82_i_i556_i_i_i) + (u64)(v_10_sroa_0_0_i79_i_i552_i_i_i));
+    v_10_i_i567_i_i_i = v_243 < 126u;
+    v_244 = (u64)((u64)(v_243) + (u64)(4u));
+    if (v_10_i_i567_i_i_i) { p_v_0_sroa_0_0_i_i_i_i = v_244; goto L_EncodeValue_quick_value_len_exit_i_i; } else { goto L_Encode_encoded_len_exit_i_i; }
 L_bb7_i7_i_i_i:;
     if (v_0_sroa_0_0_i120168_i) { p_v_0_sroa_0_0_i705_i_i_i = 0u; goto L_bb5_i_i46_i_i_i; } else { goto L_bb2_i_i676_i_i_i; }
 L_bb2_i_i676_i_i_i:;
-    v_151 = v_9 + 104;
-    v_0_1_i_i_i679_i_i_i = get_u64(v_151);
-    v_152 = v_9 + 120;
-    v_4_1_i_i_i682_i_i_i = get_u64(v_152);
+    v_4_1_i_i_i682_i_i_i = get_u64(v_5_i_sroa_34_0_made_i_sroa_idx);
     v_5_i84_i_i683_i_i_i = v_4_1_i_i_i682_i_i_i < 128u;
-    v_153 = (u64)((u64)(v_4_1_i_i_i682_i_i_i) + (u64)(2u));
-    v_0_sroa_0_0_i85_i_i684_i_i_i = v_5_i84_i_i683_i_i_i ? v_153 : 4294967296ull;
-    v_10_sroa_0_0_i79_i_i686_i_i_i = v_130 ? 0u : v_0_sroa_0_0_i85_i_i684_i_i_i;
-    v_0_i_i_i688_i_i_i = (u64)((u64)(v_0_1_i_i_i679_i_i_i) & (u64)(255u));
+    v_245 = (u64)((u64)(v_4_1_i_i_i682_i_i_i) + (u64)(2u));
+    v_0_sroa_0_0_i85_i_i684_i_i_i = v_5_i84_i_i683_i_i_i ? v_245 : 4294967296ull;
+    v_10_sroa_0_0_i79_i_i686_i_i_i = v_227 ? v_0_sroa_0_0_i85_i_i684_i_i_i : 0u;
+    v_0_i_i_i688_i_i_i = (u64)((u64)(v_0_1_i_i119_i) & (u64)(255u));
     v_3_i_i81_i_i689_i_i_i = v_0_i_i_i688_i_i_i < 128u;
     v_0_sroa_0_0_i_i82_i_i690_i_v_i_i = v_3_i_i81_i_i689_i_i_i ? 2u : 3u;
     v_0_sroa_0_0_i_i82_i_i690_i_i_i = (u64)((u64)(v_0_sroa_0_0_i_i82_i_i690_i_v_i_i) + (u64)(v_0_i_i_i688_i_i_i));
-    v_154 = (u64)((u64)(v_0_sroa_0_0_i_i82_i_i690_i_i_i) + (u64)(v_10_sroa_0_0_i79_i_i686_i_i_i));
-    v_3_i22_i_i691_i_i_i = v_154 < 128u;
-    if (v_3_i22_i_i691_i_i_i) { p_v_sink_i_i = 2u; goto L_AnyRef_quick_len_exit_i703_i_i_i; } else { goto L_bb4_i23_i_i692_i_i_i; }
+    v_246 = (u64)((u64)(v_0_sroa_0_0_i_i82_i_i690_i_i_i) + (u64)(v_10_sroa_0_0_i79_i_i686_i_i_i));
+    v_3_i22_i_i691_i_i_i = v_246 < 128u;
+    if (v_3_i22_i_i691_i_i_i) { p_v_sink_i_i212 = 2u; goto L_AnyRef_quick_len_exit_i703_i_i_i; } else { goto L_bb4_i23_i_i692_i_i_i; }
 L_bb4_i23_i_i692_i_i_i:;
-    v_4_i24_i_i693_i_i_i = v_154 < 256u;
-    if (v_4_i24_i_i693_i_i_i) { p_v_sink_i_i = 3u; goto L_AnyRef_quick_len_exit_i703_i_i_i; } else { goto L_bb6_i25_i_i694_i_i_i; }
+    v_4_i24_i_i693_i_i_i = v_246 < 256u;
+    if (v_4_i24_i_i693_i_i_i) { p_v_sink_i_i212 = 3u; goto L_AnyRef_quick_len_exit_i703_i_i_i; } else { goto L_bb6_i25_i_i694_i_i_i; }
 L_bb6_i25_i_i694_i_i_i:;
-    v_5_i26_i_i695_i_i_i = v_154 < 65536u;
-    if (v_5_i26_i_i695_i_i_i) { p_v_sink_i_i = 4u; goto L_AnyRef_quick_len_exit_i703_i_i_i; } else { goto L_bb8_i27_i_i696_i_i_i; }
+    v_5_i26_i_i695_i_i_i = v_246 < 65536u;
+    if (v_5_i26_i_i695_i_i_i) { p_v_sink_i_i212 = 4u; goto L_AnyRef_quick_len_exit_i703_i_i_i; } else { goto L_bb8_i27_i_i696_i_i_i; }
 L_bb8_i27_i_i696_i_i_i:;
-    v_6_i28_i_i697_i_i_i = v_154 < 16777216u;
+    v_6_i28_i_i697_i_i_i = v_246 < 16777216u;
     v_i_i = v_6_i28_i_i697_i_i_i ? 5u : 6u;
-    { p_v_sink_i_i = v_i_i; goto L_AnyRef_quick_len_exit_i703_i_i_i; }
+    { p_v_sink_i_i212 = v_i_i; goto L_AnyRef_quick_len_exit_i703_i_i_i; }
 L_AnyRef_quick_len_exit_i703_i_i_i:;
-    v_sink_i_i = p_v_sink_i_i;
-    v_155 = (u64)((u64)(v_sink_i_i) + (u64)(v_154));
-    v_10_i_i701_i_i_i = v_155 < 128u;
-    v_156 = (u64)((u64)(v_155) + (u64)(2u));
-    v_spec_select20_i_i702_i_i_i = v_10_i_i701_i_i_i ? v_156 : 4294967296ull;
+    v_sink_i_i212 = p_v_sink_i_i212;
+    v_247 = (u64)((u64)(v_sink_i_i212) + (u64)(v_246));
+    v_10_i_i701_i_i_i = v_247 < 128u;
+    v_248 = (u64)((u64)(v_247) + (u64)(2u));
+    v_spec_select20_i_i702_i_i_i = v_10_i_i701_i_i_i ? v_248 : 4294967296ull;
     { p_v_0_sroa_0_0_i705_i_i_i = v_spec_select20_i_i702_i_i_i; goto L_bb5_i_i46_i_i_i; }
 L_bb5_i_i46_i_i_i:;
     v_0_sroa_0_0_i705_i_i_i = p_v_0_sroa_0_0_i705_i_i_i;
-    v_157 = v_9 + 48;
-    v_0_1_i97_i_i49_i_i_i = get_u64(v_157);
-    if (v_96) { p_v_10_sroa_0_0_i_i_i76_i_i_i = 0u; goto L_EncodeValue_quick_value_len_exit_i_i75_i_i_i; } else { goto L_bb10_i51_i_i51_i_i_i; }
+    v_249 = v_152 == (P)0;
+    if (v_249) { p_v_10_sroa_0_0_i_i_i76_i_i_i = 0u; goto L_EncodeValue_quick_value_len_exit_i_i75_i_i_i; } else { goto L_bb10_i51_i_i51_i_i_i; }
 L_bb10_i51_i_i51_i_i_i:;
-    v_158 = v_9 + 64;
-    v_0_1_i95_i_i53_i_i_i = get_u64(v_158);
-    v_159 = v_9 + 72;
-    v_160 = get_P(v_159);
-    v_161 = v_160 == (P)0;
-    v_162 = v_9 + 80;
-    v_4_1_i89_i_i56_i_i_i = get_u64(v_162);
+    v_0_1_i95_i_i53_i_i_i = get_u64(v_5_i_sroa_23_0_made_i_sroa_idx);
+    v_250 = v_151 == (P)0;
+    v_4_1_i89_i_i56_i_i_i = get_u64(v_5_i_sroa_26_0_made_i_sroa_idx);
     v_5_i90_i_i57_i_i_i = v_4_1_i89_i_i56_i_i_i < 128u;
-    v_163 = (u64)((u64)(v_4_1_i89_i_i56_i_i_i) + (u64)(2u));
-    v_0_sroa_0_0_i91_i_i58_i_i_i = v_5_i90_i_i57_i_i_i ? v_163 : 4294967296ull;
-    v_10_sroa_0_0_i59_i_i60_i_i_i = v_161 ? 0u : v_0_sroa_0_0_i91_i_i58_i_i_i;
+    v_251 = (u64)((u64)(v_4_1_i89_i_i56_i_i_i) + (u64)(2u));
+    v_0_sroa_0_0_i91_i_i58_i_i_i = v_5_i90_i_i57_i_i_i ? v_251 : 4294967296ull;
+    v_10_sroa_0_0_i59_i_i60_i_i_i = v_250 ? 0u : v_0_sroa_0_0_i91_i_i58_i_i_i;
     v_0_i102_i_i62_i_i_i = (u64)((u64)(v_0_1_i95_i_i53_i_i_i) & (u64)(255u));
     v_3_i_i61_i_i63_i_i_i = v_0_i102_i_i62_i_i_i < 128u;
     v_0_sroa_0_0_i_i62_i_i64_i_v_i_i = v_3_i_i61_i_i63_i_i_i ? 2u : 3u;
     v_0_sroa_0_0_i_i62_i_i64_i_i_i = (u64)((u64)(v_0_sroa_0_0_i_i62_i_i64_i_v_i_i) + (u64)(v_0_i102_i_i62_i_i_i));
-    v_164 = (u64)((u64)(v_0_sroa_0_0_i_i62_i_i64_i_i_i) + (u64)(v_10_sroa_0_0_i59_i_i60_i_i_i));
-    v_3_i_i_i_i65_i_i_i = v_164 < 128u;
+    v_252 = (u64)((u64)(v_0_sroa_0_0_i_i62_i_i64_i_i_i) + (u64)(v_10_sroa_0_0_i59_i_i60_i_i_i));
+    v_3_i_i_i_i65_i_i_i = v_252 < 128u;
     if (v_3_i_i_i_i65_i_i_i) { goto L_bb3_i_i_i_i100_i_i_i; } else { goto L_bb4_i_i_i_i66_i_i_i; }
 L_bb4_i_i_i_i66_i_i_i:;
-    v_4_i_i_i_i67_i_i_i = v_164 < 256u;
+    v_4_i_i_i_i67_i_i_i = v_252 < 256u;
     if (v_4_i_i_i_i67_i_i_i) { goto L_bb5_i_i_i_i99_i_i_i; } else { goto L_bb6_i_i_i_i68_i_i_i; }
 L_bb3_i_i_i_i100_i_i_i:;
-    v_165 = (u64)((u64)(v_164) + (u64)(2u));
-    { p_v_10_sroa_0_0_i_i_i76_i_i_i = v_165; goto L_EncodeValue_quick_value_len_exit_i_i75_i_i_i; }
+    v_253 = (u64)((u64)(v_252) + (u64)(2u));
+    { p_v_10_sroa_0_0_i_i_i76_i_i_i = v_253; goto L_EncodeValue_quick_value_len_exit_i_i75_i_i_i; }
 L_bb6_i_i_i_i68_i_i_i:;
-    v_5_i_i_i_i69_i_i_i = v_164 < 65536u;
+    v_5_i_i_i_i69_i_i_i = v_252 < 65536u;
     if (v_5_i_i_i_i69_i_i_i) { goto L_bb7_i_i_i_i98_i_i_i; } else { goto L_bb8_i_i_i_i70_i_i_i; }
 L_bb5_i_i_i_i99_i_i_i:;
-    v_166 = (u64)((u64)(v_164) + (u64)(3u));
-    { p_v_10_sroa_0_0_i_i_i76_i_i_i = v_166; goto L_EncodeValue_quick_value_len_exit_i_i75_i_i_i; }
+    v_254 = (u64)((u64)(v_252) + (u64)(3u));
+    { p_v_10_sroa_0_0_i_i_i76_i_i_i = v_254; goto L_EncodeValue_quick_value_len_exit_i_i75_i_i_i; }
 L_bb8_i_i_i_i70_i_i_i:;
-    v_6_i_i_i_i71_i_i_i = v_164 < 16777216u;
+    v_6_i_i_i_i71_i_i_i = v_252 < 16777216u;
     if (v_6_i_i_i_i71_i_i_i) { goto L_bb9_i_i_i_i97_i_i_i; } else { goto L_bb10_i_i_i_i72_i_i_i; }
 L_bb7_i_i_i_i98_i_i_i:;
-    v_167 = (u64)((u64)(v_164) + (u64)(4u));
-    { p_v_10_sroa_0_0_i_i_i76_i_i_i = v_167; goto L_EncodeValue_quick_value_len_exit_i_i75_i_i_i; }
+    v_255 = (u64)((u64)(v_252) + (u64)(4u));
+    { p_v_10_sroa_0_0_i_i_i76_i_i_i = v_255; goto L_EncodeValue_quick_value_len_exit_i_i75_i_i_i; }
 L_bb10_i_i_i_i72_i_i_i:;
-    v_168 = (u64)((u64)(v_164) + (u64)(6u));
-    { p_v_10_sroa_0_0_i_i_i76_i_i_i = v_168; goto L_EncodeValue_quick_value_len_exit_i_i75_i_i_i; }
+    v_256 = (u64)((u64)(v_252) + (u64)(6u));
+    { p_v_10_sroa_0_0_i_i_i76_i_i_i = v_256; goto L_EncodeValue_quick_value_len_exit_i_i75_i_i_i; }
 L_bb9_i_i_i_i97_i_i_i:;
-    v_169 = (u64)((u64)(v_164) + (u64)(5u));
-    { p_v_10_sroa_0_0_i_i_i76_i_i_i = v_169; goto L_EncodeValue_quick_value_len_exit_i_i75_i_i_i; }
+    v_257 = (u64)((u64)(v_252) + (u64)(5u));
+    { p_v_10_sroa_0_0_i_i_i76_i_i_i = v_257; goto L_EncodeValue_quick_value_len_exit_i_i75_i_i_i; }
 L_EncodeValue_quick_value_len_exit_i_i75_i_i_i:;
     v_10_sroa_0_0_i_i_i76_i_i_i = p_v_10_sroa_0_0_i_i_i76_i_i_i;
-    v_0_i104_i_i78_i_i_i = (u64)((u64)(v_0_1_i97_i_i49_i_i_i) & (u64)(255u));
+    v_0_i104_i_i78_i_i_i = (u64)((u64)(v_0_1_i_i522) & (u64)(255u));
     v_3_i2_i_i_i79_i_i_i = v_0_i104_i_i78_i_i_i < 128u;
     v_0_sroa_0_0_i3_i_i_i80_i_v_i_i = v_3_i2_i_i_i79_i_i_i ? 2u : 3u;
     v_0_sroa_0_0_i3_i_i_i80_i_i_i = (u64)((u64)(v_0_sroa_0_0_i3_i_i_i80_i_v_i_i) + (u64)(v_0_i104_i_i78_i_i_i));
-    v_170 = (u64)((u64)(v_0_sroa_0_0_i3_i_i_i80_i_i_i) + (u64)(v_10_sroa_0_0_i_i_i76_i_i_i));
-    v_3_i_i_i81_i_i_i = v_170 < 128u;
+    v_258 = (u64)((u64)(v_0_sroa_0_0_i3_i_i_i80_i_i_i) + (u64)(v_10_sroa_0_0_i_i_i76_i_i_i));
+    v_3_i_i_i81_i_i_i = v_258 < 128u;
     if (v_3_i_i_i81_i_i_i) { p_v_sink47_i_i = 2u; goto L_AnyRef_quick_len_exit_i35_i_i_i; } else { goto L_bb4_i_i_i82_i_i_i; }
 L_bb4_i_i_i82_i_i_i:;
-    v_4_i_i_i83_i_i_i = v_170 < 256u;
+    v_4_i_i_i83_i_i_i = v_258 < 256u;
     if (v_4_i_i_i83_i_i_i) { p_v_sink47_i_i = 3u; goto L_AnyRef_quick_len_exit_i35_i_i_i; } else { goto L_bb6_i_i_i84_i_i_i; }
 L_bb6_i_i_i84_i_i_i:;
-    v_5_i_i_i85_i_i_i = v_170 < 65536u;
+    v_5_i_i_i85_i_i_i = v_258 < 65536u;
     if (v_5_i_i_i85_i_i_i) { p_v_sink47_i_i = 4u; goto L_AnyRef_quick_len_exit_i35_i_i_i; } else { goto L_bb8_i_i_i86_i_i_i; }
 L_bb8_i_i_i86_i_i_i:;
-    v_6_i_i_i87_i_i_i = v_170 < 16777216u;
-    v_52_i_i = v_6_i_i_i87_i_i_i ? 5u : 6u;
-    { p_v_sink47_i_i = v_52_i_i; goto L_AnyRef_quick_len_exit_i35_i_i_i; }
+    v_6_i_i_i87_i_i_i = v_258 < 16777216u;
+    v_52_i_i__2 = v_6_i_i_i87_i_i_i ? 5u : 6u;
+    { p_v_sink47_i_i = v_52_i_i__2; goto L_AnyRef_quick_len_exit_i35_i_i_i; }
 L_AnyRef_quick_len_exit_i35_i_i_i:;
     v_sink47_i_i = p_v_sink47_i_i;
-    v_171 = (u64)((u64)(v_sink47_i_i) + (u64)(v_170));
-    v_31_i_i91_i_i_i = v_171 < 128u;
-    v_172 = (u64)((u64)(v_171) + (u64)(2u));
-    v_spec_select19_i_i92_i_i_i = v_31_i_i91_i_i_i ? v_172 : 4294967296ull;
-    v_173 = (u64)((u64)(v_spec_select19_i_i92_i_i_i) + (u64)(v_0_sroa_0_0_i705_i_i_i));
-    { p_v_0_sroa_0_0_i_i_i_i = v_173; goto L_EncodeValue_quick_value_len_exit_i_i; }
+    v_259 = (u64)((u64)(v_sink47_i_i) + (u64)(v_258));
+    v_31_i_i91_i_i_i = v_259 < 128u;
+    v_260 = (u64)((u64)(v_259) + (u64)(2u));
+    v_spec_select19_i_i92_i_i_i = v_31_i_i91_i_i_i ? v_260 : 4294967296ull;
+    v_261 = (u64)((u64)(v_spec_select19_i_i92_i_i_i) + (u64)(v_0_sroa_0_0_i705_i_i_i));
+    { p_v_0_sroa_0_0_i_i_i_i = v_261; goto L_EncodeValue_quick_value_len_exit_i_i; }
 L_bb7_i_i7_i_i:;
-    if (v_0_sroa_0_0_i141) { goto L_bb6_i266_i_i_i; } else { goto L_bb7_i140_i_i_i; }
+    if (v_0_sroa_0_0_i524) { goto L_bb6_i266_i_i_i; } else { goto L_bb7_i140_i_i_i; }
 L_bb6_i266_i_i_i:;
     if (v_0_sroa_0_0_i120168_i) { p_v_0_sroa_0_0_i170_i_i_i = 0u; goto L_bb6_i_i_i_i_i; } else { goto L_bb2_i_i275_i_i_i; }
 L_bb2_i_i275_i_i_i:;
-    v_174 = v_9 + 104;
-    v_0_1_i_i_i278_i_i_i = get_u64(v_174);
-    v_175 = v_9 + 120;
-    v_4_1_i_i_i281_i_i_i = get_u64(v_175);
+    v_4_1_i_i_i281_i_i_i = get_u64(v_5_i_sroa_34_0_made_i_sroa_idx);
     v_5_i84_i_i282_i_i_i = v_4_1_i_i_i281_i_i_i < 128u;
-    v_176 = (u64)((u64)(v_4_1_i_i_i281_i_i_i) + (u64)(2u));
-    v_0_sroa_0_0_i85_i_i283_i_i_i = v_5_i84_i_i282_i_i_i ? v_176 : 4294967296ull;
-    v_10_sroa_0_0_i79_i_i285_i_i_i = v_130 ? 0u : v_0_sroa_0_0_i85_i_i283_i_i_i;
-    v_0_i_i_i287_i_i_i = (u64)((u64)(v_0_1_i_i_i278_i_i_i) & (u64)(255u));
+    v_262 = (u64)((u64)(v_4_1_i_i_i281_i_i_i) + (u64)(2u));
+    v_0_sroa_0_0_i85_i_i283_i_i_i = v_5_i84_i_i282_i_i_i ? v_262 : 4294967296ull;
+    v_10_sroa_0_0_i79_i_i285_i_i_i = v_227 ? v_0_sroa_0_0_i85_i_i283_i_i_i : 0u;
+    v_0_i_i_i287_i_i_i = (u64)((u64)(v_0_1_i_i119_i) & (u64)(255u));
     v_3_i_i81_i_i288_i_i_i = v_0_i_i_i287_i_i_i < 128u;
     v_0_sroa_0_0_i_i82_i_i289_i_v_i_i = v_3_i_i81_i_i288_i_i_i ? 2u : 3u;
     v_0_sroa_0_0_i_i82_i_i289_i_i_i = (u64)((u64)(v_0_sroa_0_0_i_i82_i_i289_i_v_i_i) + (u64)(v_0_i_i_i287_i_i_i));
-    v_177 = (u64)((u64)(v_0_sroa_0_0_i_i82_i_i289_i_i_i) + (u64)(v_10_sroa_0_0_i79_i_i285_i_i_i));
-    v_3_i22_i_i290_i_i_i = v_177 < 128u;
+    v_263 = (u64)((u64)(v_0_sroa_0_0_i_i82_i_i289_i_i_i) + (u64)(v_10_sroa_0_0_i79_i_i285_i_i_i));
+    v_3_i22_i_i290_i_i_i = v_263 < 128u;
     if (v_3_i22_i_i290_i_i_i) { p_v_sink48_i_i = 2u; goto L_AnyRef_quick_len_exit_i302_i_i_i; } else { goto L_bb4_i23_i_i291_i_i_i; }
 L_bb4_i23_i_i291_i_i_i:;
-    v_4_i24_i_i292_i_i_i = v_177 < 256u;
+    v_4_i24_i_i292_i_i_i = v_263 < 256u;
     if (v_4_i24_i_i292_i_i_i) { p_v_sink48_i_i = 3u; goto L_AnyRef_quick_len_exit_i302_i_i_i; } else { goto L_bb6_i25_i_i293_i_i_i; }
 L_bb6_i25_i_i293_i_i_i:;
-    v_5_i26_i_i294_i_i_i = v_177 < 65536u;
+    v_5_i26_i_i294_i_i_i = v_263 < 65536u;
     if (v_5_i26_i_i294_i_i_i) { p_v_sink48_i_i = 4u; goto L_AnyRef_quick_len_exit_i302_i_i_i; } else { goto L_bb8_i27_i_i295_i_i_i; }
 L_bb8_i27_i_i295_i_i_i:;
-    v_6_i28_i_i296_i_i_i = v_177 < 16777216u;
+    v_6_i28_i_i296_i_i_i = v_263 < 16777216u;
     v_53_i_i = v_6_i28_i_i296_i_i_i ? 5u : 6u;
     { p_v_sink48_i_i = v_53_i_i; goto L_AnyRef_quick_len_exit_i302_i_i_i; }
 L_AnyRef_quick_len_exit_i302_i_i_i:;
     v_sink48_i_i = p_v_sink48_i_i;
-    v_178 = (u64)((u64)(v_sink48_i_i) + (u64)(v_177));
-    v_10_i_i300_i_i_i = v_178 < 128u;
-    v_179 = (u64)((u64)(v_178) + (u64)(2u));
-    v_spec_select20_i_i301_i_i_i = v_10_i_i300_i_i_i ? v_179 : 4294967296ull;
+    v_264 = (u64)((u64)(v_sink48_i_i) + (u64)(v_263));
+    v_10_i_i300_i_i_i = v_264 < 128u;
+    v_265 = (u64)((u64)(v_264) + (u64)(2u));
+    v_spec_select20_i_i301_i_i_i = v_10_i_i300_i_i_i ? v_265 : 4294967296ull;
     { p_v_0_sroa_0_0_i170_i_i_i = v_spec_select20_i_i301_i_i_i; goto L_bb6_i_i_i_i_i; }
 L_bb7_i140_i_i_i:;
     if (v_0_sroa_0_0_i120168_i) { p_v_0_sroa_0_0_i437_i_i_i = 0u; goto L_bb5_i_i179_i_i_i; } else { goto L_bb2_i_i408_i_i_i; }
 L_bb2_i_i408_i_i_i:;
-    v_180 = v_9 + 104;
-    v_0_1_i_i_i411_i_i_i = get_u64(v_180);
-    v_181 = v_9 + 120;
-    v_4_1_i_i_i414_i_i_i = get_u64(v_181);
+    v_4_1_i_i_i414_i_i_i = get_u64(v_5_i_sroa_34_0_made_i_sroa_idx);
     v_5_i84_i_i415_i_i_i = v_4_1_i_i_i414_i_i_i < 128u;
-    v_182 = (u64)((u64)(v_4_1_i_i_i414_i_i_i) + (u64)(2u));
-    v_0_sroa_0_0_i85_i_i416_i_i_i = v_5_i84_i_i415_i_i_i ? v_182 : 4294967296ull;
-    v_10_sroa_0_0_i79_i_i418_i_i_i = v_130 ? 0u : v_0_sroa_0_0_i85_i_i416_i_i_i;
-    v_0_i_i_i420_i_i_i = (u64)((u64)(v_0_1_i_i_i411_i_i_i) & (u64)(255u));
+    v_266 = (u64)((u64)(v_4_1_i_i_i414_i_i_i) + (u64)(2u));
+    v_0_sroa_0_0_i85_i_i416_i_i_i = v_5_i84_i_i415_i_i_i ? v_266 : 4294967296ull;
+    v_10_sroa_0_0_i79_i_i418_i_i_i = v_227 ? v_0_sroa_0_0_i85_i_i416_i_i_i : 0u;
+    v_0_i_i_i420_i_i_i = (u64)((u64)(v_0_1_i_i119_i) & (u64)(255u));
     v_3_i_i81_i_i421_i_i_i = v_0_i_i_i420_i_i_i < 128u;
     v_0_sroa_0_0_i_i82_i_i422_i_v_i_i = v_3_i_i81_i_i421_i_i_i ? 2u : 3u;
     v_0_sroa_0_0_i_i82_i_i422_i_i_i = (u64)((u64)(v_0_sroa_0_0_i_i82_i_i422_i_v_i_i) + (u64)(v_0_i_i_i420_i_i_i));
-    v_183 = (u64)((u64)(v_0_sroa_0_0_i_i82_i_i422_i_i_i) + (u64)(v_10_sroa_0_0_i79_i_i418_i_i_i));
-    v_3_i22_i_i423_i_i_i = v_183 < 128u;
+    v_267 = (u64)((u64)(v_0_sroa_0_0_i_i82_i_i422_i_i_i) + (u64)(v_10_sroa_0_0_i79_i_i418_i_i_i));
+    v_3_i22_i_i423_i_i_i = v_267 < 128u;
     if (v_3_i22_i_i423_i_i_i) { p_v_sink49_i_i = 2u; goto L_AnyRef_quick_len_exit_i435_i_i_i; } else { goto L_bb4_i23_i_i424_i_i_i; }
 L_bb4_i23_i_i424_i_i_i:;
-    v_4_i24_i_i425_i_i_i = v_183 < 256u;
+    v_4_i24_i_i425_i_i_i = v_267 < 256u;
     if (v_4_i24_i_i425_i_i_i) { p_v_sink49_i_i = 3u; goto L_AnyRef_quick_len_exit_i435_i_i_i; } else { goto L_bb6_i25_i_i426_i_i_i; }
 L_bb6_i25_i_i426_i_i_i:;
-    v_5_i26_i_i427_i_i_i = v_183 < 65536u;
+    v_5_i26_i_i427_i_i_i = v_267 < 65536u;
     if (v_5_i26_i_i427_i_i_i) { p_v_sink49_i_i = 4u; goto L_AnyRef_quick_len_exit_i435_i_i_i; } else { goto L_bb8_i27_i_i428_i_i_i; }
 L_bb8_i27_i_i428_i_i_i:;
-    v_6_i28_i_i429_i_i_i = v_183 < 16777216u;
-    v_54_i_i = v_6_i28_i_i429_i_i_i ? 5u : 6u;
-    { p_v_sink49_i_i = v_54_i_i; goto L_AnyRef_quick_len_exit_i435_i_i_i; }
+    v_6_i28_i_i429_i_i_i = v_267 < 16777216u;
+    v_54_i_i__2 = v_6_i28_i_i429_i_i_i ? 5u : 6u;
+    { p_v_sink49_i_i = v_54_i_i__2; goto L_AnyRef_quick_len_exit_i435_i_i_i; }
 L_AnyRef_quick_len_exit_i435_i_i_i:;
     v_sink49_i_i = p_v_sink49_i_i;
-    v_184 = (u64)((u64)(v_sink49_i_i) + (u64)(v_183));
-    v_10_i_i433_i_i_i = v_184 < 128u;
-    v_185 = (u64)((u64)(v_184) + (u64)(2u));
-    v_spec_select20_i_i434_i_i_i = v_10_i_i433_i_i_i ? v_185 : 4294967296ull;
+    v_268 = (u64)((u64)(v_sink49_i_i) + (u64)(v_267));
+    v_10_i_i433_i_i_i = v_268 < 128u;
+    v_269 = (u64)((u64)(v_268) + (u64)(2u));
+    v_spec_select20_i_i434_i_i_i = v_10_i_i433_i_i_i ? v_269 : 4294967296ull;
     { p_v_0_sroa_0_0_i437_i_i_i = v_spec_select20_i_i434_i_i_i; goto L_bb5_i_i179_i_i_i; }
 L_bb5_i_i179_i_i_i:;
     v_0_sroa_0_0_i437_i_i_i = p_v_0_sroa_0_0_i437_i_i_i;
-    v_186 = v_9 + 48;
-    v_0_1_i97_i_i182_i_i_i = get_u64(v_186);
-    if (v_96) { p_v_10_sroa_0_0_i_i_i209_i_i_i = 0u; goto L_EncodeValue_quick_value_len_exit_i_i208_i_i_i; } else { goto L_bb10_i51_i_i184_i_i_i; }
+    v_270 = v_152 == (P)0;
+    if (v_270) { p_v_10_sroa_0_0_i_i_i209_i_i_i = 0u; goto L_EncodeValue_quick_value_len_exit_i_i208_i_i_i; } else { goto L_bb10_i51_i_i184_i_i_i; }
 L_bb10_i51_i_i184_i_i_i:;
-    v_187 = v_9 + 64;
-    v_0_1_i95_i_i186_i_i_i = get_u64(v_187);
-    v_188 = v_9 + 72;
-    v_189 = get_P(v_188);
-    v_190 = v_189 == (P)0;
-    v_191 = v_9 + 80;
-    v_4_1_i89_i_i189_i_i_i = get_u64(v_191);
+    v_0_1_i95_i_i186_i_i_i = get_u64(v_5_i_sroa_23_0_made_i_sroa_idx);
+    v_271 = v_151 == (P)0;
+    v_4_1_i89_i_i189_i_i_i = get_u64(v_5_i_sroa_26_0_made_i_sroa_idx);
     v_5_i90_i_i190_i_i_i = v_4_1_i89_i_i189_i_i_i < 128u;
-    v_192 = (u64)((u64)(v_4_1_i89_i_i189_i_i_i) + (u64)(2u));
-    v_0_sroa_0_0_i91_i_i191_i_i_i = v_5_i90_i_i190_i_i_i ? v_192 : 4294967296ull;
-    v_10_sroa_0_0_i59_i_i193_i_i_i = v_190 ? 0u : v_0_sroa_0_0_i91_i_i191_i_i_i;
+    v_272 = (u64)((u64)(v_4_1_i89_i_i189_i_i_i) + (u64)(2u));
+    v_0_sroa_0_0_i91_i_i191_i_i_i = v_5_i90_i_i190_i_i_i ? v_272 : 4294967296ull;
+    v_10_sroa_0_0_i59_i_i193_i_i_i = v_271 ? 0u : v_0_sroa_0_0_i91_i_i191_i_i_i;
     v_0_i102_i_i195_i_i_i = (u64)((u64)(v_0_1_i95_i_i186_i_i_i) & (u64)(255u));
     v_3_i_i61_i_i196_i_i_i = v_0_i102_i_i195_i_i_i < 128u;
     v_0_sroa_0_0_i_i62_i_i197_i_v_i_i = v_3_i_i61_i_i196_i_i_i ? 2u : 3u;
     v_0_sroa_0_0_i_i62_i_i197_i_i_i = (u64)((u64)(v_0_sroa_0_0_i_i62_i_i197_i_v_i_i) + (u64)(v_0_i102_i_i195_i_i_i));
-    v_193 = (u64)((u64)(v_0_sroa_0_0_i_i62_i_i197_i_i_i) + (u64)(v_10_sroa_0_0_i59_i_i193_i_i_i));
-    v_3_i_i_i_i198_i_i_i = v_193 < 128u;
+    v_273 = (u64)((u64)(v_0_sroa_0_0_i_i62_i_i197_i_i_i) + (u64)(v_10_sroa_0_0_i59_i_i193_i_i_i));
+    v_3_i_i_i_i198_i_i_i = v_273 < 128u;
     if (v_3_i_i_i_i198_i_i_i) { goto L_bb3_i_i_i_i233_i_i_i; } else { goto L_bb4_i_i_i_i199_i_i_i; }
 L_bb4_i_i_i_i199_i_i_i:;
-    v_4_i_i_i_i200_i_i_i = v_193 < 256u;
+    v_4_i_i_i_i200_i_i_i = v_273 < 256u;
     if (v_4_i_i_i_i200_i_i_i) { goto L_bb5_i_i_i_i232_i_i_i; } else { goto L_bb6_i_i_i_i201_i_i_i; }
 L_bb3_i_i_i_i233_i_i_i:;
-    v_194 = (u64)((u64)(v_193) + (u64)(2u));
-    { p_v_10_sroa_0_0_i_i_i209_i_i_i = v_194; goto L_EncodeValue_quick_value_len_exit_i_i208_i_i_i; }
+    v_274 = (u64)((u64)(v_273) + (u64)(2u));
+    { p_v_10_sroa_0_0_i_i_i209_i_i_i = v_274; goto L_EncodeValue_quick_value_len_exit_i_i208_i_i_i; }
 L_bb6_i_i_i_i201_i_i_i:;
-    v_5_i_i_i_i202_i_i_i = v_193 < 65536u;
+    v_5_i_i_i_i202_i_i_i = v_273 < 65536u;
     if (v_5_i_i_i_i202_i_i_i) { goto L_bb7_i_i_i_i231_i_i_i; } else { goto L_bb8_i_i_i_i203_i_i_i; }
 L_bb5_i_i_i_i232_i_i_i:;
-    v_195 = (u64)((u64)(v_193) + (u64)(3u));
-    { p_v_10_sroa_0_0_i_i_i209_i_i_i = v_195; goto L_EncodeValue_quick_value_len_exit_i_i208_i_i_i; }
+    v_275 = (u64)((u64)(v_273) + (u64)(3u));
+    { p_v_10_sroa_0_0_i_i_i209_i_i_i = v_275; goto L_EncodeValue_quick_value_len_exit_i_i208_i_i_i; }
 L_bb8_i_i_i_i203_i_i_i:;
-    v_6_i_i_i_i204_i_i_i = v_193 < 16777216u;
+    v_6_i_i_i_i204_i_i_i = v_273 < 16777216u;
     if (v_6_i_i_i_i204_i_i_i) { goto L_bb9_i_i_i_i230_i_i_i; } else { goto L_bb10_i_i_i_i205_i_i_i; }
 L_bb7_i_i_i_i231_i_i_i:;
-    v_196 = (u64)((u64)(v_193) + (u64)(4u));
-    { p_v_10_sroa_0_0_i_i_i209_i_i_i = v_196; goto L_EncodeValue_quick_value_len_exit_i_i208_i_i_i; }
+    v_276 = (u64)((u64)(v_273) + (u64)(4u));
+    { p_v_10_sroa_0_0_i_i_i209_i_i_i = v_276; goto L_EncodeValue_quick_value_len_exit_i_i208_i_i_i; }
 L_bb10_i_i_i_i205_i_i_i:;
-    v_197 = (u64)((u64)(v_193) + (u64)(6u));
-    { p_v_10_sroa_0_0_i_i_i209_i_i_i = v_197; goto L_EncodeValue_quick_value_len_exit_i_i208_i_i_i; }
+    v_277 = (u64)((u64)(v_273) + (u64)(6u));
+    { p_v_10_sroa_0_0_i_i_i209_i_i_i = v_277; goto L_EncodeValue_quick_value_len_exit_i_i208_i_i_i; }
 L_bb9_i_i_i_i230_i_i_i:;
-    v_198 = (u64)((u64)(v_193) + (u64)(5u));
-    { p_v_10_sroa_0_0_i_i_i209_i_i_i = v_198; goto L_EncodeValue_quick_value_len_exit_i_i208_i_i_i; }
+    v_278 = (u64)((u64)(v_273) + (u64)(5u));
+    { p_v_10_sroa_0_0_i_i_i209_i_i_i = v_278; goto L_EncodeValue_quick_value_len_exit_i_i208_i_i_i; }
 L_EncodeValue_quick_value_len_exit_i_i208_i_i_i:;
     v_10_sroa_0_0_i_i_i209_i_i_i = p_v_10_sroa_0_0_i_i_i209_i_i_i;
-    v_0_i104_i_i211_i_i_i = (u64)((u64)(v_0_1_i97_i_i182_i_i_i) & (u64)(255u));
+    v_0_i104_i_i211_i_i_i = (u64)((u64)(v_0_1_i_i522) & (u64)(255u));
     v_3_i2_i_i_i212_i_i_i = v_0_i104_i_i211_i_i_i < 128u;
     v_0_sroa_0_0_i3_i_i_i213_i_v_i_i = v_3_i2_i_i_i212_i_i_i ? 2u : 3u;
     v_0_sroa_0_0_i3_i_i_i213_i_i_i = (u64)((u64)(v_0_sroa_0_0_i3_i_i_i213_i_v_i_i) + (u64)(v_0_i104_i_i211_i_i_i));
-    v_199 = (u64)((u64)(v_0_sroa_0_0_i3_i_i_i213_i_i_i) + (u64)(v_10_sroa_0_0_i_i_i209_i_i_i));
-    v_3_i_i_i214_i_i_i = v_199 < 128u;
+    v_279 = (u64)((u64)(v_0_sroa_0_0_i3_i_i_i213_i_i_i) + (u64)(v_10_sroa_0_0_i_i_i209_i_i_i));
+    v_3_i_i_i214_i_i_i = v_279 < 128u;
     if (v_3_i_i_i214_i_i_i) { p_v_sink50_i_i = 2u; goto L_AnyRef_quick_len_exit_i168_i_i_i; } else { goto L_bb4_i_i_i215_i_i_i; }
 L_bb4_i_i_i215_i_i_i:;
-    v_4_i_i_i216_i_i_i = v_199 < 256u;
+    v_4_i_i_i216_i_i_i = v_279 < 256u;
     if (v_4_i_i_i216_i_i_i) { p_v_sink50_i_i = 3u; goto L_AnyRef_quick_len_exit_i168_i_i_i; } else { goto L_bb6_i_i_i217_i_i_i; }
 L_bb6_i_i_i217_i_i_i:;
-    v_5_i_i_i218_i_i_i = v_199 < 65536u;
+    v_5_i_i_i218_i_i_i = v_279 < 65536u;
     if (v_5_i_i_i218_i_i_i) { p_v_sink50_i_i = 4u; goto L_AnyRef_quick_len_exit_i168_i_i_i; } else { goto L_bb8_i_i_i219_i_i_i; }
 L_bb8_i_i_i219_i_i_i:;
-    v_6_i_i_i220_i_i_i = v_199 < 16777216u;
-    v_55_i_i = v_6_i_i_i220_i_i_i ? 5u : 6u;
-    { p_v_sink50_i_i = v_55_i_i; goto L_AnyRef_quick_len_exit_i168_i_i_i; }
+    v_6_i_i_i220_i_i_i = v_279 < 16777216u;
+    v_55_i_i__2 = v_6_i_i_i220_i_i_i ? 5u : 6u;
+    { p_v_sink50_i_i = v_55_i_i__2; goto L_AnyRef_quick_len_exit_i168_i_i_i; }
 L_AnyRef_quick_len_exit_i168_i_i_i:;
     v_sink50_i_i = p_v_sink50_i_i;
-    v_200 = (u64)((u64)(v_sink50_i_i) + (u64)(v_199));
-    v_31_i_i224_i_i_i = v_200 < 128u;
-    v_201 = (u64)((u64)(v_200) + (u64)(2u));
-    v_spec_select19_i_i225_i_i_i = v_31_i_i224_i_i_i ? v_201 : 4294967296ull;
-    v_202 = (u64)((u64)(v_spec_select19_i_i225_i_i_i) + (u64)(v_0_sroa_0_0_i437_i_i_i));
-    { p_v_0_sroa_0_0_i170_i_i_i = v_202; goto L_bb6_i_i_i_i_i; }
+    v_280 = (u64)((u64)(v_sink50_i_i) + (u64)(v_279));
+    v_31_i_i224_i_i_i = v_280 < 128u;
+    v_281 = (u64)((u64)(v_280) + (u64)(2u));
+    v_spec_select19_i_i225_i_i_i = v_31_i_i224_i_i_i ? v_281 : 4294967296ull;
+    v_282 = (u64)((u64)(v_spec_select19_i_i225_i_i_i) + (u64)(v_0_sroa_0_0_i437_i_i_i));
+    { p_v_0_sroa_0_0_i170_i_i_i = v_282; goto L_bb6_i_i_i_i_i; }
 L_bb6_i_i_i_i_i:;
     v_0_sroa_0_0_i170_i_i_i = p_v_0_sroa_0_0_i170_i_i_i;
-    v_203 = v_9 + 8;
-    v_0_1_i93_i_i_i_i_i = get_u64(v_203);
-    v_204 = v_9 + 24;
-    v_4_1_i86_i_i_i_i_i = get_u64(v_204);
+    v_4_1_i86_i_i_i_i_i = get_u64(v_5_i_sroa_15_0_made_i_sroa_idx);
     v_5_i87_i_i_i_i_i = v_4_1_i86_i_i_i_i_i < 128u;
-    v_205 = (u64)((u64)(v_4_1_i86_i_i_i_i_i) + (u64)(2u));
-    v_0_sroa_0_0_i88_i_i_i_i_i = v_5_i87_i_i_i_i_i ? v_205 : 4294967296ull;
-    v_10_sroa_0_0_i69_i_i_i_i_i = v_76 ? 0u : v_0_sroa_0_0_i88_i_i_i_i_i;
-    v_0_i100_i_i_i_i_i = (u64)((u64)(v_0_1_i93_i_i_i_i_i) & (u64)(255u));
+    v_283 = (u64)((u64)(v_4_1_i86_i_i_i_i_i) + (u64)(2u));
+    v_0_sroa_0_0_i88_i_i_i_i_i = v_5_i87_i_i_i_i_i ? v_283 : 4294967296ull;
+    v_10_sroa_0_0_i69_i_i_i_i_i = v_182 ? v_0_sroa_0_0_i88_i_i_i_i_i : 0u;
+    v_0_i100_i_i_i_i_i = (u64)((u64)(v_0_1_i_i_i) & (u64)(255u));
     v_3_i_i70_i_i_i_i_i = v_0_i100_i_i_i_i_i < 128u;
     v_0_sroa_0_0_i_i71_i_i_i_v_i_i = v_3_i_i70_i_i_i_i_i ? 2u : 3u;
     v_0_sroa_0_0_i_i71_i_i_i_i_i = (u64)((u64)(v_0_sroa_0_0_i_i71_i_i_i_v_i_i) + (u64)(v_0_i100_i_i_i_i_i));
-    v_206 = (u64)((u64)(v_0_sroa_0_0_i_i71_i_i_i_i_i) + (u64)(v_10_sroa_0_0_i69_i_i_i_i_i));
-    v_3_i36_i_i_i_i_i = v_206 < 128u;
+    v_284 = (u64)((u64)(v_0_sroa_0_0_i_i71_i_i_i_i_i) + (u64)(v_10_sroa_0_0_i69_i_i_i_i_i));
+    v_3_i36_i_i_i_i_i = v_284 < 128u;
     if (v_3_i36_i_i_i_i_i) { p_v_sink51_i_i = 2u; goto L_AnyRef_quick_len_exit_i_i_i_i; } else { goto L_bb4_i37_i_i_i_i_i; }
 L_bb4_i37_i_i_i_i_i:;
-    v_4_i38_i_i_i_i_i = v_206 < 256u;
+    v_4_i38_i_i_i_i_i = v_284 < 256u;
     if (v_4_i38_i_i_i_i_i) { p_v_sink51_i_i = 3u; goto L_AnyRef_quick_len_exit_i_i_i_i; } else { goto L_bb6_i39_i_i_i_i_i; }
 L_bb6_i39_i_i_i_i_i:;
-    v_5_i40_i_i_i_i_i = v_206 < 65536u;
+    v_5_i40_i_i_i_i_i = v_284 < 65536u;
     if (v_5_i40_i_i_i_i_i) { p_v_sink51_i_i = 4u; goto L_AnyRef_quick_len_exit_i_i_i_i; } else { goto L_bb8_i41_i_i_i_i_i; }
 L_bb8_i41_i_i_i_i_i:;
-    v_6_i42_i_i_i_i_i = v_206 < 16777216u;
-    v_56_i_i = v_6_i42_i_i_i_i_i ? 5u : 6u;
-    { p_v_sink51_i_i = v_56_i_i; goto L_AnyRef_quick_len_exit_i_i_i_i; }
+    v_6_i42_i_i_i_i_i = v_284 < 16777216u;
+    v_56_i_i__2 = v_6_i42_i_i_i_i_i ? 5u : 6u;
+    { p_v_sink51_i_i = v_56_i_i__2; goto L_AnyRef_quick_len_exit_i_i_i_i; }
 L_AnyRef_quick_len_exit_i_i_i_i:;
     v_sink51_i_i = p_v_sink51_i_i;
-    v_207 = (u64)((u64)(v_sink51_i_i) + (u64)(v_206));
-    v_33_i_i_i_i_i = v_207 < 128u;
-    v_208 = (u64)((u64)(v_207) + (u64)(2u));
-    v_spec_select_i_i_i_i_i = v_33_i_i_i_i_i ? v_208 : 4294967296ull;
-    v_209 = (u64)((u64)(v_spec_select_i_i_i_i_i) + (u64)(v_0_sroa_0_0_i170_i_i_i));
-    { p_v_0_sroa_0_0_i_i_i_i = v_209; goto L_EncodeValue_quick_value_len_exit_i_i; }
+    v_285 = (u64)((u64)(v_sink51_i_i) + (u64)(v_284));
+    v_33_i_i_i_i_i = v_285 < 128u;
+    v_286 = (u64)((u64)(v_285) + (u64)(2u));
+    v_spec_select_i_i_i_i_i = v_33_i_i_i_i_i ? v_286 : 4294967296ull;
+    v_287 = (u64)((u64)(v_spec_select_i_i_i_i_i) + (u64)(v_0_sroa_0_0_i170_i_i_i));
+    { p_v_0_sroa_0_0_i_i_i_i = v_287; goto L_EncodeValue_quick_value_len_exit_i_i; }
 L_EncodeValue_quick_value_len_exit_i_i:;
     v_0_sroa_0_0_i_i_i_i = p_v_0_sroa_0_0_i_i_i_i;
     v_6_i_i_i = v_0_sroa_0_0_i_i_i_i < 128u;
     if (v_6_i_i_i) { p_v_0_sroa_0_0_i_i18_i_i = v_0_sroa_0_0_i_i_i_i; goto L_bb4_i_i162_i; } else { goto L_bb5_i3_i_i; }
 L_bb5_i3_i_i:;
-    v_7_i_i_i = v_0_sroa_0_0_i_i_i_i < 256u;
-    if (v_7_i_i_i) { goto L_bb6_i_i161_i; } else { goto L_bb7_i_i_i; }
+    v_7_i_i_i204 = v_0_sroa_0_0_i_i_i_i < 256u;
+    if (v_7_i_i_i204) { goto L_bb6_i_i161_i; } else { goto L_bb7_i_i_i205; }
 L_bb4_i_i162_i:;
     v_0_sroa_0_0_i_i18_i_i = p_v_0_sroa_0_0_i_i18_i_i;
-    v_210 = (u64)((u64)(v_0_sroa_0_0_i_i18_i_i) + (u64)(2u));
-    { p_v_0_sroa_31_0_in_i46_i_i = v_210; goto L_bb4_i_i; }
-L_bb7_i_i_i:;
+    v_288 = (u64)((u64)(v_0_sroa_0_0_i_i18_i_i) + (u64)(2u));
+    { p_v_0_sroa_31_0_in_i46_i_i = v_288; goto L_bb4_i_i208; }
+L_bb7_i_i_i205:;
     v_8_i_i_i = v_0_sroa_0_0_i_i_i_i < 65536u;
-    if (v_8_i_i_i) { goto L_bb8_i_i_i; } else { goto L_bb9_i_i_i; }
+    if (v_8_i_i_i) { goto L_bb8_i_i_i211; } else { goto L_bb9_i_i_i; }
 L_bb6_i_i161_i:;
-    v_211 = (u64)((u64)(v_0_sroa_0_0_i_i_i_i) + (u64)(3u));
-    { p_v_0_sroa_31_0_in_i46_i_i = v_211; goto L_bb4_i_i; }
+    v_289 = (u64)((u64)(v_0_sroa_0_0_i_i_i_i) + (u64)(3u));
+    { p_v_0_sroa_31_0_in_i46_i_i = v_289; goto L_bb4_i_i208; }
 L_bb9_i_i_i:;
     v_9_i_i_i = v_0_sroa_0_0_i_i_i_i < 16777216u;
-    if (v_9_i_i_i) { goto L_bb10_i_i_i; } else { goto L_bb3_i_i_i121; }
-L_bb8_i_i_i:;
-    v_212 = (u64)((u64)(v_0_sroa_0_0_i_i_i_i) + (u64)(4u));
-    { p_v_0_sroa_31_0_in_i46_i_i = v_212; goto L_bb4_i_i; }
+    if (v_9_i_i_i) { goto L_bb10_i_i_i; } else { goto L_bb3_i_i_i206; }
+L_bb8_i_i_i211:;
+    v_290 = (u64)((u64)(v_0_sroa_0_0_i_i_i_i) + (u64)(4u));
+    { p_v_0_sroa_31_0_in_i46_i_i = v_290; goto L_bb4_i_i208; }
 L_bb10_i_i_i:;
-    v_213 = (u64)((u64)(v_0_sroa_0_0_i_i_i_i) + (u64)(5u));
-    { p_v_0_sroa_31_0_in_i46_i_i = v_213; goto L_bb4_i_i; }
-L_bb3_i_i_i121:;
-    v_214 = (u64)((u64)(v_0_sroa_0_0_i_i_i_i) + (u64)(6u));
-    v_10_i_i_i = v_0_sroa_0_0_i_i_i_i < 4294967290ull;
-    if (v_10_i_i_i) { p_v_0_sroa_31_0_in_i46_i_i = v_214; goto L_bb4_i_i; } else { goto L_Encode_encoded_len_exit_i_i; }
+    v_291 = (u64)((u64)(v_0_sroa_0_0_i_i_i_i) + (u64)(5u));
+    { p_v_0_sroa_31_0_in_i46_i_i = v_291; goto L_bb4_i_i208; }
+L_bb3_i_i_i206:;
+    v_292 = (u64)((u64)(v_0_sroa_0_0_i_i_i_i) + (u64)(6u));
+    v_10_i_i_i207 = v_0_sroa_0_0_i_i_i_i < 4294967290ull;
+    if (v_10_i_i_i207) { p_v_0_sroa_31_0_in_i46_i_i = v_292; goto L_bb4_i_i208; } else { goto L_Encode_encoded_len_exit_i_i; }
 L_Encode_encoded_len_exit_i_i:;
-    v_215 = f_any_AnyRef(v_9, v_0_i_i);
-    v_sroa_5_0_extract_shift_i_i_i = (u64)((u64)(v_215) >> (u64)((32u & 63)));
-    v_trunc_i_i = (u1)((v_215) & 1);
-    if (v_trunc_i_i) { goto L_bb3_i158_i; } else { p_v_0_sroa_31_0_in_i46_i_i = v_sroa_5_0_extract_shift_i_i_i; goto L_bb4_i_i; }
-L_bb4_i_i:;
+    v_293 = f_any_AnyRef(v_made_i, v_0_i_i203);
+    v_sroa_5_0_extract_shift_i_i_i = (u64)((u64)(v_293) >> (u64)((32u & 63)));
+    v_trunc_i_i = (u1)((v_293) & 1);
+    if (v_trunc_i_i) { goto L_bb3_i158_i; } else { p_v_0_sroa_31_0_in_i46_i_i = v_sroa_5_0_extract_shift_i_i_i; goto L_bb4_i_i208; }
+L_bb4_i_i208:;
     v_0_sroa_31_0_in_i46_i_i = p_v_0_sroa_31_0_in_i46_i_i;
     v_4_i_i_i = v_0_sroa_31_0_in_i46_i_i > v_out_1;
-    if (v_4_i_i_i) { p_v_230 = 15u; goto L_any_AnyRef_exit_i_i; } else { goto L_bb5_i_i154_i; }
+    if (v_4_i_i_i) { p_v_308 = 15u; goto L_any_AnyRef_exit_i_i; } else { goto L_bb5_i_i154_i; }
 L_bb5_i_i154_i:;
     put_P(v_writer_i_i_i, v_out_0);
-    v_216 = v_writer_i_i_i + 8;
-    put_u64(v_216, v_0_sroa_31_0_in_i46_i_i);
-    v_217 = v_writer_i_i_i + 16;
-    put_u64(v_217, v_0_sroa_31_0_in_i46_i_i);
-    f_EncodeValue_prepend_value(v_9, v_0_i_i, v_writer_i_i_i);
-    v_15_1_i_i_i = get_u64(v_216);
-    v_14_i_i155_i = get_u64(v_217);
+    v_294 = v_writer_i_i_i + 8;
+    put_u64(v_294, v_0_sroa_31_0_in_i46_i_i);
+    v_295 = v_writer_i_i_i + 16;
+    put_u64(v_295, v_0_sroa_31_0_in_i46_i_i);
+    f_EncodeValue_prepend_value(v_made_i, v_0_i_i203, v_writer_i_i_i);
+    v_15_1_i_i_i = get_u64(v_294);
+    v_14_i_i155_i = get_u64(v_295);
     v_7_i5_i_i = (u64)((u64)(v_15_1_i_i_i) - (u64)(v_14_i_i155_i));
     v_16_i_i156_i = (u32)(v_7_i5_i_i);
     v_4_i_i_i_i = v_16_i_i156_i < 128u;
@@ -14067,12 +14688,12 @@ L_bb7_i_i_i_i_i:;
     TRAP();
     TRAP();
 L_copy_from_slice_pkcs1_c_exit_i_i:;
-    v_218 = (P)((u64)v_48_0_i_i_i_i + (u64)(v_14_i_i155_i));
-    v_219 = (P)((u64)v_218 + (u64)(-2));
+    v_296 = (P)((u64)v_48_0_i_i_i_i + (u64)(v_14_i_i155_i));
+    v_297 = (P)((u64)v_296 + (u64)(-2));
     v_7_i_i_sroa_0_sroa_4_0_insert_shift_i_i = (u16)((u32)(v_8_i_i_i_i) << (u32)((8u & 31)));
     v_7_i_i_sroa_0_sroa_0_0_insert_insert_i_i = (u16)((u32)(v_7_i_i_sroa_0_sroa_4_0_insert_shift_i_i) | (u32)(48u));
-    put_u16(v_219, v_7_i_i_sroa_0_sroa_0_0_insert_insert_i_i);
-    { goto L_229; }
+    put_u16(v_297, v_7_i_i_sroa_0_sroa_0_0_insert_insert_i_i);
+    { goto L_307; }
 L_bb4_i_i_i_i:;
     v_14_i_i_i_i = v_16_i_i156_i < 65536u;
     if (v_14_i_i_i_i) { goto L_bb5_i_i_i_i; } else { goto L_bb6_i_i_i_i; }
@@ -14091,14 +14712,14 @@ L_bb7_i19_i_i_i_i:;
     TRAP();
     TRAP();
 L_copy_from_slice_pkcs1_c_exit21_i_i:;
-    v_220 = (P)((u64)v_51_0_i_i_i_i + (u64)(v_14_i_i155_i));
-    v_221 = (P)((u64)v_220 + (u64)(-3));
-    put_u8(v_221, 48u);
-    v_12_i_i_sroa_4_0_sroa_idx_i_i = (P)((u64)v_220 + (u64)(-2));
+    v_298 = (P)((u64)v_51_0_i_i_i_i + (u64)(v_14_i_i155_i));
+    v_299 = (P)((u64)v_298 + (u64)(-3));
+    put_u8(v_299, 48u);
+    v_12_i_i_sroa_4_0_sroa_idx_i_i = (P)((u64)v_298 + (u64)(-2));
     put_u8(v_12_i_i_sroa_4_0_sroa_idx_i_i, 129u);
-    v_12_i_i_sroa_5_0_sroa_idx_i_i = (P)((u64)v_220 + (u64)(-1));
+    v_12_i_i_sroa_5_0_sroa_idx_i_i = (P)((u64)v_298 + (u64)(-1));
     put_u8(v_12_i_i_sroa_5_0_sroa_idx_i_i, v_13_i_i_i_i);
-    { goto L_229; }
+    { goto L_307; }
 L_bb6_i_i_i_i:;
     v_22_i_i_i_i = v_16_i_i156_i < 16777216u;
     if (v_22_i_i_i_i) { goto L_bb7_i_i_i_i; } else { goto L_bb8_i_i_i_i; }
@@ -14116,12 +14737,12 @@ L_bb7_i34_i_i_i_i:;
     TRAP();
     TRAP();
 L_copy_from_slice_pkcs1_c_exit25_i_i:;
-    v_222 = (P)((u64)v_54_0_i_i_i_i + (u64)(v_14_i_i155_i));
-    v_223 = (P)((u64)v_222 + (u64)(-4));
-    v_224 = (u32)((u32)(v_16_i_i156_i) | (u32)(813826048u));
-    v_17_i_i_sroa_0_sroa_0_0_insert_insert_i_i = TURNED(32, v_224);
-    put_u32(v_223, v_17_i_i_sroa_0_sroa_0_0_insert_insert_i_i);
-    { goto L_229; }
+    v_300 = (P)((u64)v_54_0_i_i_i_i + (u64)(v_14_i_i155_i));
+    v_301 = (P)((u64)v_300 + (u64)(-4));
+    v_302 = (u32)((u32)(v_16_i_i156_i) | (u32)(813826048u));
+    v_17_i_i_sroa_0_sroa_0_0_insert_insert_i_i = TURNED(32, v_302);
+    put_u32(v_301, v_17_i_i_sroa_0_sroa_0_0_insert_insert_i_i);
+    { goto L_307; }
 L_bb8_i_i_i_i:;
     v_371_i_i_i_i = (u64)((u64)(v_7_i5_i_i) >> (u64)((24u & 63)));
     v_36_i_i_i_i = (u8)(v_371_i_i_i_i);
@@ -14143,20 +14764,20 @@ L_bb7_i64_i_i_i_i:;
     TRAP();
     TRAP();
 L_copy_from_slice_pkcs1_c_exit29_i_i:;
-    v_225 = (P)((u64)v_60_0_i_i_i_i + (u64)(v_14_i_i155_i));
-    v_226 = (P)((u64)v_225 + (u64)(-6));
-    put_u8(v_226, 48u);
-    v_35_i_i_sroa_4_0_sroa_idx_i_i = (P)((u64)v_225 + (u64)(-5));
+    v_303 = (P)((u64)v_60_0_i_i_i_i + (u64)(v_14_i_i155_i));
+    v_304 = (P)((u64)v_303 + (u64)(-6));
+    put_u8(v_304, 48u);
+    v_35_i_i_sroa_4_0_sroa_idx_i_i = (P)((u64)v_303 + (u64)(-5));
     put_u8(v_35_i_i_sroa_4_0_sroa_idx_i_i, 132u);
-    v_35_i_i_sroa_5_0_sroa_idx_i_i = (P)((u64)v_225 + (u64)(-4));
+    v_35_i_i_sroa_5_0_sroa_idx_i_i = (P)((u64)v_303 + (u64)(-4));
     put_u8(v_35_i_i_sroa_5_0_sroa_idx_i_i, v_36_i_i_i_i);
-    v_35_i_i_sroa_6_0_sroa_idx_i_i = (P)((u64)v_225 + (u64)(-3));
+    v_35_i_i_sroa_6_0_sroa_idx_i_i = (P)((u64)v_303 + (u64)(-3));
     put_u8(v_35_i_i_sroa_6_0_sroa_idx_i_i, v_38_i_i_i_i);
-    v_35_i_i_sroa_7_0_sroa_idx_i_i = (P)((u64)v_225 + (u64)(-2));
+    v_35_i_i_sroa_7_0_sroa_idx_i_i = (P)((u64)v_303 + (u64)(-2));
     put_u8(v_35_i_i_sroa_7_0_sroa_idx_i_i, v_41_i_i_i_i);
-    v_35_i_i_sroa_8_0_sroa_idx_i_i = (P)((u64)v_225 + (u64)(-1));
+    v_35_i_i_sroa_8_0_sroa_idx_i_i = (P)((u64)v_303 + (u64)(-1));
     put_u8(v_35_i_i_sroa_8_0_sroa_idx_i_i, v_44_i_i_i_i);
-    { goto L_229; }
+    { goto L_307; }
 L_bb7_i_i_i_i:;
     v_274_i_i_i_i = (u64)((u64)(v_7_i5_i_i) >> (u64)((16u & 63)));
     v_26_i_i_i_i = (u8)(v_274_i_i_i_i);
@@ -14176,33 +14797,33 @@ L_bb7_i49_i_i_i_i:;
     TRAP();
     TRAP();
 L_copy_from_slice_pkcs1_c_exit33_i_i:;
-    v_227 = (P)((u64)v_57_0_i_i_i_i + (u64)(v_14_i_i155_i));
-    v_228 = (P)((u64)v_227 + (u64)(-5));
-    put_u8(v_228, 48u);
-    v_25_i_i_sroa_4_0_sroa_idx_i_i = (P)((u64)v_227 + (u64)(-4));
+    v_305 = (P)((u64)v_57_0_i_i_i_i + (u64)(v_14_i_i155_i));
+    v_306 = (P)((u64)v_305 + (u64)(-5));
+    put_u8(v_306, 48u);
+    v_25_i_i_sroa_4_0_sroa_idx_i_i = (P)((u64)v_305 + (u64)(-4));
     put_u8(v_25_i_i_sroa_4_0_sroa_idx_i_i, 131u);
-    v_25_i_i_sroa_5_0_sroa_idx_i_i = (P)((u64)v_227 + (u64)(-3));
+    v_25_i_i_sroa_5_0_sroa_idx_i_i = (P)((u64)v_305 + (u64)(-3));
     put_u8(v_25_i_i_sroa_5_0_sroa_idx_i_i, v_26_i_i_i_i);
-    v_25_i_i_sroa_6_0_sroa_idx_i_i = (P)((u64)v_227 + (u64)(-2));
+    v_25_i_i_sroa_6_0_sroa_idx_i_i = (P)((u64)v_305 + (u64)(-2));
     put_u8(v_25_i_i_sroa_6_0_sroa_idx_i_i, v_28_i_i_i_i);
-    v_25_i_i_sroa_7_0_sroa_idx_i_i = (P)((u64)v_227 + (u64)(-1));
+    v_25_i_i_sroa_7_0_sroa_idx_i_i = (P)((u64)v_305 + (u64)(-1));
     put_u8(v_25_i_i_sroa_7_0_sroa_idx_i_i, v_31_i_i_i_i);
-    { goto L_229; }
-L_229:;
-    { p_v_230 = 0u; goto L_any_AnyRef_exit_i_i; }
+    { goto L_307; }
+L_307:;
+    { p_v_308 = 0u; goto L_any_AnyRef_exit_i_i; }
 L_any_AnyRef_exit_i_i:;
-    v_230 = p_v_230;
+    v_308 = p_v_308;
     put_u64(v_len, v_0_sroa_31_0_in_i46_i_i);
-    { p_v_0_sroa_0_1_i157_i = v_230; goto L_any_AnyRef_exit; }
+    { p_v_0_sroa_0_0_i3 = v_308; goto L_bb8_i; }
 L_bb3_i158_i:;
-    v_231 = (u64)((u64)(v_215) >> (u64)((8u & 63)));
-    v_error_sroa_0_0_extract_trunc_i_i = (u8)(v_231);
+    v_309 = (u64)((u64)(v_293) >> (u64)((8u & 63)));
+    v_error_sroa_0_0_extract_trunc_i_i = (u8)(v_309);
     switch (v_error_sroa_0_0_extract_trunc_i_i) {
-    case 0u: { p_v_0_sroa_0_1_i157_i = 1u; goto L_any_AnyRef_exit; }
+    case 0u: { p_v_0_sroa_0_0_i3 = 1u; goto L_bb8_i; }
     case 1u: { goto L_bb17_i_i_i; }
-    case 2u: { goto L_bb16_i_i_i; }
+    case 2u: { goto L_bb16_i_i_i210; }
     case 3u: { goto L_bb15_i_i_i; }
-    case 4u: { goto L_bb14_i_i_i; }
+    case 4u: { goto L_bb14_i_i_i209; }
     case 5u: { goto L_bb13_i44_i_i; }
     case 6u: { goto L_bb12_i_i_i; }
     case 7u: { goto L_bb11_i43_i_i; }
@@ -14220,138 +14841,1399 @@ L_bb3_i158_i:;
 L_default_unreachable_i_i160_i:;
     TRAP();
 L_bb17_i_i_i:;
-    { p_v_0_sroa_0_1_i157_i = 2u; goto L_any_AnyRef_exit; }
-L_bb16_i_i_i:;
-    { p_v_0_sroa_0_1_i157_i = 3u; goto L_any_AnyRef_exit; }
+    { p_v_0_sroa_0_0_i3 = 2u; goto L_bb8_i; }
+L_bb16_i_i_i210:;
+    { p_v_0_sroa_0_0_i3 = 3u; goto L_bb8_i; }
 L_bb15_i_i_i:;
-    { p_v_0_sroa_0_1_i157_i = 4u; goto L_any_AnyRef_exit; }
-L_bb14_i_i_i:;
-    { p_v_0_sroa_0_1_i157_i = 5u; goto L_any_AnyRef_exit; }
+    { p_v_0_sroa_0_0_i3 = 4u; goto L_bb8_i; }
+L_bb14_i_i_i209:;
+    { p_v_0_sroa_0_0_i3 = 5u; goto L_bb8_i; }
 L_bb13_i44_i_i:;
-    { p_v_0_sroa_0_1_i157_i = 6u; goto L_any_AnyRef_exit; }
+    { p_v_0_sroa_0_0_i3 = 6u; goto L_bb8_i; }
 L_bb12_i_i_i:;
-    { p_v_0_sroa_0_1_i157_i = 7u; goto L_any_AnyRef_exit; }
+    { p_v_0_sroa_0_0_i3 = 7u; goto L_bb8_i; }
 L_bb11_i43_i_i:;
-    { p_v_0_sroa_0_1_i157_i = 8u; goto L_any_AnyRef_exit; }
+    { p_v_0_sroa_0_0_i3 = 8u; goto L_bb8_i; }
 L_bb10_i42_i_i:;
-    { p_v_0_sroa_0_1_i157_i = 9u; goto L_any_AnyRef_exit; }
+    { p_v_0_sroa_0_0_i3 = 9u; goto L_bb8_i; }
 L_bb9_i41_i_i:;
-    { p_v_0_sroa_0_1_i157_i = 10u; goto L_any_AnyRef_exit; }
+    { p_v_0_sroa_0_0_i3 = 10u; goto L_bb8_i; }
 L_bb8_i40_i_i:;
-    { p_v_0_sroa_0_1_i157_i = 11u; goto L_any_AnyRef_exit; }
+    { p_v_0_sroa_0_0_i3 = 11u; goto L_bb8_i; }
 L_bb7_i39_i_i:;
-    { p_v_0_sroa_0_1_i157_i = 12u; goto L_any_AnyRef_exit; }
+    { p_v_0_sroa_0_0_i3 = 12u; goto L_bb8_i; }
 L_bb6_i38_i_i:;
-    { p_v_0_sroa_0_1_i157_i = 13u; goto L_any_AnyRef_exit; }
+    { p_v_0_sroa_0_0_i3 = 13u; goto L_bb8_i; }
 L_bb5_i37_i_i:;
-    { p_v_0_sroa_0_1_i157_i = 14u; goto L_any_AnyRef_exit; }
+    { p_v_0_sroa_0_0_i3 = 14u; goto L_bb8_i; }
 L_bb4_i36_i_i:;
-    { p_v_0_sroa_0_1_i157_i = 15u; goto L_any_AnyRef_exit; }
+    { p_v_0_sroa_0_0_i3 = 15u; goto L_bb8_i; }
 L_bb3_i35_i_i:;
-    { p_v_0_sroa_0_1_i157_i = 16u; goto L_any_AnyRef_exit; }
+    { p_v_0_sroa_0_0_i3 = 16u; goto L_bb8_i; }
 L_bb2_i_i159_i:;
-    { p_v_0_sroa_0_1_i157_i = 17u; goto L_any_AnyRef_exit; }
-L_any_AnyRef_exit:;
-    v_0_sroa_0_1_i157_i = p_v_0_sroa_0_1_i157_i;
-    { p_v_0_sroa_0_0 = v_0_sroa_0_1_i157_i; goto L_bb11; }
-L_bb7:;
-    v_232 = v_7 + 8;
-    v_11_sroa_0_0_copyload = get_u8(v_232);
-    v_233 = (u8)((u32)(v_11_sroa_0_0_copyload) + (u32)(239u));
-    v_234 = (u64)v_233;
-    v_235 = v_233 < 3u;
-    v_236 = (u64)((u64)(v_234) + (u64)(1u));
-    v_2_i = v_235 ? v_236 : 0u;
-    switch (v_2_i) {
-    case 0u: { goto L_bb5_i; }
-    case 1u: { p_v_0_sroa_0_0 = 18u; goto L_bb11; }
-    case 2u: { goto L_bb3_i127; }
-    case 3u: { goto L_bb2_i124; }
-    default: { goto L_bb1_i139; }
-    }
-L_bb1_i139:;
+    { p_v_0_sroa_0_0_i3 = 17u; goto L_bb8_i; }
+L_bb6_i_i_i100:;
+    v_310 = v_parameters_sroa_0_0_i18_i != (P)0;
+    v_0_1_i_i = get_u64(v_5_i_sroa_8_0_made_i_sroa_idx);
+    v_311 = v_0_1_i_i == 5u;
+    v_or_cond640 = v_310 ? v_311 : 0u;
+    if (v_or_cond640) { goto L_bb11_i224; } else { p_v_0_sroa_0_0_shrunk_i_i_i = 0u; goto L_bb2_i_i17_i96; }
+L_bb11_i224:;
+    v_312 = get_u8(v_18_0_i8_i);
+    v_313 = v_312 == 43u;
+    if (v_313) { goto L_bb12_i225; } else { p_v_0_sroa_0_0_shrunk_i_i_i = 0u; goto L_bb2_i_i17_i96; }
+L_bb12_i225:;
+    v_314 = v_18_0_i8_i + 1;
+    v_315 = get_u8(v_314);
+    v_316 = v_315 == 14u;
+    if (v_316) { goto L_bb13_i226; } else { p_v_0_sroa_0_0_shrunk_i_i_i = 0u; goto L_bb2_i_i17_i96; }
+L_bb13_i226:;
+    v_317 = v_18_0_i8_i + 2;
+    v_318 = get_u8(v_317);
+    v_319 = v_318 == 3u;
+    if (v_319) { goto L_bb14_i; } else { p_v_0_sroa_0_0_shrunk_i_i_i = 0u; goto L_bb2_i_i17_i96; }
+L_bb14_i:;
+    v_320 = v_18_0_i8_i + 3;
+    v_321 = get_u8(v_320);
+    v_322 = v_321 == 2u;
+    if (v_322) { goto L_bb15_i; } else { p_v_0_sroa_0_0_shrunk_i_i_i = 0u; goto L_bb2_i_i17_i96; }
+L_bb15_i:;
+    v_323 = v_18_0_i8_i + 4;
+    v_10_i227 = get_u8(v_323);
+    v_6_i228 = v_10_i227 == 26u;
+    if (v_6_i228) { goto L_bb5_i229; } else { p_v_0_sroa_0_0_shrunk_i_i_i = 0u; goto L_bb2_i_i17_i96; }
+L_bb5_i229:;
+    v_8_sroa_3_0_copyload_i = get_u64(v_5_i_sroa_15_0_made_i_sroa_idx);
+    v_324 = (u64)((u64)(v_parameters_sroa_6_sroa_6_0_i16_i) & (u64)(255u));
+    v_325 = v_324 == 5u;
+    v_326 = v_8_sroa_3_0_copyload_i == 0u;
+    v_0_sroa_0_1_i230 = v_325 ? v_326 : 0u;
+    { p_v_0_sroa_0_0_shrunk_i_i_i = v_0_sroa_0_1_i230; goto L_bb2_i_i17_i96; }
+L_bb2_i_i17_i96:;
+    v_0_sroa_0_0_shrunk_i_i_i = p_v_0_sroa_0_0_shrunk_i_i_i;
+    v_3_i_i = (u1)(((u32)(v_0_sroa_0_0_shrunk_i_i_i) ^ (u32)(1u)) & 1);
+    v_2_i_i = (u8)v_3_i_i;
+    v_327 = f_MaskHolder_is_default(v_5_i_sroa_19_0_made_i_sroa_idx);
+    v_3_i4_i = (u1)(((u32)(v_327) ^ (u32)(1u)) & 1);
+    v_2_i5_i = (u8)v_3_i4_i;
+    v_328 = v_180 != (P)0;
+    v_0_1_i_i346 = get_u64(v_5_i_sroa_31_0_made_i_sroa_idx);
+    v_329 = v_0_1_i_i346 == 9u;
+    v_or_cond642 = v_328 ? v_329 : 0u;
+    if (v_or_cond642) { goto L_bb2_i_i349; } else { p_v_0_sroa_0_0_i348668 = 0u; p_v_342 = 2u; goto L_bb10_i8_i_thread; }
+L_bb2_i_i349:;
+    v_21_i_i350 = get_u8(v_18_0_i_i);
+    v_20_i_i351 = v_21_i_i350 == 42u;
+    v_330 = v_18_0_i_i + 1;
+    v_23_i_i352 = get_u8(v_330);
+    v_22_i_i353 = v_23_i_i352 == 134u;
+    v_19_i_i354 = (u1)(((u32)(v_20_i_i351) & (u32)(v_22_i_i353)) & 1);
+    v_331 = v_18_0_i_i + 2;
+    v_25_i_i355 = get_u8(v_331);
+    v_24_i_i356 = v_25_i_i355 == 72u;
+    v_18_i_i357 = (u1)(((u32)(v_19_i_i354) & (u32)(v_24_i_i356)) & 1);
+    v_332 = v_18_0_i_i + 3;
+    v_27_i_i358 = get_u8(v_332);
+    v_26_i_i359 = v_27_i_i358 == 134u;
+    v_17_i_i360 = (u1)(((u32)(v_18_i_i357) & (u32)(v_26_i_i359)) & 1);
+    v_333 = v_18_0_i_i + 4;
+    v_29_i_i361 = get_u8(v_333);
+    v_28_i_i362 = v_29_i_i361 == 247u;
+    v_16_i_i363 = (u1)(((u32)(v_17_i_i360) & (u32)(v_28_i_i362)) & 1);
+    v_334 = v_18_0_i_i + 5;
+    v_31_i_i364 = get_u8(v_334);
+    v_30_i_i365 = v_31_i_i364 == 13u;
+    v_15_i_i366 = (u1)(((u32)(v_16_i_i363) & (u32)(v_30_i_i365)) & 1);
+    v_335 = v_18_0_i_i + 6;
+    v_33_i_i367 = get_u8(v_335);
+    v_32_i_i368 = v_33_i_i367 == 1u;
+    v_14_i_i369 = (u1)(((u32)(v_15_i_i366) & (u32)(v_32_i_i368)) & 1);
+    v_336 = v_18_0_i_i + 7;
+    v_35_i_i370 = get_u8(v_336);
+    v_34_i_i371 = v_35_i_i370 == 1u;
+    v_front_i_i372 = (u1)(((u32)(v_14_i_i369) & (u32)(v_34_i_i371)) & 1);
+    if (v_front_i_i372) { goto L_hash_fields_is_pkcs1_exit_i373; } else { p_v_0_sroa_0_0_i348668 = 0u; p_v_342 = 2u; goto L_bb10_i8_i_thread; }
+L_hash_fields_is_pkcs1_exit_i373:;
+    v_337 = v_18_0_i_i + 8;
+    v_36_i_i374 = get_u8(v_337);
+    v_338 = v_36_i_i374 == 9u;
+    if (v_338) { goto L_bb10_i8_i; } else { p_v_0_sroa_0_0_i348668 = 0u; p_v_342 = 2u; goto L_bb10_i8_i_thread; }
+L_bb10_i8_i:;
+    v_8_sroa_3_0_copyload_i377 = get_u64(v_5_i_sroa_34_0_made_i_sroa_idx);
+    v_339 = (u64)((u64)(v_8_sroa_4_0_copyload_i379) & (u64)(255u));
+    v_340 = v_339 == 4u;
+    v_341 = v_8_sroa_3_0_copyload_i377 == 0u;
+    v_0_sroa_0_1_i380 = v_340 ? v_341 : 0u;
+    v_cond_fr = v_0_sroa_0_1_i380;
+    v_spec_select = v_cond_fr ? 0u : 2u;
+    { p_v_0_sroa_0_0_i348668 = v_cond_fr; p_v_342 = v_spec_select; goto L_bb10_i8_i_thread; }
+L_bb10_i8_i_thread:;
+    v_0_sroa_0_0_i348668 = p_v_0_sroa_0_0_i348668;
+    v_342 = p_v_342;
+    v_0_i9_i = (u8)((u32)(v_342) | (u32)(v_2_i5_i));
+    v_6_i_i97 = (u8)((u32)(v_0_i9_i) << (u32)((1u & 31)));
+    v_0_i_i = (u8)((u32)(v_6_i_i97) | (u32)(v_2_i_i));
+    if (v_0_sroa_0_0_shrunk_i_i_i) { goto L_bb6_i_i23_i; } else { goto L_bb7_i_i18_i; }
+L_bb6_i_i23_i:;
+    if (v_327) { goto L_bb6_i133_i_i; } else { goto L_bb7_i7_i_i; }
+L_bb6_i133_i_i:;
+    if (v_0_sroa_0_0_i348668) { p_v_396 = 2u; goto L_bb4_i_i517; } else { goto L_bb2_i_i542_i_i; }
+L_bb2_i_i542_i_i:;
+    v_343 = v_180 == (P)0;
+    v_4_1_i_i_i548_i_i = get_u64(v_5_i_sroa_34_0_made_i_sroa_idx);
+    v_5_i84_i_i549_i_i = v_4_1_i_i_i548_i_i < 128u;
+    v_344 = (u64)((u64)(v_4_1_i_i_i548_i_i) + (u64)(2u));
+    v_0_sroa_0_0_i85_i_i550_i_i = v_5_i84_i_i549_i_i ? v_344 : 4294967296ull;
+    v_10_sroa_0_0_i79_i_i552_i_i = v_343 ? 0u : v_0_sroa_0_0_i85_i_i550_i_i;
+    v_0_i_i_i554_i_i = (u64)((u64)(v_0_1_i_i346) & (u64)(255u));
+    v_3_i_i81_i_i555_i_i = v_0_i_i_i554_i_i < 128u;
+    v_0_sroa_0_0_i_i82_i_i556_i_v_i = v_3_i_i81_i_i555_i_i ? 2u : 3u;
+    v_0_sroa_0_0_i_i82_i_i556_i_i = (u64)((u64)(v_0_sroa_0_0_i_i82_i_i556_i_v_i) + (u64)(v_0_i_i_i554_i_i));
+    v_345 = (u64)((u64)(v_0_sroa_0_0_i_i82_i_i556_i_i) + (u64)(v_10_sroa_0_0_i79_i_i552_i_i));
+    v_10_i_i567_i_i = v_345 < 126u;
+    v_346 = (u64)((u64)(v_345) + (u64)(4u));
+    if (v_10_i_i567_i_i) { p_v_0_sroa_0_0_i348671 = 0u; p_v_0_sroa_0_0_i_i21_i = v_346; goto L_EncodeValue_quick_value_len_exit_i; } else { p_v_0_i_i_i554_i_i_i_i_pre_phi = v_0_i_i_i554_i_i; p_v_pre_phi = v_344; p_v_4_1_i_i_i548_i_i_i_i = v_4_1_i_i_i548_i_i; goto L_bb2_i_i542_i_i_i_i; }
+L_bb7_i7_i_i:;
+    if (v_0_sroa_0_0_i348668) { p_v_0_sroa_0_0_i705_i_i = 0u; goto L_bb5_i_i46_i_i; } else { goto L_bb2_i_i676_i_i; }
+L_bb2_i_i676_i_i:;
+    v_347 = v_180 == (P)0;
+    v_4_1_i_i_i682_i_i = get_u64(v_5_i_sroa_34_0_made_i_sroa_idx);
+    v_5_i84_i_i683_i_i = v_4_1_i_i_i682_i_i < 128u;
+    v_348 = (u64)((u64)(v_4_1_i_i_i682_i_i) + (u64)(2u));
+    v_0_sroa_0_0_i85_i_i684_i_i = v_5_i84_i_i683_i_i ? v_348 : 4294967296ull;
+    v_10_sroa_0_0_i79_i_i686_i_i = v_347 ? 0u : v_0_sroa_0_0_i85_i_i684_i_i;
+    v_0_i_i_i688_i_i = (u64)((u64)(v_0_1_i_i346) & (u64)(255u));
+    v_3_i_i81_i_i689_i_i = v_0_i_i_i688_i_i < 128u;
+    v_0_sroa_0_0_i_i82_i_i690_i_v_i = v_3_i_i81_i_i689_i_i ? 2u : 3u;
+    v_0_sroa_0_0_i_i82_i_i690_i_i = (u64)((u64)(v_0_sroa_0_0_i_i82_i_i690_i_v_i) + (u64)(v_0_i_i_i688_i_i));
+    v_349 = (u64)((u64)(v_0_sroa_0_0_i_i82_i_i690_i_i) + (u64)(v_10_sroa_0_0_i79_i_i686_i_i));
+    v_3_i22_i_i691_i_i = v_349 < 128u;
+    if (v_3_i22_i_i691_i_i) { p_v_sink_i = 2u; goto L_AnyRef_quick_len_exit_i703_i_i; } else { goto L_bb4_i23_i_i692_i_i; }
+L_bb4_i23_i_i692_i_i:;
+    v_4_i24_i_i693_i_i = v_349 < 256u;
+    if (v_4_i24_i_i693_i_i) { p_v_sink_i = 3u; goto L_AnyRef_quick_len_exit_i703_i_i; } else { goto L_bb6_i25_i_i694_i_i; }
+L_bb6_i25_i_i694_i_i:;
+    v_5_i26_i_i695_i_i = v_349 < 65536u;
+    if (v_5_i26_i_i695_i_i) { p_v_sink_i = 4u; goto L_AnyRef_quick_len_exit_i703_i_i; } else { goto L_bb8_i27_i_i696_i_i; }
+L_bb8_i27_i_i696_i_i:;
+    v_6_i28_i_i697_i_i = v_349 < 16777216u;
+    v_i519 = v_6_i28_i_i697_i_i ? 5u : 6u;
+    { p_v_sink_i = v_i519; goto L_AnyRef_quick_len_exit_i703_i_i; }
+L_AnyRef_quick_len_exit_i703_i_i:;
+    v_sink_i = p_v_sink_i;
+    v_350 = (u64)((u64)(v_sink_i) + (u64)(v_349));
+    v_10_i_i701_i_i = v_350 < 128u;
+    v_351 = (u64)((u64)(v_350) + (u64)(2u));
+    v_spec_select20_i_i702_i_i = v_10_i_i701_i_i ? v_351 : 4294967296ull;
+    { p_v_0_sroa_0_0_i705_i_i = v_spec_select20_i_i702_i_i; goto L_bb5_i_i46_i_i; }
+L_bb5_i_i46_i_i:;
+    v_0_sroa_0_0_i705_i_i = p_v_0_sroa_0_0_i705_i_i;
+    v_0_1_i97_i_i49_i_i = get_u64(v_5_i_sroa_20_0_made_i_sroa_idx);
+    v_352 = v_152 == (P)0;
+    if (v_352) { p_v_10_sroa_0_0_i_i_i76_i_i = 0u; goto L_EncodeValue_quick_value_len_exit_i_i75_i_i; } else { goto L_bb10_i51_i_i51_i_i; }
+L_bb10_i51_i_i51_i_i:;
+    v_0_1_i95_i_i53_i_i = get_u64(v_5_i_sroa_23_0_made_i_sroa_idx);
+    v_353 = v_151 == (P)0;
+    v_4_1_i89_i_i56_i_i = get_u64(v_5_i_sroa_26_0_made_i_sroa_idx);
+    v_5_i90_i_i57_i_i = v_4_1_i89_i_i56_i_i < 128u;
+    v_354 = (u64)((u64)(v_4_1_i89_i_i56_i_i) + (u64)(2u));
+    v_0_sroa_0_0_i91_i_i58_i_i = v_5_i90_i_i57_i_i ? v_354 : 4294967296ull;
+    v_10_sroa_0_0_i59_i_i60_i_i = v_353 ? 0u : v_0_sroa_0_0_i91_i_i58_i_i;
+    v_0_i102_i_i62_i_i = (u64)((u64)(v_0_1_i95_i_i53_i_i) & (u64)(255u));
+    v_3_i_i61_i_i63_i_i = v_0_i102_i_i62_i_i < 128u;
+    v_0_sroa_0_0_i_i62_i_i64_i_v_i = v_3_i_i61_i_i63_i_i ? 2u : 3u;
+    v_0_sroa_0_0_i_i62_i_i64_i_i = (u64)((u64)(v_0_sroa_0_0_i_i62_i_i64_i_v_i) + (u64)(v_0_i102_i_i62_i_i));
+    v_355 = (u64)((u64)(v_0_sroa_0_0_i_i62_i_i64_i_i) + (u64)(v_10_sroa_0_0_i59_i_i60_i_i));
+    v_3_i_i_i_i65_i_i = v_355 < 128u;
+    if (v_3_i_i_i_i65_i_i) { goto L_bb3_i_i_i_i100_i_i; } else { goto L_bb4_i_i_i_i66_i_i; }
+L_bb4_i_i_i_i66_i_i:;
+    v_4_i_i_i_i67_i_i = v_355 < 256u;
+    if (v_4_i_i_i_i67_i_i) { goto L_bb5_i_i_i_i99_i_i; } else { goto L_bb6_i_i_i_i68_i_i; }
+L_bb3_i_i_i_i100_i_i:;
+    v_356 = (u64)((u64)(v_355) + (u64)(2u));
+    { p_v_10_sroa_0_0_i_i_i76_i_i = v_356; goto L_EncodeValue_quick_value_len_exit_i_i75_i_i; }
+L_bb6_i_i_i_i68_i_i:;
+    v_5_i_i_i_i69_i_i = v_355 < 65536u;
+    if (v_5_i_i_i_i69_i_i) { goto L_bb7_i_i_i_i98_i_i; } else { goto L_bb8_i_i_i_i70_i_i; }
+L_bb5_i_i_i_i99_i_i:;
+    v_357 = (u64)((u64)(v_355) + (u64)(3u));
+    { p_v_10_sroa_0_0_i_i_i76_i_i = v_357; goto L_EncodeValue_quick_value_len_exit_i_i75_i_i; }
+L_bb8_i_i_i_i70_i_i:;
+    v_6_i_i_i_i71_i_i = v_355 < 16777216u;
+    if (v_6_i_i_i_i71_i_i) { goto L_bb9_i_i_i_i97_i_i; } else { goto L_bb10_i_i_i_i72_i_i; }
+L_bb7_i_i_i_i98_i_i:;
+    v_358 = (u64)((u64)(v_355) + (u64)(4u));
+    { p_v_10_sroa_0_0_i_i_i76_i_i = v_358; goto L_EncodeValue_quick_value_len_exit_i_i75_i_i; }
+L_bb10_i_i_i_i72_i_i:;
+    v_359 = (u64)((u64)(v_355) + (u64)(6u));
+    { p_v_10_sroa_0_0_i_i_i76_i_i = v_359; goto L_EncodeValue_quick_value_len_exit_i_i75_i_i; }
+L_bb9_i_i_i_i97_i_i:;
+    v_360 = (u64)((u64)(v_355) + (u64)(5u));
+    { p_v_10_sroa_0_0_i_i_i76_i_i = v_360; goto L_EncodeValue_quick_value_len_exit_i_i75_i_i; }
+L_EncodeValue_quick_value_len_exit_i_i75_i_i:;
+    v_10_sroa_0_0_i_i_i76_i_i = p_v_10_sroa_0_0_i_i_i76_i_i;
+    v_0_i104_i_i78_i_i = (u64)((u64)(v_0_1_i97_i_i49_i_i) & (u64)(255u));
+    v_3_i2_i_i_i79_i_i = v_0_i104_i_i78_i_i < 128u;
+    v_0_sroa_0_0_i3_i_i_i80_i_v_i = v_3_i2_i_i_i79_i_i ? 2u : 3u;
+    v_0_sroa_0_0_i3_i_i_i80_i_i = (u64)((u64)(v_0_sroa_0_0_i3_i_i_i80_i_v_i) + (u64)(v_0_i104_i_i78_i_i));
+    v_361 = (u64)((u64)(v_0_sroa_0_0_i3_i_i_i80_i_i) + (u64)(v_10_sroa_0_0_i_i_i76_i_i));
+    v_3_i_i_i81_i_i = v_361 < 128u;
+    if (v_3_i_i_i81_i_i) { p_v_sink168_i = 2u; goto L_AnyRef_quick_len_exit_i35_i_i; } else { goto L_bb4_i_i_i82_i_i; }
+L_bb4_i_i_i82_i_i:;
+    v_4_i_i_i83_i_i = v_361 < 256u;
+    if (v_4_i_i_i83_i_i) { p_v_sink168_i = 3u; goto L_AnyRef_quick_len_exit_i35_i_i; } else { goto L_bb6_i_i_i84_i_i; }
+L_bb6_i_i_i84_i_i:;
+    v_5_i_i_i85_i_i = v_361 < 65536u;
+    if (v_5_i_i_i85_i_i) { p_v_sink168_i = 4u; goto L_AnyRef_quick_len_exit_i35_i_i; } else { goto L_bb8_i_i_i86_i_i; }
+L_bb8_i_i_i86_i_i:;
+    v_6_i_i_i87_i_i = v_361 < 16777216u;
+    v_173_i = v_6_i_i_i87_i_i ? 5u : 6u;
+    { p_v_sink168_i = v_173_i; goto L_AnyRef_quick_len_exit_i35_i_i; }
+L_AnyRef_quick_len_exit_i35_i_i:;
+    v_sink168_i = p_v_sink168_i;
+    v_362 = (u64)((u64)(v_sink168_i) + (u64)(v_361));
+    v_31_i_i91_i_i = v_362 < 128u;
+    v_363 = (u64)((u64)(v_362) + (u64)(2u));
+    v_spec_select19_i_i92_i_i = v_31_i_i91_i_i ? v_363 : 4294967296ull;
+    v_364 = (u64)((u64)(v_spec_select19_i_i92_i_i) + (u64)(v_0_sroa_0_0_i705_i_i));
+    { p_v_0_sroa_0_0_i348671 = v_0_sroa_0_0_i348668; p_v_0_sroa_0_0_i_i21_i = v_364; goto L_EncodeValue_quick_value_len_exit_i; }
+L_bb7_i_i18_i:;
+    if (v_327) { goto L_bb6_i266_i_i; } else { goto L_bb7_i140_i_i; }
+L_bb6_i266_i_i:;
+    if (v_0_sroa_0_0_i348668) { p_v_0_sroa_0_0_i170_i_i = 0u; goto L_bb6_i_i_i_i397; } else { goto L_bb2_i_i275_i_i; }
+L_bb2_i_i275_i_i:;
+    v_365 = v_180 == (P)0;
+    v_4_1_i_i_i281_i_i = get_u64(v_5_i_sroa_34_0_made_i_sroa_idx);
+    v_5_i84_i_i282_i_i = v_4_1_i_i_i281_i_i < 128u;
+    v_366 = (u64)((u64)(v_4_1_i_i_i281_i_i) + (u64)(2u));
+    v_0_sroa_0_0_i85_i_i283_i_i = v_5_i84_i_i282_i_i ? v_366 : 4294967296ull;
+    v_10_sroa_0_0_i79_i_i285_i_i = v_365 ? 0u : v_0_sroa_0_0_i85_i_i283_i_i;
+    v_0_i_i_i287_i_i = (u64)((u64)(v_0_1_i_i346) & (u64)(255u));
+    v_3_i_i81_i_i288_i_i = v_0_i_i_i287_i_i < 128u;
+    v_0_sroa_0_0_i_i82_i_i289_i_v_i = v_3_i_i81_i_i288_i_i ? 2u : 3u;
+    v_0_sroa_0_0_i_i82_i_i289_i_i = (u64)((u64)(v_0_sroa_0_0_i_i82_i_i289_i_v_i) + (u64)(v_0_i_i_i287_i_i));
+    v_367 = (u64)((u64)(v_0_sroa_0_0_i_i82_i_i289_i_i) + (u64)(v_10_sroa_0_0_i79_i_i285_i_i));
+    v_3_i22_i_i290_i_i = v_367 < 128u;
+    if (v_3_i22_i_i290_i_i) { p_v_sink169_i = 2u; goto L_AnyRef_quick_len_exit_i302_i_i; } else { goto L_bb4_i23_i_i291_i_i; }
+L_bb4_i23_i_i291_i_i:;
+    v_4_i24_i_i292_i_i = v_367 < 256u;
+    if (v_4_i24_i_i292_i_i) { p_v_sink169_i = 3u; goto L_AnyRef_quick_len_exit_i302_i_i; } else { goto L_bb6_i25_i_i293_i_i; }
+L_bb6_i25_i_i293_i_i:;
+    v_5_i26_i_i294_i_i = v_367 < 65536u;
+    if (v_5_i26_i_i294_i_i) { p_v_sink169_i = 4u; goto L_AnyRef_quick_len_exit_i302_i_i; } else { goto L_bb8_i27_i_i295_i_i; }
+L_bb8_i27_i_i295_i_i:;
+    v_6_i28_i_i296_i_i = v_367 < 16777216u;
+    v_174_i = v_6_i28_i_i296_i_i ? 5u : 6u;
+    { p_v_sink169_i = v_174_i; goto L_AnyRef_quick_len_exit_i302_i_i; }
+L_AnyRef_quick_len_exit_i302_i_i:;
+    v_sink169_i = p_v_sink169_i;
+    v_368 = (u64)((u64)(v_sink169_i) + (u64)(v_367));
+    v_10_i_i300_i_i = v_368 < 128u;
+    v_369 = (u64)((u64)(v_368) + (u64)(2u));
+    v_spec_select20_i_i301_i_i = v_10_i_i300_i_i ? v_369 : 4294967296ull;
+    { p_v_0_sroa_0_0_i170_i_i = v_spec_select20_i_i301_i_i; goto L_bb6_i_i_i_i397; }
+L_bb7_i140_i_i:;
+    if (v_0_sroa_0_0_i348668) { p_v_0_sroa_0_0_i437_i_i = 0u; goto L_bb5_i_i179_i_i; } else { goto L_bb2_i_i408_i_i; }
+L_bb2_i_i408_i_i:;
+    v_370 = v_180 == (P)0;
+    v_4_1_i_i_i414_i_i = get_u64(v_5_i_sroa_34_0_made_i_sroa_idx);
+    v_5_i84_i_i415_i_i = v_4_1_i_i_i414_i_i < 128u;
+    v_371 = (u64)((u64)(v_4_1_i_i_i414_i_i) + (u64)(2u));
+    v_0_sroa_0_0_i85_i_i416_i_i = v_5_i84_i_i415_i_i ? v_371 : 4294967296ull;
+    v_10_sroa_0_0_i79_i_i418_i_i = v_370 ? 0u : v_0_sroa_0_0_i85_i_i416_i_i;
+    v_0_i_i_i420_i_i = (u64)((u64)(v_0_1_i_i346) & (u64)(255u));
+    v_3_i_i81_i_i421_i_i = v_0_i_i_i420_i_i < 128u;
+    v_0_sroa_0_0_i_i82_i_i422_i_v_i = v_3_i_i81_i_i421_i_i ? 2u : 3u;
+    v_0_sroa_0_0_i_i82_i_i422_i_i = (u64)((u64)(v_0_sroa_0_0_i_i82_i_i422_i_v_i) + (u64)(v_0_i_i_i420_i_i));
+    v_372 = (u64)((u64)(v_0_sroa_0_0_i_i82_i_i422_i_i) + (u64)(v_10_sroa_0_0_i79_i_i418_i_i));
+    v_3_i22_i_i423_i_i = v_372 < 128u;
+    if (v_3_i22_i_i423_i_i) { p_v_sink170_i = 2u; goto L_AnyRef_quick_len_exit_i435_i_i; } else { goto L_bb4_i23_i_i424_i_i; }
+L_bb4_i23_i_i424_i_i:;
+    v_4_i24_i_i425_i_i = v_372 < 256u;
+    if (v_4_i24_i_i425_i_i) { p_v_sink170_i = 3u; goto L_AnyRef_quick_len_exit_i435_i_i; } else { goto L_bb6_i25_i_i426_i_i; }
+L_bb6_i25_i_i426_i_i:;
+    v_5_i26_i_i427_i_i = v_372 < 65536u;
+    if (v_5_i26_i_i427_i_i) { p_v_sink170_i = 4u; goto L_AnyRef_quick_len_exit_i435_i_i; } else { goto L_bb8_i27_i_i428_i_i; }
+L_bb8_i27_i_i428_i_i:;
+    v_6_i28_i_i429_i_i = v_372 < 16777216u;
+    v_175_i = v_6_i28_i_i429_i_i ? 5u : 6u;
+    { p_v_sink170_i = v_175_i; goto L_AnyRef_quick_len_exit_i435_i_i; }
+L_AnyRef_quick_len_exit_i435_i_i:;
+    v_sink170_i = p_v_sink170_i;
+    v_373 = (u64)((u64)(v_sink170_i) + (u64)(v_372));
+    v_10_i_i433_i_i = v_373 < 128u;
+    v_374 = (u64)((u64)(v_373) + (u64)(2u));
+    v_spec_select20_i_i434_i_i = v_10_i_i433_i_i ? v_374 : 4294967296ull;
+    { p_v_0_sroa_0_0_i437_i_i = v_spec_select20_i_i434_i_i; goto L_bb5_i_i179_i_i; }
+L_bb5_i_i179_i_i:;
+    v_0_sroa_0_0_i437_i_i = p_v_0_sroa_0_0_i437_i_i;
+    v_0_1_i97_i_i182_i_i = get_u64(v_5_i_sroa_20_0_made_i_sroa_idx);
+    v_375 = v_152 == (P)0;
+    if (v_375) { p_v_10_sroa_0_0_i_i_i209_i_i = 0u; goto L_EncodeValue_quick_value_len_exit_i_i208_i_i; } else { goto L_bb10_i51_i_i184_i_i; }
+L_bb10_i51_i_i184_i_i:;
+    v_0_1_i95_i_i186_i_i = get_u64(v_5_i_sroa_23_0_made_i_sroa_idx);
+    v_376 = v_151 == (P)0;
+    v_4_1_i89_i_i189_i_i = get_u64(v_5_i_sroa_26_0_made_i_sroa_idx);
+    v_5_i90_i_i190_i_i = v_4_1_i89_i_i189_i_i < 128u;
+    v_377 = (u64)((u64)(v_4_1_i89_i_i189_i_i) + (u64)(2u));
+    v_0_sroa_0_0_i91_i_i191_i_i = v_5_i90_i_i190_i_i ? v_377 : 4294967296ull;
+    v_10_sroa_0_0_i59_i_i193_i_i = v_376 ? 0u : v_0_sroa_0_0_i91_i_i191_i_i;
+    v_0_i102_i_i195_i_i = (u64)((u64)(v_0_1_i95_i_i186_i_i) & (u64)(255u));
+    v_3_i_i61_i_i196_i_i = v_0_i102_i_i195_i_i < 128u;
+    v_0_sroa_0_0_i_i62_i_i197_i_v_i = v_3_i_i61_i_i196_i_i ? 2u : 3u;
+    v_0_sroa_0_0_i_i62_i_i197_i_i = (u64)((u64)(v_0_sroa_0_0_i_i62_i_i197_i_v_i) + (u64)(v_0_i102_i_i195_i_i));
+    v_378 = (u64)((u64)(v_0_sroa_0_0_i_i62_i_i197_i_i) + (u64)(v_10_sroa_0_0_i59_i_i193_i_i));
+    v_3_i_i_i_i198_i_i = v_378 < 128u;
+    if (v_3_i_i_i_i198_i_i) { goto L_bb3_i_i_i_i233_i_i; } else { goto L_bb4_i_i_i_i199_i_i; }
+L_bb4_i_i_i_i199_i_i:;
+    v_4_i_i_i_i200_i_i = v_378 < 256u;
+    if (v_4_i_i_i_i200_i_i) { goto L_bb5_i_i_i_i232_i_i; } else { goto L_bb6_i_i_i_i201_i_i; }
+L_bb3_i_i_i_i233_i_i:;
+    v_379 = (u64)((u64)(v_378) + (u64)(2u));
+    { p_v_10_sroa_0_0_i_i_i209_i_i = v_379; goto L_EncodeValue_quick_value_len_exit_i_i208_i_i; }
+L_bb6_i_i_i_i201_i_i:;
+    v_5_i_i_i_i202_i_i = v_378 < 65536u;
+    if (v_5_i_i_i_i202_i_i) { goto L_bb7_i_i_i_i231_i_i; } else { goto L_bb8_i_i_i_i203_i_i; }
+L_bb5_i_i_i_i232_i_i:;
+    v_380 = (u64)((u64)(v_378) + (u64)(3u));
+    { p_v_10_sroa_0_0_i_i_i209_i_i = v_380; goto L_EncodeValue_quick_value_len_exit_i_i208_i_i; }
+L_bb8_i_i_i_i203_i_i:;
+    v_6_i_i_i_i204_i_i = v_378 < 16777216u;
+    if (v_6_i_i_i_i204_i_i) { goto L_bb9_i_i_i_i230_i_i; } else { goto L_bb10_i_i_i_i205_i_i; }
+L_bb7_i_i_i_i231_i_i:;
+    v_381 = (u64)((u64)(v_378) + (u64)(4u));
+    { p_v_10_sroa_0_0_i_i_i209_i_i = v_381; goto L_EncodeValue_quick_value_len_exit_i_i208_i_i; }
+L_bb10_i_i_i_i205_i_i:;
+    v_382 = (u64)((u64)(v_378) + (u64)(6u));
+    { p_v_10_sroa_0_0_i_i_i209_i_i = v_382; goto L_EncodeValue_quick_value_len_exit_i_i208_i_i; }
+L_bb9_i_i_i_i230_i_i:;
+    v_383 = (u64)((u64)(v_378) + (u64)(5u));
+    { p_v_10_sroa_0_0_i_i_i209_i_i = v_383; goto L_EncodeValue_quick_value_len_exit_i_i208_i_i; }
+L_EncodeValue_quick_value_len_exit_i_i208_i_i:;
+    v_10_sroa_0_0_i_i_i209_i_i = p_v_10_sroa_0_0_i_i_i209_i_i;
+    v_0_i104_i_i211_i_i = (u64)((u64)(v_0_1_i97_i_i182_i_i) & (u64)(255u));
+    v_3_i2_i_i_i212_i_i = v_0_i104_i_i211_i_i < 128u;
+    v_0_sroa_0_0_i3_i_i_i213_i_v_i = v_3_i2_i_i_i212_i_i ? 2u : 3u;
+    v_0_sroa_0_0_i3_i_i_i213_i_i = (u64)((u64)(v_0_sroa_0_0_i3_i_i_i213_i_v_i) + (u64)(v_0_i104_i_i211_i_i));
+    v_384 = (u64)((u64)(v_0_sroa_0_0_i3_i_i_i213_i_i) + (u64)(v_10_sroa_0_0_i_i_i209_i_i));
+    v_3_i_i_i214_i_i = v_384 < 128u;
+    if (v_3_i_i_i214_i_i) { p_v_sink171_i = 2u; goto L_AnyRef_quick_len_exit_i168_i_i; } else { goto L_bb4_i_i_i215_i_i; }
+L_bb4_i_i_i215_i_i:;
+    v_4_i_i_i216_i_i = v_384 < 256u;
+    if (v_4_i_i_i216_i_i) { p_v_sink171_i = 3u; goto L_AnyRef_quick_len_exit_i168_i_i; } else { goto L_bb6_i_i_i217_i_i; }
+L_bb6_i_i_i217_i_i:;
+    v_5_i_i_i218_i_i = v_384 < 65536u;
+    if (v_5_i_i_i218_i_i) { p_v_sink171_i = 4u; goto L_AnyRef_quick_len_exit_i168_i_i; } else { goto L_bb8_i_i_i219_i_i; }
+L_bb8_i_i_i219_i_i:;
+    v_6_i_i_i220_i_i = v_384 < 16777216u;
+    v_176_i = v_6_i_i_i220_i_i ? 5u : 6u;
+    { p_v_sink171_i = v_176_i; goto L_AnyRef_quick_len_exit_i168_i_i; }
+L_AnyRef_quick_len_exit_i168_i_i:;
+    v_sink171_i = p_v_sink171_i;
+    v_385 = (u64)((u64)(v_sink171_i) + (u64)(v_384));
+    v_31_i_i224_i_i = v_385 < 128u;
+    v_386 = (u64)((u64)(v_385) + (u64)(2u));
+    v_spec_select19_i_i225_i_i = v_31_i_i224_i_i ? v_386 : 4294967296ull;
+    v_387 = (u64)((u64)(v_spec_select19_i_i225_i_i) + (u64)(v_0_sroa_0_0_i437_i_i));
+    { p_v_0_sroa_0_0_i170_i_i = v_387; goto L_bb6_i_i_i_i397; }
+L_bb6_i_i_i_i397:;
+    v_0_sroa_0_0_i170_i_i = p_v_0_sroa_0_0_i170_i_i;
+    v_388 = v_parameters_sroa_0_0_i18_i == (P)0;
+    v_4_1_i86_i_i_i_i = get_u64(v_5_i_sroa_15_0_made_i_sroa_idx);
+    v_5_i87_i_i_i_i = v_4_1_i86_i_i_i_i < 128u;
+    v_389 = (u64)((u64)(v_4_1_i86_i_i_i_i) + (u64)(2u));
+    v_0_sroa_0_0_i88_i_i_i_i = v_5_i87_i_i_i_i ? v_389 : 4294967296ull;
+    v_10_sroa_0_0_i69_i_i_i_i = v_388 ? 0u : v_0_sroa_0_0_i88_i_i_i_i;
+    v_0_i100_i_i_i_i = (u64)((u64)(v_0_1_i_i) & (u64)(255u));
+    v_3_i_i70_i_i_i_i = v_0_i100_i_i_i_i < 128u;
+    v_0_sroa_0_0_i_i71_i_i_i_v_i = v_3_i_i70_i_i_i_i ? 2u : 3u;
+    v_0_sroa_0_0_i_i71_i_i_i_i = (u64)((u64)(v_0_sroa_0_0_i_i71_i_i_i_v_i) + (u64)(v_0_i100_i_i_i_i));
+    v_390 = (u64)((u64)(v_0_sroa_0_0_i_i71_i_i_i_i) + (u64)(v_10_sroa_0_0_i69_i_i_i_i));
+    v_3_i36_i_i_i_i = v_390 < 128u;
+    if (v_3_i36_i_i_i_i) { p_v_sink172_i = 2u; goto L_AnyRef_quick_len_exit_i_i_i; } else { goto L_bb4_i37_i_i_i_i; }
+L_bb4_i37_i_i_i_i:;
+    v_4_i38_i_i_i_i = v_390 < 256u;
+    if (v_4_i38_i_i_i_i) { p_v_sink172_i = 3u; goto L_AnyRef_quick_len_exit_i_i_i; } else { goto L_bb6_i39_i_i_i_i; }
+L_bb6_i39_i_i_i_i:;
+    v_5_i40_i_i_i_i = v_390 < 65536u;
+    if (v_5_i40_i_i_i_i) { p_v_sink172_i = 4u; goto L_AnyRef_quick_len_exit_i_i_i; } else { goto L_bb8_i41_i_i_i_i; }
+L_bb8_i41_i_i_i_i:;
+    v_6_i42_i_i_i_i = v_390 < 16777216u;
+    v_177_i = v_6_i42_i_i_i_i ? 5u : 6u;
+    { p_v_sink172_i = v_177_i; goto L_AnyRef_quick_len_exit_i_i_i; }
+L_AnyRef_quick_len_exit_i_i_i:;
+    v_sink172_i = p_v_sink172_i;
+    v_391 = (u64)((u64)(v_sink172_i) + (u64)(v_390));
+    v_33_i_i_i_i = v_391 < 128u;
+    v_392 = (u64)((u64)(v_391) + (u64)(2u));
+    v_spec_select_i_i_i_i = v_33_i_i_i_i ? v_392 : 4294967296ull;
+    v_393 = (u64)((u64)(v_spec_select_i_i_i_i) + (u64)(v_0_sroa_0_0_i170_i_i));
+    { p_v_0_sroa_0_0_i348671 = v_0_sroa_0_0_i348668; p_v_0_sroa_0_0_i_i21_i = v_393; goto L_EncodeValue_quick_value_len_exit_i; }
+L_EncodeValue_quick_value_len_exit_i:;
+    v_0_sroa_0_0_i348671 = p_v_0_sroa_0_0_i348671;
+    v_0_sroa_0_0_i_i21_i = p_v_0_sroa_0_0_i_i21_i;
+    v_3_i_i_i = v_0_sroa_0_0_i_i21_i < 128u;
+    if (v_3_i_i_i) { goto L_EncodeValue_quick_value_len_exit_i__2; } else { goto L_bb4_i_i9_i; }
+L_bb4_i_i9_i:;
+    v_4_i_i10_i = v_0_sroa_0_0_i_i21_i < 256u;
+    if (v_4_i_i10_i) { goto L_bb5_i3_i; } else { goto L_bb6_i_i11_i; }
+L_bb6_i_i11_i:;
+    v_5_i_i_i = v_0_sroa_0_0_i_i21_i < 65536u;
+    if (v_5_i_i_i) { goto L_bb7_i_i403; } else { goto L_bb8_i_i12_i; }
+L_bb8_i_i12_i:;
+    v_6_i_i_i398 = v_0_sroa_0_0_i_i21_i < 16777216u;
+    if (v_6_i_i_i398) { goto L_bb9_i_i405; } else { goto L_bb3_i_i407; }
+L_EncodeValue_quick_value_len_exit_i__2:;
+    v_394 = (u64)((u64)(v_0_sroa_0_0_i_i21_i) + (u64)(2u));
+    v_6_i_i401 = v_0_sroa_0_0_i_i21_i < 115u;
+    if (v_6_i_i401) { p_v_396 = v_394; goto L_bb4_i_i517; } else { p_v_10_sroa_0_0_i_i677685 = v_394; goto L_bb6_i_i516; }
+L_bb5_i3_i:;
+    v_395 = (u64)((u64)(v_0_sroa_0_0_i_i21_i) + (u64)(3u));
+    v_7_i_i402 = v_0_sroa_0_0_i_i21_i < 242u;
+    if (v_7_i_i402) { p_v_10_sroa_0_0_i_i677685 = v_395; goto L_bb6_i_i516; } else { p_v_10_sroa_0_0_i_i_ph691695 = v_395; goto L_bb8_i_i515; }
+L_bb4_i_i517:;
+    v_396 = p_v_396;
+    v_397 = (u64)((u64)(v_396) + (u64)(13u));
+    { p_v_0_sroa_31_0_in_i_ph_i = v_397; goto L_Encode_encoded_len_exit_thread_i; }
+L_bb7_i_i403:;
+    v_398 = (u64)((u64)(v_0_sroa_0_0_i_i21_i) + (u64)(4u));
+    v_8_i_i404 = v_0_sroa_0_0_i_i21_i < 65521u;
+    if (v_8_i_i404) { p_v_10_sroa_0_0_i_i_ph691695 = v_398; goto L_bb8_i_i515; } else { p_v_10_sroa_0_0_i_i_ph_ph701705 = v_398; goto L_bb10_i_i514; }
+L_bb6_i_i516:;
+    v_10_sroa_0_0_i_i677685 = p_v_10_sroa_0_0_i_i677685;
+    v_399 = (u64)((u64)(v_10_sroa_0_0_i_i677685) + (u64)(14u));
+    { p_v_0_sroa_31_0_in_i_ph_i = v_399; goto L_Encode_encoded_len_exit_thread_i; }
+L_bb9_i_i405:;
+    v_400 = (u64)((u64)(v_0_sroa_0_0_i_i21_i) + (u64)(5u));
+    v_9_i_i406 = v_0_sroa_0_0_i_i21_i < 16777200u;
+    if (v_9_i_i406) { p_v_10_sroa_0_0_i_i_ph_ph701705 = v_400; goto L_bb10_i_i514; } else { goto L_bb3_i_i407_thread; }
+L_bb3_i_i407_thread:;
+    v_401 = (u64)((u64)(v_0_sroa_0_0_i_i21_i) + (u64)(22u));
+    { p_v_0_sroa_31_0_in_i_ph_i = v_401; goto L_Encode_encoded_len_exit_thread_i; }
+L_bb8_i_i515:;
+    v_10_sroa_0_0_i_i_ph691695 = p_v_10_sroa_0_0_i_i_ph691695;
+    v_402 = (u64)((u64)(v_10_sroa_0_0_i_i_ph691695) + (u64)(15u));
+    { p_v_0_sroa_31_0_in_i_ph_i = v_402; goto L_Encode_encoded_len_exit_thread_i; }
+L_bb10_i_i514:;
+    v_10_sroa_0_0_i_i_ph_ph701705 = p_v_10_sroa_0_0_i_i_ph_ph701705;
+    v_403 = (u64)((u64)(v_10_sroa_0_0_i_i_ph_ph701705) + (u64)(16u));
+    { p_v_0_sroa_31_0_in_i_ph_i = v_403; goto L_Encode_encoded_len_exit_thread_i; }
+L_bb3_i_i407:;
+    v_404 = (u64)((u64)(v_0_sroa_0_0_i_i21_i) + (u64)(23u));
+    v_10_i_i408 = v_0_sroa_0_0_i_i21_i < 4294967273ull;
+    if (v_10_i_i408) { p_v_0_sroa_31_0_in_i_ph_i = v_404; goto L_Encode_encoded_len_exit_thread_i; } else { goto L_bb10_i_i26_i; }
+L_bb10_i_i26_i:;
+    if (v_0_sroa_0_0_shrunk_i_i_i) { goto L_bb6_i_i_i_i49_i; } else { goto L_bb7_i_i_i_i27_i; }
+L_bb6_i_i_i_i49_i:;
+    if (v_327) { goto L_bb6_i133_i_i_i_i; } else { goto L_bb7_i7_i_i_i_i; }
+L_bb6_i133_i_i_i_i:;
+    if (v_0_sroa_0_0_i348671) { p_v_0_sroa_0_0_i_i38_i_i_i = 0u; goto L_bb4_i_i_i48_i; } else { goto L_bb6_i133_i_i_i_i_bb2_i_i542_i_i_i_i_crit_edge; }
+L_bb6_i133_i_i_i_i_bb2_i_i542_i_i_i_i_crit_edge:;
+    v_4_1_i_i_i548_i_i_i_i_pre = get_u64(v_5_i_sroa_34_0_made_i_sroa_idx);
+    v_pre = (u64)((u64)(v_4_1_i_i_i548_i_i_i_i_pre) + (u64)(2u));
+    v_pre60 = (u64)((u64)(v_0_1_i_i346) & (u64)(255u));
+    { p_v_0_i_i_i554_i_i_i_i_pre_phi = v_pre60; p_v_pre_phi = v_pre; p_v_4_1_i_i_i548_i_i_i_i = v_4_1_i_i_i548_i_i_i_i_pre; goto L_bb2_i_i542_i_i_i_i; }
+L_bb2_i_i542_i_i_i_i:;
+    v_0_i_i_i554_i_i_i_i_pre_phi = p_v_0_i_i_i554_i_i_i_i_pre_phi;
+    v_pre_phi = p_v_pre_phi;
+    v_4_1_i_i_i548_i_i_i_i = p_v_4_1_i_i_i548_i_i_i_i;
+    v_405 = v_180 == (P)0;
+    v_5_i84_i_i549_i_i_i_i = v_4_1_i_i_i548_i_i_i_i < 128u;
+    v_0_sroa_0_0_i85_i_i550_i_i_i_i = v_5_i84_i_i549_i_i_i_i ? v_pre_phi : 4294967296ull;
+    v_10_sroa_0_0_i79_i_i552_i_i_i_i = v_405 ? 0u : v_0_sroa_0_0_i85_i_i550_i_i_i_i;
+    v_3_i_i81_i_i555_i_i_i_i = v_0_i_i_i554_i_i_i_i_pre_phi < 128u;
+    v_0_sroa_0_0_i_i82_i_i556_i_v_i_i_i = v_3_i_i81_i_i555_i_i_i_i ? 2u : 3u;
+    v_0_sroa_0_0_i_i82_i_i556_i_i_i_i = (u64)((u64)(v_0_sroa_0_0_i_i82_i_i556_i_v_i_i_i) + (u64)(v_0_i_i_i554_i_i_i_i_pre_phi));
+    v_406 = (u64)((u64)(v_0_sroa_0_0_i_i82_i_i556_i_i_i_i) + (u64)(v_10_sroa_0_0_i79_i_i552_i_i_i_i));
+    v_10_i_i567_i_i_i_i = v_406 < 126u;
+    v_407 = (u64)((u64)(v_406) + (u64)(4u));
+    if (v_10_i_i567_i_i_i_i) { p_v_0_sroa_0_0_i_i_i_i29_i = v_407; goto L_EncodeValue_quick_value_len_exit_i_i_i; } else { goto L_bb8_i_i34_i; }
+L_bb7_i7_i_i_i_i:;
+    if (v_0_sroa_0_0_i348671) { p_v_0_sroa_0_0_i705_i_i_i_i = 0u; goto L_bb5_i_i46_i_i_i_i; } else { goto L_bb2_i_i676_i_i_i_i; }
+L_bb2_i_i676_i_i_i_i:;
+    v_408 = v_180 == (P)0;
+    v_4_1_i_i_i682_i_i_i_i = get_u64(v_5_i_sroa_34_0_made_i_sroa_idx);
+    v_5_i84_i_i683_i_i_i_i = v_4_1_i_i_i682_i_i_i_i < 128u;
+    v_409 = (u64)((u64)(v_4_1_i_i_i682_i_i_i_i) + (u64)(2u));
+    v_0_sroa_0_0_i85_i_i684_i_i_i_i = v_5_i84_i_i683_i_i_i_i ? v_409 : 4294967296ull;
+    v_10_sroa_0_0_i79_i_i686_i_i_i_i = v_408 ? 0u : v_0_sroa_0_0_i85_i_i684_i_i_i_i;
+    v_0_i_i_i688_i_i_i_i = (u64)((u64)(v_0_1_i_i346) & (u64)(255u));
+    v_3_i_i81_i_i689_i_i_i_i = v_0_i_i_i688_i_i_i_i < 128u;
+    v_0_sroa_0_0_i_i82_i_i690_i_v_i_i_i = v_3_i_i81_i_i689_i_i_i_i ? 2u : 3u;
+    v_0_sroa_0_0_i_i82_i_i690_i_i_i_i = (u64)((u64)(v_0_sroa_0_0_i_i82_i_i690_i_v_i_i_i) + (u64)(v_0_i_i_i688_i_i_i_i));
+    v_410 = (u64)((u64)(v_0_sroa_0_0_i_i82_i_i690_i_i_i_i) + (u64)(v_10_sroa_0_0_i79_i_i686_i_i_i_i));
+    v_3_i22_i_i691_i_i_i_i = v_410 < 128u;
+    if (v_3_i22_i_i691_i_i_i_i) { p_v_sink_i_i_i = 2u; goto L_AnyRef_quick_len_exit_i703_i_i_i_i; } else { goto L_bb4_i23_i_i692_i_i_i_i; }
+L_bb4_i23_i_i692_i_i_i_i:;
+    v_4_i24_i_i693_i_i_i_i = v_410 < 256u;
+    if (v_4_i24_i_i693_i_i_i_i) { p_v_sink_i_i_i = 3u; goto L_AnyRef_quick_len_exit_i703_i_i_i_i; } else { goto L_bb6_i25_i_i694_i_i_i_i; }
+L_bb6_i25_i_i694_i_i_i_i:;
+    v_5_i26_i_i695_i_i_i_i = v_410 < 65536u;
+    if (v_5_i26_i_i695_i_i_i_i) { p_v_sink_i_i_i = 4u; goto L_AnyRef_quick_len_exit_i703_i_i_i_i; } else { goto L_bb8_i27_i_i696_i_i_i_i; }
+L_bb8_i27_i_i696_i_i_i_i:;
+    v_6_i28_i_i697_i_i_i_i = v_410 < 16777216u;
+    v_i_i_i = v_6_i28_i_i697_i_i_i_i ? 5u : 6u;
+    { p_v_sink_i_i_i = v_i_i_i; goto L_AnyRef_quick_len_exit_i703_i_i_i_i; }
+L_AnyRef_quick_len_exit_i703_i_i_i_i:;
+    v_sink_i_i_i = p_v_sink_i_i_i;
+    v_411 = (u64)((u64)(v_sink_i_i_i) + (u64)(v_410));
+    v_10_i_i701_i_i_i_i = v_411 < 128u;
+    v_412 = (u64)((u64)(v_411) + (u64)(2u));
+    v_spec_select20_i_i702_i_i_i_i = v_10_i_i701_i_i_i_i ? v_412 : 4294967296ull;
+    { p_v_0_sroa_0_0_i705_i_i_i_i = v_spec_select20_i_i702_i_i_i_i; goto L_bb5_i_i46_i_i_i_i; }
+L_bb5_i_i46_i_i_i_i:;
+    v_0_sroa_0_0_i705_i_i_i_i = p_v_0_sroa_0_0_i705_i_i_i_i;
+    v_0_1_i97_i_i49_i_i_i_i = get_u64(v_5_i_sroa_20_0_made_i_sroa_idx);
+    v_413 = v_152 == (P)0;
+    if (v_413) { p_v_10_sroa_0_0_i_i_i76_i_i_i_i = 0u; goto L_EncodeValue_quick_value_len_exit_i_i75_i_i_i_i; } else { goto L_bb10_i51_i_i51_i_i_i_i; }
+L_bb10_i51_i_i51_i_i_i_i:;
+    v_0_1_i95_i_i53_i_i_i_i = get_u64(v_5_i_sroa_23_0_made_i_sroa_idx);
+    v_414 = v_151 == (P)0;
+    v_4_1_i89_i_i56_i_i_i_i = get_u64(v_5_i_sroa_26_0_made_i_sroa_idx);
+    v_5_i90_i_i57_i_i_i_i = v_4_1_i89_i_i56_i_i_i_i < 128u;
+    v_415 = (u64)((u64)(v_4_1_i89_i_i56_i_i_i_i) + (u64)(2u));
+    v_0_sroa_0_0_i91_i_i58_i_i_i_i = v_5_i90_i_i57_i_i_i_i ? v_415 : 4294967296ull;
+    v_10_sroa_0_0_i59_i_i60_i_i_i_i = v_414 ? 0u : v_0_sroa_0_0_i91_i_i58_i_i_i_i;
+    v_0_i102_i_i62_i_i_i_i = (u64)((u64)(v_0_1_i95_i_i53_i_i_i_i) & (u64)(255u));
+    v_3_i_i61_i_i63_i_i_i_i = v_0_i102_i_i62_i_i_i_i < 128u;
+    v_0_sroa_0_0_i_i62_i_i64_i_v_i_i_i = v_3_i_i61_i_i63_i_i_i_i ? 2u : 3u;
+    v_0_sroa_0_0_i_i62_i_i64_i_i_i_i = (u64)((u64)(v_0_sroa_0_0_i_i62_i_i64_i_v_i_i_i) + (u64)(v_0_i102_i_i62_i_i_i_i));
+    v_416 = (u64)((u64)(v_0_sroa_0_0_i_i62_i_i64_i_i_i_i) + (u64)(v_10_sroa_0_0_i59_i_i60_i_i_i_i));
+    v_3_i_i_i_i65_i_i_i_i = v_416 < 128u;
+    if (v_3_i_i_i_i65_i_i_i_i) { goto L_bb3_i_i_i_i100_i_i_i_i; } else { goto L_bb4_i_i_i_i66_i_i_i_i; }
+L_bb4_i_i_i_i66_i_i_i_i:;
+    v_4_i_i_i_i67_i_i_i_i = v_416 < 256u;
+    if (v_4_i_i_i_i67_i_i_i_i) { goto L_bb5_i_i_i_i99_i_i_i_i; } else { goto L_bb6_i_i_i_i68_i_i_i_i; }
+L_bb3_i_i_i_i100_i_i_i_i:;
+    v_417 = (u64)((u64)(v_416) + (u64)(2u));
+    { p_v_10_sroa_0_0_i_i_i76_i_i_i_i = v_417; goto L_EncodeValue_quick_value_len_exit_i_i75_i_i_i_i; }
+L_bb6_i_i_i_i68_i_i_i_i:;
+    v_5_i_i_i_i69_i_i_i_i = v_416 < 65536u;
+    if (v_5_i_i_i_i69_i_i_i_i) { goto L_bb7_i_i_i_i98_i_i_i_i; } else { goto L_bb8_i_i_i_i70_i_i_i_i; }
+L_bb5_i_i_i_i99_i_i_i_i:;
+    v_418 = (u64)((u64)(v_416) + (u64)(3u));
+    { p_v_10_sroa_0_0_i_i_i76_i_i_i_i = v_418; goto L_EncodeValue_quick_value_len_exit_i_i75_i_i_i_i; }
+L_bb8_i_i_i_i70_i_i_i_i:;
+    v_6_i_i_i_i71_i_i_i_i = v_416 < 16777216u;
+    if (v_6_i_i_i_i71_i_i_i_i) { goto L_bb9_i_i_i_i97_i_i_i_i; } else { goto L_bb10_i_i_i_i72_i_i_i_i; }
+L_bb7_i_i_i_i98_i_i_i_i:;
+    v_419 = (u64)((u64)(v_416) + (u64)(4u));
+    { p_v_10_sroa_0_0_i_i_i76_i_i_i_i = v_419; goto L_EncodeValue_quick_value_len_exit_i_i75_i_i_i_i; }
+L_bb10_i_i_i_i72_i_i_i_i:;
+    v_420 = (u64)((u64)(v_416) + (u64)(6u));
+    { p_v_10_sroa_0_0_i_i_i76_i_i_i_i = v_420; goto L_EncodeValue_quick_value_len_exit_i_i75_i_i_i_i; }
+L_bb9_i_i_i_i97_i_i_i_i:;
+    v_421 = (u64)((u64)(v_416) + (u64)(5u));
+    { p_v_10_sroa_0_0_i_i_i76_i_i_i_i = v_421; goto L_EncodeValue_quick_value_len_exit_i_i75_i_i_i_i; }
+L_EncodeValue_quick_value_len_exit_i_i75_i_i_i_i:;
+    v_10_sroa_0_0_i_i_i76_i_i_i_i = p_v_10_sroa_0_0_i_i_i76_i_i_i_i;
+    v_0_i104_i_i78_i_i_i_i = (u64)((u64)(v_0_1_i97_i_i49_i_i_i_i) & (u64)(255u));
+    v_3_i2_i_i_i79_i_i_i_i = v_0_i104_i_i78_i_i_i_i < 128u;
+    v_0_sroa_0_0_i3_i_i_i80_i_v_i_i_i = v_3_i2_i_i_i79_i_i_i_i ? 2u : 3u;
+    v_0_sroa_0_0_i3_i_i_i80_i_i_i_i = (u64)((u64)(v_0_sroa_0_0_i3_i_i_i80_i_v_i_i_i) + (u64)(v_0_i104_i_i78_i_i_i_i));
+    v_422 = (u64)((u64)(v_0_sroa_0_0_i3_i_i_i80_i_i_i_i) + (u64)(v_10_sroa_0_0_i_i_i76_i_i_i_i));
+    v_3_i_i_i81_i_i_i_i = v_422 < 128u;
+    if (v_3_i_i_i81_i_i_i_i) { p_v_sink61_i_i_i = 2u; goto L_AnyRef_quick_len_exit_i35_i_i_i_i; } else { goto L_bb4_i_i_i82_i_i_i_i; }
+L_bb4_i_i_i82_i_i_i_i:;
+    v_4_i_i_i83_i_i_i_i = v_422 < 256u;
+    if (v_4_i_i_i83_i_i_i_i) { p_v_sink61_i_i_i = 3u; goto L_AnyRef_quick_len_exit_i35_i_i_i_i; } else { goto L_bb6_i_i_i84_i_i_i_i; }
+L_bb6_i_i_i84_i_i_i_i:;
+    v_5_i_i_i85_i_i_i_i = v_422 < 65536u;
+    if (v_5_i_i_i85_i_i_i_i) { p_v_sink61_i_i_i = 4u; goto L_AnyRef_quick_len_exit_i35_i_i_i_i; } else { goto L_bb8_i_i_i86_i_i_i_i; }
+L_bb8_i_i_i86_i_i_i_i:;
+    v_6_i_i_i87_i_i_i_i = v_422 < 16777216u;
+    v_66_i_i_i = v_6_i_i_i87_i_i_i_i ? 5u : 6u;
+    { p_v_sink61_i_i_i = v_66_i_i_i; goto L_AnyRef_quick_len_exit_i35_i_i_i_i; }
+L_AnyRef_quick_len_exit_i35_i_i_i_i:;
+    v_sink61_i_i_i = p_v_sink61_i_i_i;
+    v_423 = (u64)((u64)(v_sink61_i_i_i) + (u64)(v_422));
+    v_31_i_i91_i_i_i_i = v_423 < 128u;
+    v_424 = (u64)((u64)(v_423) + (u64)(2u));
+    v_spec_select19_i_i92_i_i_i_i = v_31_i_i91_i_i_i_i ? v_424 : 4294967296ull;
+    v_425 = (u64)((u64)(v_spec_select19_i_i92_i_i_i_i) + (u64)(v_0_sroa_0_0_i705_i_i_i_i));
+    { p_v_0_sroa_0_0_i_i_i_i29_i = v_425; goto L_EncodeValue_quick_value_len_exit_i_i_i; }
+L_bb7_i_i_i_i27_i:;
+    if (v_327) { goto L_bb6_i266_i_i_i_i; } else { goto L_bb7_i140_i_i_i_i; }
+L_bb6_i266_i_i_i_i:;
+    if (v_0_sroa_0_0_i348671) { p_v_0_sroa_0_0_i170_i_i_i_i = 0u; goto L_bb6_i_i_i_i_i28_i; } else { goto L_bb2_i_i275_i_i_i_i; }
+L_bb2_i_i275_i_i_i_i:;
+    v_426 = v_180 == (P)0;
+    v_4_1_i_i_i281_i_i_i_i = get_u64(v_5_i_sroa_34_0_made_i_sroa_idx);
+    v_5_i84_i_i282_i_i_i_i = v_4_1_i_i_i281_i_i_i_i < 128u;
+    v_427 = (u64)((u64)(v_4_1_i_i_i281_i_i_i_i) + (u64)(2u));
+    v_0_sroa_0_0_i85_i_i283_i_i_i_i = v_5_i84_i_i282_i_i_i_i ? v_427 : 4294967296ull;
+    v_10_sroa_0_0_i79_i_i285_i_i_i_i = v_426 ? 0u : v_0_sroa_0_0_i85_i_i283_i_i_i_i;
+    v_0_i_i_i287_i_i_i_i = (u64)((u64)(v_0_1_i_i346) & (u64)(255u));
+    v_3_i_i81_i_i288_i_i_i_i = v_0_i_i_i287_i_i_i_i < 128u;
+    v_0_sroa_0_0_i_i82_i_i289_i_v_i_i_i = v_3_i_i81_i_i288_i_i_i_i ? 2u : 3u;
+    v_0_sroa_0_0_i_i82_i_i289_i_i_i_i = (u64)((u64)(v_0_sroa_0_0_i_i82_i_i289_i_v_i_i_i) + (u64)(v_0_i_i_i287_i_i_i_i));
+    v_428 = (u64)((u64)(v_0_sroa_0_0_i_i82_i_i289_i_i_i_i) + (u64)(v_10_sroa_0_0_i79_i_i285_i_i_i_i));
+    v_3_i22_i_i290_i_i_i_i = v_428 < 128u;
+    if (v_3_i22_i_i290_i_i_i_i) { p_v_sink62_i_i_i = 2u; goto L_AnyRef_quick_len_exit_i302_i_i_i_i; } else { goto L_bb4_i23_i_i291_i_i_i_i; }
+L_bb4_i23_i_i291_i_i_i_i:;
+    v_4_i24_i_i292_i_i_i_i = v_428 < 256u;
+    if (v_4_i24_i_i292_i_i_i_i) { p_v_sink62_i_i_i = 3u; goto L_AnyRef_quick_len_exit_i302_i_i_i_i; } else { goto L_bb6_i25_i_i293_i_i_i_i; }
+L_bb6_i25_i_i293_i_i_i_i:;
+    v_5_i26_i_i294_i_i_i_i = v_428 < 65536u;
+    if (v_5_i26_i_i294_i_i_i_i) { p_v_sink62_i_i_i = 4u; goto L_AnyRef_quick_len_exit_i302_i_i_i_i; } else { goto L_bb8_i27_i_i295_i_i_i_i; }
+L_bb8_i27_i_i295_i_i_i_i:;
+    v_6_i28_i_i296_i_i_i_i = v_428 < 16777216u;
+    v_67_i_i_i = v_6_i28_i_i296_i_i_i_i ? 5u : 6u;
+    { p_v_sink62_i_i_i = v_67_i_i_i; goto L_AnyRef_quick_len_exit_i302_i_i_i_i; }
+L_AnyRef_quick_len_exit_i302_i_i_i_i:;
+    v_sink62_i_i_i = p_v_sink62_i_i_i;
+    v_429 = (u64)((u64)(v_sink62_i_i_i) + (u64)(v_428));
+    v_10_i_i300_i_i_i_i = v_429 < 128u;
+    v_430 = (u64)((u64)(v_429) + (u64)(2u));
+    v_spec_select20_i_i301_i_i_i_i = v_10_i_i300_i_i_i_i ? v_430 : 4294967296ull;
+    { p_v_0_sroa_0_0_i170_i_i_i_i = v_spec_select20_i_i301_i_i_i_i; goto L_bb6_i_i_i_i_i28_i; }
+L_bb7_i140_i_i_i_i:;
+    if (v_0_sroa_0_0_i348671) { p_v_0_sroa_0_0_i437_i_i_i_i = 0u; goto L_bb5_i_i179_i_i_i_i; } else { goto L_bb2_i_i408_i_i_i_i; }
+L_bb2_i_i408_i_i_i_i:;
+    v_431 = v_180 == (P)0;
+    v_4_1_i_i_i414_i_i_i_i = get_u64(v_5_i_sroa_34_0_made_i_sroa_idx);
+    v_5_i84_i_i415_i_i_i_i = v_4_1_i_i_i414_i_i_i_i < 128u;
+    v_432 = (u64)((u64)(v_4_1_i_i_i414_i_i_i_i) + (u64)(2u));
+    v_0_sroa_0_0_i85_i_i416_i_i_i_i = v_5_i84_i_i415_i_i_i_i ? v_432 : 4294967296ull;
+    v_10_sroa_0_0_i79_i_i418_i_i_i_i = v_431 ? 0u : v_0_sroa_0_0_i85_i_i416_i_i_i_i;
+    v_0_i_i_i420_i_i_i_i = (u64)((u64)(v_0_1_i_i346) & (u64)(255u));
+    v_3_i_i81_i_i421_i_i_i_i = v_0_i_i_i420_i_i_i_i < 128u;
+    v_0_sroa_0_0_i_i82_i_i422_i_v_i_i_i = v_3_i_i81_i_i421_i_i_i_i ? 2u : 3u;
+    v_0_sroa_0_0_i_i82_i_i422_i_i_i_i = (u64)((u64)(v_0_sroa_0_0_i_i82_i_i422_i_v_i_i_i) + (u64)(v_0_i_i_i420_i_i_i_i));
+    v_433 = (u64)((u64)(v_0_sroa_0_0_i_i82_i_i422_i_i_i_i) + (u64)(v_10_sroa_0_0_i79_i_i418_i_i_i_i));
+    v_3_i22_i_i423_i_i_i_i = v_433 < 128u;
+    if (v_3_i22_i_i423_i_i_i_i) { p_v_sink63_i_i_i = 2u; goto L_AnyRef_quick_len_exit_i435_i_i_i_i; } else { goto L_bb4_i23_i_i424_i_i_i_i; }
+L_bb4_i23_i_i424_i_i_i_i:;
+    v_4_i24_i_i425_i_i_i_i = v_433 < 256u;
+    if (v_4_i24_i_i425_i_i_i_i) { p_v_sink63_i_i_i = 3u; goto L_AnyRef_quick_len_exit_i435_i_i_i_i; } else { goto L_bb6_i25_i_i426_i_i_i_i; }
+L_bb6_i25_i_i426_i_i_i_i:;
+    v_5_i26_i_i427_i_i_i_i = v_433 < 65536u;
+    if (v_5_i26_i_i427_i_i_i_i) { p_v_sink63_i_i_i = 4u; goto L_AnyRef_quick_len_exit_i435_i_i_i_i; } else { goto L_bb8_i27_i_i428_i_i_i_i; }
+L_bb8_i27_i_i428_i_i_i_i:;
+    v_6_i28_i_i429_i_i_i_i = v_433 < 16777216u;
+    v_68_i_i_i = v_6_i28_i_i429_i_i_i_i ? 5u : 6u;
+    { p_v_sink63_i_i_i = v_68_i_i_i; goto L_AnyRef_quick_len_exit_i435_i_i_i_i; }
+L_AnyRef_quick_len_exit_i435_i_i_i_i:;
+    v_sink63_i_i_i = p_v_sink63_i_i_i;
+    v_434 = (u64)((u64)(v_sink63_i_i_i) + (u64)(v_433));
+    v_10_i_i433_i_i_i_i = v_434 < 128u;
+    v_435 = (u64)((u64)(v_434) + (u64)(2u));
+    v_spec_select20_i_i434_i_i_i_i = v_10_i_i433_i_i_i_i ? v_435 : 4294967296ull;
+    { p_v_0_sroa_0_0_i437_i_i_i_i = v_spec_select20_i_i434_i_i_i_i; goto L_bb5_i_i179_i_i_i_i; }
+L_bb5_i_i179_i_i_i_i:;
+    v_0_sroa_0_0_i437_i_i_i_i = p_v_0_sroa_0_0_i437_i_i_i_i;
+    v_0_1_i97_i_i182_i_i_i_i = get_u64(v_5_i_sroa_20_0_made_i_sroa_idx);
+    v_436 = v_152 == (P)0;
+    if (v_436) { p_v_10_sroa_0_0_i_i_i209_i_i_i_i = 0u; goto L_EncodeValue_quick_value_len_exit_i_i208_i_i_i_i; } else { goto L_bb10_i51_i_i184_i_i_i_i; }
+L_bb10_i51_i_i184_i_i_i_i:;
+    v_0_1_i95_i_i186_i_i_i_i = get_u64(v_5_i_sroa_23_0_made_i_sroa_idx);
+    v_437 = v_151 == (P)0;
+    v_4_1_i89_i_i189_i_i_i_i = get_u64(v_5_i_sroa_26_0_made_i_sroa_idx);
+    v_5_i90_i_i190_i_i_i_i = v_4_1_i89_i_i189_i_i_i_i < 128u;
+    v_438 = (u64)((u64)(v_4_1_i89_i_i189_i_i_i_i) + (u64)(2u));
+    v_0_sroa_0_0_i91_i_i191_i_i_i_i = v_5_i90_i_i190_i_i_i_i ? v_438 : 4294967296ull;
+    v_10_sroa_0_0_i59_i_i193_i_i_i_i = v_437 ? 0u : v_0_sroa_0_0_i91_i_i191_i_i_i_i;
+    v_0_i102_i_i195_i_i_i_i = (u64)((u64)(v_0_1_i95_i_i186_i_i_i_i) & (u64)(255u));
+    v_3_i_i61_i_i196_i_i_i_i = v_0_i102_i_i195_i_i_i_i < 128u;
+    v_0_sroa_0_0_i_i62_i_i197_i_v_i_i_i = v_3_i_i61_i_i196_i_i_i_i ? 2u : 3u;
+    v_0_sroa_0_0_i_i62_i_i197_i_i_i_i = (u64)((u64)(v_0_sroa_0_0_i_i62_i_i197_i_v_i_i_i) + (u64)(v_0_i102_i_i195_i_i_i_i));
+    v_439 = (u64)((u64)(v_0_sroa_0_0_i_i62_i_i197_i_i_i_i) + (u64)(v_10_sroa_0_0_i59_i_i193_i_i_i_i));
+    v_3_i_i_i_i198_i_i_i_i = v_439 < 128u;
+    if (v_3_i_i_i_i198_i_i_i_i) { goto L_bb3_i_i_i_i233_i_i_i_i; } else { goto L_bb4_i_i_i_i199_i_i_i_i; }
+L_bb4_i_i_i_i199_i_i_i_i:;
+    v_4_i_i_i_i200_i_i_i_i = v_439 < 256u;
+    if (v_4_i_i_i_i200_i_i_i_i) { goto L_bb5_i_i_i_i232_i_i_i_i; } else { goto L_bb6_i_i_i_i201_i_i_i_i; }
+L_bb3_i_i_i_i233_i_i_i_i:;
+    v_440 = (u64)((u64)(v_439) + (u64)(2u));
+    { p_v_10_sroa_0_0_i_i_i209_i_i_i_i = v_440; goto L_EncodeValue_quick_value_len_exit_i_i208_i_i_i_i; }
+L_bb6_i_i_i_i201_i_i_i_i:;
+    v_5_i_i_i_i202_i_i_i_i = v_439 < 65536u;
+    if (v_5_i_i_i_i202_i_i_i_i) { goto L_bb7_i_i_i_i231_i_i_i_i; } else { goto L_bb8_i_i_i_i203_i_i_i_i; }
+L_bb5_i_i_i_i232_i_i_i_i:;
+    v_441 = (u64)((u64)(v_439) + (u64)(3u));
+    { p_v_10_sroa_0_0_i_i_i209_i_i_i_i = v_441; goto L_EncodeValue_quick_value_len_exit_i_i208_i_i_i_i; }
+L_bb8_i_i_i_i203_i_i_i_i:;
+    v_6_i_i_i_i204_i_i_i_i = v_439 < 16777216u;
+    if (v_6_i_i_i_i204_i_i_i_i) { goto L_bb9_i_i_i_i230_i_i_i_i; } else { goto L_bb10_i_i_i_i205_i_i_i_i; }
+L_bb7_i_i_i_i231_i_i_i_i:;
+    v_442 = (u64)((u64)(v_439) + (u64)(4u));
+    { p_v_10_sroa_0_0_i_i_i209_i_i_i_i = v_442; goto L_EncodeValue_quick_value_len_exit_i_i208_i_i_i_i; }
+L_bb10_i_i_i_i205_i_i_i_i:;
+    v_443 = (u64)((u64)(v_439) + (u64)(6u));
+    { p_v_10_sroa_0_0_i_i_i209_i_i_i_i = v_443; goto L_EncodeValue_quick_value_len_exit_i_i208_i_i_i_i; }
+L_bb9_i_i_i_i230_i_i_i_i:;
+    v_444 = (u64)((u64)(v_439) + (u64)(5u));
+    { p_v_10_sroa_0_0_i_i_i209_i_i_i_i = v_444; goto L_EncodeValue_quick_value_len_exit_i_i208_i_i_i_i; }
+L_EncodeValue_quick_value_len_exit_i_i208_i_i_i_i:;
+    v_10_sroa_0_0_i_i_i209_i_i_i_i = p_v_10_sroa_0_0_i_i_i209_i_i_i_i;
+    v_0_i104_i_i211_i_i_i_i = (u64)((u64)(v_0_1_i97_i_i182_i_i_i_i) & (u64)(255u));
+    v_3_i2_i_i_i212_i_i_i_i = v_0_i104_i_i211_i_i_i_i < 128u;
+    v_0_sroa_0_0_i3_i_i_i213_i_v_i_i_i = v_3_i2_i_i_i212_i_i_i_i ? 2u : 3u;
+    v_0_sroa_0_0_i3_i_i_i213_i_i_i_i = (u64)((u64)(v_0_sroa_0_0_i3_i_i_i213_i_v_i_i_i) + (u64)(v_0_i104_i_i211_i_i_i_i));
+    v_445 = (u64)((u64)(v_0_sroa_0_0_i3_i_i_i213_i_i_i_i) + (u64)(v_10_sroa_0_0_i_i_i209_i_i_i_i));
+    v_3_i_i_i214_i_i_i_i = v_445 < 128u;
+    if (v_3_i_i_i214_i_i_i_i) { p_v_sink64_i_i_i = 2u; goto L_AnyRef_quick_len_exit_i168_i_i_i_i; } else { goto L_bb4_i_i_i215_i_i_i_i; }
+L_bb4_i_i_i215_i_i_i_i:;
+    v_4_i_i_i216_i_i_i_i = v_445 < 256u;
+    if (v_4_i_i_i216_i_i_i_i) { p_v_sink64_i_i_i = 3u; goto L_AnyRef_quick_len_exit_i168_i_i_i_i; } else { goto L_bb6_i_i_i217_i_i_i_i; }
+L_bb6_i_i_i217_i_i_i_i:;
+    v_5_i_i_i218_i_i_i_i = v_445 < 65536u;
+    if (v_5_i_i_i218_i_i_i_i) { p_v_sink64_i_i_i = 4u; goto L_AnyRef_quick_len_exit_i168_i_i_i_i; } else { goto L_bb8_i_i_i219_i_i_i_i; }
+L_bb8_i_i_i219_i_i_i_i:;
+    v_6_i_i_i220_i_i_i_i = v_445 < 16777216u;
+    v_69_i_i_i = v_6_i_i_i220_i_i_i_i ? 5u : 6u;
+    { p_v_sink64_i_i_i = v_69_i_i_i; goto L_AnyRef_quick_len_exit_i168_i_i_i_i; }
+L_AnyRef_quick_len_exit_i168_i_i_i_i:;
+    v_sink64_i_i_i = p_v_sink64_i_i_i;
+    v_446 = (u64)((u64)(v_sink64_i_i_i) + (u64)(v_445));
+    v_31_i_i224_i_i_i_i = v_446 < 128u;
+    v_447 = (u64)((u64)(v_446) + (u64)(2u));
+    v_spec_select19_i_i225_i_i_i_i = v_31_i_i224_i_i_i_i ? v_447 : 4294967296ull;
+    v_448 = (u64)((u64)(v_spec_select19_i_i225_i_i_i_i) + (u64)(v_0_sroa_0_0_i437_i_i_i_i));
+    { p_v_0_sroa_0_0_i170_i_i_i_i = v_448; goto L_bb6_i_i_i_i_i28_i; }
+L_bb6_i_i_i_i_i28_i:;
+    v_0_sroa_0_0_i170_i_i_i_i = p_v_0_sroa_0_0_i170_i_i_i_i;
+    v_449 = v_parameters_sroa_0_0_i18_i == (P)0;
+    v_4_1_i86_i_i_i_i_i_i = get_u64(v_5_i_sroa_15_0_made_i_sroa_idx);
+    v_5_i87_i_i_i_i_i_i = v_4_1_i86_i_i_i_i_i_i < 128u;
+    v_450 = (u64)((u64)(v_4_1_i86_i_i_i_i_i_i) + (u64)(2u));
+    v_0_sroa_0_0_i88_i_i_i_i_i_i = v_5_i87_i_i_i_i_i_i ? v_450 : 4294967296ull;
+    v_10_sroa_0_0_i69_i_i_i_i_i_i = v_449 ? 0u : v_0_sroa_0_0_i88_i_i_i_i_i_i;
+    v_0_i100_i_i_i_i_i_i = (u64)((u64)(v_0_1_i_i) & (u64)(255u));
+    v_3_i_i70_i_i_i_i_i_i = v_0_i100_i_i_i_i_i_i < 128u;
+    v_0_sroa_0_0_i_i71_i_i_i_v_i_i_i = v_3_i_i70_i_i_i_i_i_i ? 2u : 3u;
+    v_0_sroa_0_0_i_i71_i_i_i_i_i_i = (u64)((u64)(v_0_sroa_0_0_i_i71_i_i_i_v_i_i_i) + (u64)(v_0_i100_i_i_i_i_i_i));
+    v_451 = (u64)((u64)(v_0_sroa_0_0_i_i71_i_i_i_i_i_i) + (u64)(v_10_sroa_0_0_i69_i_i_i_i_i_i));
+    v_3_i36_i_i_i_i_i_i = v_451 < 128u;
+    if (v_3_i36_i_i_i_i_i_i) { p_v_sink65_i_i_i = 2u; goto L_AnyRef_quick_len_exit_i_i_i_i_i; } else { goto L_bb4_i37_i_i_i_i_i_i; }
+L_bb4_i37_i_i_i_i_i_i:;
+    v_4_i38_i_i_i_i_i_i = v_451 < 256u;
+    if (v_4_i38_i_i_i_i_i_i) { p_v_sink65_i_i_i = 3u; goto L_AnyRef_quick_len_exit_i_i_i_i_i; } else { goto L_bb6_i39_i_i_i_i_i_i; }
+L_bb6_i39_i_i_i_i_i_i:;
+    v_5_i40_i_i_i_i_i_i = v_451 < 65536u;
+    if (v_5_i40_i_i_i_i_i_i) { p_v_sink65_i_i_i = 4u; goto L_AnyRef_quick_len_exit_i_i_i_i_i; } else { goto L_bb8_i41_i_i_i_i_i_i; }
+L_bb8_i41_i_i_i_i_i_i:;
+    v_6_i42_i_i_i_i_i_i = v_451 < 16777216u;
+    v_70_i_i_i = v_6_i42_i_i_i_i_i_i ? 5u : 6u;
+    { p_v_sink65_i_i_i = v_70_i_i_i; goto L_AnyRef_quick_len_exit_i_i_i_i_i; }
+L_AnyRef_quick_len_exit_i_i_i_i_i:;
+    v_sink65_i_i_i = p_v_sink65_i_i_i;
+    v_452 = (u64)((u64)(v_sink65_i_i_i) + (u64)(v_451));
+    v_33_i_i_i_i_i_i = v_452 < 128u;
+    v_453 = (u64)((u64)(v_452) + (u64)(2u));
+    v_spec_select_i_i_i_i_i_i = v_33_i_i_i_i_i_i ? v_453 : 4294967296ull;
+    v_454 = (u64)((u64)(v_spec_select_i_i_i_i_i_i) + (u64)(v_0_sroa_0_0_i170_i_i_i_i));
+    { p_v_0_sroa_0_0_i_i_i_i29_i = v_454; goto L_EncodeValue_quick_value_len_exit_i_i_i; }
+L_EncodeValue_quick_value_len_exit_i_i_i:;
+    v_0_sroa_0_0_i_i_i_i29_i = p_v_0_sroa_0_0_i_i_i_i29_i;
+    v_6_i_i_i_i = v_0_sroa_0_0_i_i_i_i29_i < 128u;
+    if (v_6_i_i_i_i) { p_v_0_sroa_0_0_i_i38_i_i_i = v_0_sroa_0_0_i_i_i_i29_i; goto L_bb4_i_i_i48_i; } else { goto L_bb5_i_i_i30_i; }
+L_bb5_i_i_i30_i:;
+    v_7_i_i_i31_i = v_0_sroa_0_0_i_i_i_i29_i < 256u;
+    if (v_7_i_i_i31_i) { goto L_bb6_i_i_i47_i; } else { goto L_bb7_i_i_i32_i; }
+L_bb4_i_i_i48_i:;
+    v_0_sroa_0_0_i_i38_i_i_i = p_v_0_sroa_0_0_i_i38_i_i_i;
+    v_455 = (u64)((u64)(v_0_sroa_0_0_i_i38_i_i_i) + (u64)(2u));
+    { p_v_0_sroa_31_0_in_i_i_ph_i_i = v_455; goto L_bb8_i_thread_i_i; }
+L_bb7_i_i_i32_i:;
+    v_8_i_i_i_i410 = v_0_sroa_0_0_i_i_i_i29_i < 65536u;
+    if (v_8_i_i_i_i410) { goto L_bb8_i_i_i_i513; } else { goto L_bb9_i_i_i_i; }
+L_bb6_i_i_i47_i:;
+    v_456 = (u64)((u64)(v_0_sroa_0_0_i_i_i_i29_i) + (u64)(3u));
+    { p_v_0_sroa_31_0_in_i_i_ph_i_i = v_456; goto L_bb8_i_thread_i_i; }
+L_bb9_i_i_i_i:;
+    v_9_i_i_i_i411 = v_0_sroa_0_0_i_i_i_i29_i < 16777216u;
+    if (v_9_i_i_i_i411) { goto L_bb10_i_i_i_i; } else { goto L_bb3_i_i_i_i412; }
+L_bb8_i_i_i_i513:;
+    v_457 = (u64)((u64)(v_0_sroa_0_0_i_i_i_i29_i) + (u64)(4u));
+    { p_v_0_sroa_31_0_in_i_i_ph_i_i = v_457; goto L_bb8_i_thread_i_i; }
+L_bb10_i_i_i_i:;
+    v_458 = (u64)((u64)(v_0_sroa_0_0_i_i_i_i29_i) + (u64)(5u));
+    { p_v_0_sroa_31_0_in_i_i_ph_i_i = v_458; goto L_bb8_i_thread_i_i; }
+L_bb3_i_i_i_i412:;
+    v_459 = (u64)((u64)(v_0_sroa_0_0_i_i_i_i29_i) + (u64)(6u));
+    v_10_i_i_i33_i = v_0_sroa_0_0_i_i_i_i29_i < 4294967290ull;
+    if (v_10_i_i_i33_i) { p_v_0_sroa_31_0_in_i_i_ph_i_i = v_459; goto L_bb8_i_thread_i_i; } else { goto L_bb8_i_i34_i; }
+L_bb8_i_thread_i_i:;
+    v_0_sroa_31_0_in_i_i_ph_i_i = p_v_0_sroa_31_0_in_i_i_ph_i_i;
+    v_0_sroa_31_0_insert_shift_i_i11_i_i = (u64)((u64)(v_0_sroa_31_0_in_i_i_ph_i_i) << (u64)((32u & 63)));
+    { p_v_sroa_09_0_insert_insert60_i_i_i = v_0_sroa_31_0_insert_shift_i_i11_i_i; goto L_EncodeValue_value_len_exit_i_i; }
+L_bb8_i_i34_i:;
+    v_460 = f_any_AnyRef(v_made_i, v_0_i_i);
+    v_trunc18_i_i_i_i = (u1)((v_460) & 1);
+    if (v_trunc18_i_i_i_i) { p_v_0_sroa_0_0_insert_insert_i167_i = v_460; goto L_bb3_i504; } else { p_v_sroa_09_0_insert_insert60_i_i_i = v_460; goto L_EncodeValue_value_len_exit_i_i; }
+L_EncodeValue_value_len_exit_i_i:;
+    v_sroa_09_0_insert_insert60_i_i_i = p_v_sroa_09_0_insert_insert60_i_i_i;
+    v_sroa_57_0_extract_shift_i_i_i_i = (u64)((u64)(v_sroa_09_0_insert_insert60_i_i_i) & (u64)(18446744069414584320ull));
+    v_11_1_i_i_i_i_i = v_sroa_09_0_insert_insert60_i_i_i > 18446744026464911359ull;
+    v_461 = (u64)((u64)(v_sroa_57_0_extract_shift_i_i_i_i) + (u64)(47244642048ull));
+    v_0_sroa_0_0_insert_insert_i_i_i_i_i = v_11_1_i_i_i_i_i ? 1793u : v_461;
+    v_sroa_4_0_extract_shift14_i_i_i_i = (u64)((u64)(v_0_sroa_0_0_insert_insert_i_i_i_i_i) & (u64)(18446744069414586112ull));
+    v_trunc_i_i413 = (u1)((v_0_sroa_0_0_insert_insert_i_i_i_i_i) & 1);
+    if (v_trunc_i_i413) { p_v_0_sroa_0_0_insert_insert_i167_i = v_sroa_4_0_extract_shift14_i_i_i_i; goto L_bb3_i504; } else { goto L_bb6_i35_i; }
+L_bb6_i35_i:;
+    v_sroa_5_0_extract_shift_i36_i = (u64)((u64)(v_0_sroa_0_0_insert_insert_i_i_i_i_i) >> (u64)((32u & 63)));
+    v_10_i_i_i414 = v_0_sroa_0_0_insert_insert_i_i_i_i_i < 549755813888ull;
+    if (v_10_i_i_i414) { p_v_sink_i7_i_i = 2u; goto L_Encode_encoded_len_exit_i; } else { goto L_bb4_i_i37_i; }
+L_bb4_i_i37_i:;
+    v_11_i_i38_i = v_0_sroa_0_0_insert_insert_i_i_i_i_i < 1099511627776ull;
+    if (v_11_i_i38_i) { p_v_sink_i7_i_i = 3u; goto L_Encode_encoded_len_exit_i; } else { goto L_bb6_i_i39_i; }
+L_bb6_i_i39_i:;
+    v_12_i_i40_i = v_0_sroa_0_0_insert_insert_i_i_i_i_i < 281474976710656ull;
+    if (v_12_i_i40_i) { p_v_sink_i7_i_i = 4u; goto L_Encode_encoded_len_exit_i; } else { goto L_bb8_i5_i_i; }
+L_bb8_i5_i_i:;
+    v_13_i_i41_i = v_0_sroa_0_0_insert_insert_i_i_i_i_i < 72057594037927936ull;
+    v_i6_i_i = v_13_i_i41_i ? 5u : 6u;
+    { p_v_sink_i7_i_i = v_i6_i_i; goto L_Encode_encoded_len_exit_i; }
+L_Encode_encoded_len_exit_thread_i:;
+    v_0_sroa_31_0_in_i_ph_i = p_v_0_sroa_31_0_in_i_ph_i;
+    v_0_sroa_31_0_insert_shift_i151_i = (u64)((u64)(v_0_sroa_31_0_in_i_ph_i) << (u64)((32u & 63)));
+    { p_v_0_sroa_0_0_insert_insert_i155_i = v_0_sroa_31_0_insert_shift_i151_i; goto L_bb4_i415; }
+L_Encode_encoded_len_exit_i:;
+    v_sink_i7_i_i = p_v_sink_i7_i_i;
+    v_462 = (u64)((u64)(v_sink_i7_i_i) + (u64)(v_sroa_5_0_extract_shift_i36_i));
+    v_14_i_i42_i = v_462 < 4294967296ull;
+    v_463 = (u64)((u64)(v_462) << (u64)((32u & 63)));
+    v_464 = (u64)((u64)(v_463) | (u64)(1792u));
+    v_0_sroa_0_0_insert_insert_i_i_i = v_14_i_i42_i ? v_464 : 1793u;
+    v_trunc_i = (u1)((v_0_sroa_0_0_insert_insert_i_i_i) & 1);
+    if (v_trunc_i) { p_v_0_sroa_0_0_insert_insert_i167_i = v_0_sroa_0_0_insert_insert_i_i_i; goto L_bb3_i504; } else { p_v_0_sroa_0_0_insert_insert_i155_i = v_0_sroa_0_0_insert_insert_i_i_i; goto L_bb4_i415; }
+L_bb4_i415:;
+    v_0_sroa_0_0_insert_insert_i155_i = p_v_0_sroa_0_0_insert_insert_i155_i;
+    v_sroa_5_0_extract_shift_i = (u64)((u64)(v_0_sroa_0_0_insert_insert_i155_i) >> (u64)((32u & 63)));
+    v_4_i_i = v_sroa_5_0_extract_shift_i > v_out_1;
+    if (v_4_i_i) { p_v_492 = 15u; goto L_any_AnyRef_exit_i; } else { goto L_bb7_i50_i; }
+L_bb7_i50_i:;
+    put_P(v_writer_i_i393, v_out_0);
+    v_465 = v_writer_i_i393 + 8;
+    put_u64(v_465, v_sroa_5_0_extract_shift_i);
+    v_466 = v_writer_i_i393 + 16;
+    put_u64(v_466, v_sroa_5_0_extract_shift_i);
+    f_EncodeValue_prepend_value(v_made_i, v_0_i_i, v_writer_i_i393);
+    v_15_1_i_i_i417 = get_u64(v_465);
+    v_14_i_i52_i = get_u64(v_466);
+    v_7_i_i53_i = (u64)((u64)(v_15_1_i_i_i417) - (u64)(v_14_i_i52_i));
+    v_16_i_i_i418 = (u32)(v_7_i_i53_i);
+    v_4_i_i_i_i419 = v_16_i_i_i418 < 128u;
+    if (v_4_i_i_i_i419) { goto L_bb1_i_i_i_i496; } else { goto L_bb2_i_i_i55_i; }
+L_bb2_i_i_i55_i:;
+    v_9_i_i_i56_i = v_16_i_i_i418 < 256u;
+    if (v_9_i_i_i56_i) { goto L_bb3_i_i_i69_i; } else { goto L_bb4_i_i_i57_i; }
+L_bb1_i_i_i_i496:;
+    v_8_i_i_i70_i = (u16)(v_7_i_i53_i);
+    v_48_0_i_i_i_i497 = get_P(v_writer_i_i393);
+    v_start1_i_i_i_i_i = (u64)((u64)(v_14_i_i52_i) + (u64)(18446744073709551614ull));
+    v_8_not_i_i_i_i_i498 = v_14_i_i52_i > v_15_1_i_i_i417;
+    if (v_8_not_i_i_i_i_i498) { goto L_bb4_i_i_i_i72_i; } else { goto L_bb2_i_i_i_i_i499; }
+L_bb4_i_i_i_i72_i:;
     TRAP();
-L_bb5_i:;
-    switch (v_11_sroa_0_0_copyload) {
-    case 0u: { p_v_0_sroa_0_0 = 1u; goto L_bb11; }
-    case 1u: { goto L_bb17_i_i; }
-    case 2u: { goto L_bb16_i_i138; }
-    case 3u: { goto L_bb15_i_i137; }
-    case 4u: { goto L_bb14_i_i136; }
-    case 5u: { goto L_bb13_i_i135; }
-    case 6u: { goto L_bb12_i_i134; }
-    case 7u: { goto L_bb11_i_i133; }
-    case 8u: { goto L_bb10_i_i132; }
-    case 9u: { goto L_bb9_i_i; }
-    case 10u: { goto L_bb8_i_i; }
-    case 11u: { goto L_bb7_i_i; }
-    case 12u: { goto L_bb6_i_i; }
-    case 13u: { goto L_bb5_i_i131; }
-    case 14u: { goto L_bb4_i_i130; }
-    case 15u: { goto L_bb3_i_i129; }
-    case 16u: { goto L_bb2_i_i128; }
-    default: { goto L_default_unreachable_i_i; }
-    }
-L_default_unreachable_i_i:;
     TRAP();
-L_bb17_i_i:;
-    { p_v_0_sroa_0_0 = 2u; goto L_bb11; }
-L_bb16_i_i138:;
-    { p_v_0_sroa_0_0 = 3u; goto L_bb11; }
-L_bb15_i_i137:;
-    { p_v_0_sroa_0_0 = 4u; goto L_bb11; }
-L_bb14_i_i136:;
-    { p_v_0_sroa_0_0 = 5u; goto L_bb11; }
-L_bb13_i_i135:;
-    { p_v_0_sroa_0_0 = 6u; goto L_bb11; }
-L_bb12_i_i134:;
-    { p_v_0_sroa_0_0 = 7u; goto L_bb11; }
-L_bb11_i_i133:;
-    { p_v_0_sroa_0_0 = 8u; goto L_bb11; }
-L_bb10_i_i132:;
-    { p_v_0_sroa_0_0 = 9u; goto L_bb11; }
-L_bb9_i_i:;
-    { p_v_0_sroa_0_0 = 10u; goto L_bb11; }
-L_bb8_i_i:;
-    { p_v_0_sroa_0_0 = 11u; goto L_bb11; }
-L_bb7_i_i:;
-    { p_v_0_sroa_0_0 = 12u; goto L_bb11; }
-L_bb6_i_i:;
-    { p_v_0_sroa_0_0 = 13u; goto L_bb11; }
-L_bb5_i_i131:;
-    { p_v_0_sroa_0_0 = 14u; goto L_bb11; }
-L_bb4_i_i130:;
-    { p_v_0_sroa_0_0 = 15u; goto L_bb11; }
-L_bb3_i_i129:;
-    { p_v_0_sroa_0_0 = 16u; goto L_bb11; }
-L_bb2_i_i128:;
-    { p_v_0_sroa_0_0 = 17u; goto L_bb11; }
-L_bb3_i127:;
-    { p_v_0_sroa_0_0 = 19u; goto L_bb11; }
-L_bb2_i124:;
-    { p_v_0_sroa_0_0 = 20u; goto L_bb11; }
-L_bb11:;
-    v_0_sroa_0_0 = p_v_0_sroa_0_0;
-    { p_v_0_sroa_0_1 = v_0_sroa_0_0; goto L_bb5; }
+L_bb2_i_i_i_i_i499:;
+    v_15_not_i_i_i_i_i500 = v_14_i_i52_i < 2u;
+    if (v_15_not_i_i_i_i_i500) { goto L_bb7_i_i_i_i71_i; } else { goto L_copy_from_slice_pkcs1_c_exit_i_i501; }
+L_bb7_i_i_i_i71_i:;
+    TRAP();
+    TRAP();
+L_copy_from_slice_pkcs1_c_exit_i_i501:;
+    v_467 = v_48_0_i_i_i_i497 + (int64_t)(v_start1_i_i_i_i_i);
+    v_7_i_i_sroa_0_sroa_4_0_insert_shift_i_i502 = (u16)((u32)(v_8_i_i_i70_i) << (u32)((8u & 31)));
+    v_7_i_i_sroa_0_sroa_0_0_insert_insert_i_i503 = (u16)((u32)(v_7_i_i_sroa_0_sroa_4_0_insert_shift_i_i502) | (u32)(48u));
+    put_u16(v_467, v_7_i_i_sroa_0_sroa_0_0_insert_insert_i_i503);
+    { p_v_48_0_i_i_i = v_48_0_i_i_i_i497; p_v_11_i27_i_i = v_start1_i_i_i_i_i; goto L_bb8_i61_i; }
+L_bb4_i_i_i57_i:;
+    v_14_i_i_i58_i = v_16_i_i_i418 < 65536u;
+    if (v_14_i_i_i58_i) { goto L_bb5_i_i_i67_i; } else { goto L_bb6_i_i_i59_i; }
+L_bb3_i_i_i69_i:;
+    v_13_i_i_i_i487 = (u8)(v_7_i_i53_i);
+    v_51_0_i_i_i_i488 = get_P(v_writer_i_i393);
+    v_start1_i11_i_i_i_i = (u64)((u64)(v_14_i_i52_i) + (u64)(18446744073709551613ull));
+    v_8_not_i12_i_i_i_i489 = v_14_i_i52_i > v_15_1_i_i_i417;
+    if (v_8_not_i12_i_i_i_i489) { goto L_bb4_i20_i_i_i_i495; } else { goto L_bb2_i13_i_i_i_i490; }
+L_bb4_i20_i_i_i_i495:;
+    TRAP();
+    TRAP();
+L_bb2_i13_i_i_i_i490:;
+    v_15_not_i15_i_i_i_i491 = v_14_i_i52_i < 3u;
+    if (v_15_not_i15_i_i_i_i491) { goto L_bb7_i19_i_i_i_i494; } else { goto L_copy_from_slice_pkcs1_c_exit138_i_i; }
+L_bb7_i19_i_i_i_i494:;
+    TRAP();
+    TRAP();
+L_copy_from_slice_pkcs1_c_exit138_i_i:;
+    v_468 = v_51_0_i_i_i_i488 + (int64_t)(v_start1_i11_i_i_i_i);
+    put_u8(v_468, 48u);
+    v_12_i_i_sroa_4_0_sroa_idx_i_i492 = v_468 + 1;
+    put_u8(v_12_i_i_sroa_4_0_sroa_idx_i_i492, 129u);
+    v_12_i_i_sroa_5_0_sroa_idx_i_i493 = v_468 + 2;
+    put_u8(v_12_i_i_sroa_5_0_sroa_idx_i_i493, v_13_i_i_i_i487);
+    { p_v_48_0_i_i_i = v_51_0_i_i_i_i488; p_v_11_i27_i_i = v_start1_i11_i_i_i_i; goto L_bb8_i61_i; }
+L_bb6_i_i_i59_i:;
+    v_22_i_i_i_i420 = v_16_i_i_i418 < 16777216u;
+    if (v_22_i_i_i_i420) { goto L_bb7_i_i_i65_i; } else { goto L_bb8_i_i_i60_i; }
+L_bb5_i_i_i67_i:;
+    v_54_0_i_i_i_i480 = get_P(v_writer_i_i393);
+    v_start1_i26_i_i_i_i = (u64)((u64)(v_14_i_i52_i) + (u64)(18446744073709551612ull));
+    v_8_not_i27_i_i_i_i481 = v_14_i_i52_i > v_15_1_i_i_i417;
+    if (v_8_not_i27_i_i_i_i481) { goto L_bb4_i35_i_i_i_i486; } else { goto L_bb2_i28_i_i_i_i482; }
+L_bb4_i35_i_i_i_i486:;
+    TRAP();
+    TRAP();
+L_bb2_i28_i_i_i_i482:;
+    v_15_not_i30_i_i_i_i483 = v_14_i_i52_i < 4u;
+    if (v_15_not_i30_i_i_i_i483) { goto L_bb7_i34_i_i_i_i485; } else { goto L_copy_from_slice_pkcs1_c_exit141_i_i; }
+L_bb7_i34_i_i_i_i485:;
+    TRAP();
+    TRAP();
+L_copy_from_slice_pkcs1_c_exit141_i_i:;
+    v_469 = v_54_0_i_i_i_i480 + (int64_t)(v_start1_i26_i_i_i_i);
+    v_470 = (u32)((u32)(v_16_i_i_i418) | (u32)(813826048u));
+    v_17_i_i_sroa_0_sroa_0_0_insert_insert_i_i484 = TURNED(32, v_470);
+    put_u32(v_469, v_17_i_i_sroa_0_sroa_0_0_insert_insert_i_i484);
+    { p_v_48_0_i_i_i = v_54_0_i_i_i_i480; p_v_11_i27_i_i = v_start1_i26_i_i_i_i; goto L_bb8_i61_i; }
+L_bb8_i_i_i60_i:;
+    v_371_i_i_i_i421 = (u64)((u64)(v_7_i_i53_i) >> (u64)((24u & 63)));
+    v_36_i_i_i_i422 = (u8)(v_371_i_i_i_i421);
+    v_402_i_i_i_i423 = (u64)((u64)(v_7_i_i53_i) >> (u64)((16u & 63)));
+    v_38_i_i_i_i424 = (u8)(v_402_i_i_i_i423);
+    v_433_i_i_i_i425 = (u64)((u64)(v_7_i_i53_i) >> (u64)((8u & 63)));
+    v_41_i_i_i_i426 = (u8)(v_433_i_i_i_i425);
+    v_44_i_i_i_i427 = (u8)(v_7_i_i53_i);
+    v_60_0_i_i_i_i428 = get_P(v_writer_i_i393);
+    v_start1_i56_i_i_i_i = (u64)((u64)(v_14_i_i52_i) + (u64)(18446744073709551610ull));
+    v_8_not_i57_i_i_i_i429 = v_14_i_i52_i > v_15_1_i_i_i417;
+    if (v_8_not_i57_i_i_i_i429) { goto L_bb4_i65_i_i_i_i465; } else { goto L_bb2_i58_i_i_i_i430; }
+L_bb4_i65_i_i_i_i465:;
+    TRAP();
+    TRAP();
+L_bb2_i58_i_i_i_i430:;
+    v_15_not_i60_i_i_i_i431 = v_14_i_i52_i < 6u;
+    if (v_15_not_i60_i_i_i_i431) { goto L_bb7_i64_i_i_i_i464; } else { goto L_copy_from_slice_pkcs1_c_exit144_i_i; }
+L_bb7_i64_i_i_i_i464:;
+    TRAP();
+    TRAP();
+L_copy_from_slice_pkcs1_c_exit144_i_i:;
+    v_471 = v_60_0_i_i_i_i428 + (int64_t)(v_start1_i56_i_i_i_i);
+    put_u8(v_471, 48u);
+    v_35_i_i_sroa_4_0_sroa_idx_i_i432 = v_471 + 1;
+    put_u8(v_35_i_i_sroa_4_0_sroa_idx_i_i432, 132u);
+    v_35_i_i_sroa_5_0_sroa_idx_i_i433 = v_471 + 2;
+    put_u8(v_35_i_i_sroa_5_0_sroa_idx_i_i433, v_36_i_i_i_i422);
+    v_35_i_i_sroa_6_0_sroa_idx_i_i434 = v_471 + 3;
+    put_u8(v_35_i_i_sroa_6_0_sroa_idx_i_i434, v_38_i_i_i_i424);
+    v_35_i_i_sroa_7_0_sroa_idx_i_i435 = v_471 + 4;
+    put_u8(v_35_i_i_sroa_7_0_sroa_idx_i_i435, v_41_i_i_i_i426);
+    v_35_i_i_sroa_8_0_sroa_idx_i_i436 = v_471 + 5;
+    put_u8(v_35_i_i_sroa_8_0_sroa_idx_i_i436, v_44_i_i_i_i427);
+    { p_v_48_0_i_i_i = v_60_0_i_i_i_i428; p_v_11_i27_i_i = v_start1_i56_i_i_i_i; goto L_bb8_i61_i; }
+L_bb7_i_i_i65_i:;
+    v_274_i_i_i_i466 = (u64)((u64)(v_7_i_i53_i) >> (u64)((16u & 63)));
+    v_26_i_i_i_i467 = (u8)(v_274_i_i_i_i466);
+    v_305_i_i_i_i468 = (u64)((u64)(v_7_i_i53_i) >> (u64)((8u & 63)));
+    v_28_i_i_i_i469 = (u8)(v_305_i_i_i_i468);
+    v_31_i_i_i66_i = (u8)(v_7_i_i53_i);
+    v_57_0_i_i_i_i470 = get_P(v_writer_i_i393);
+    v_start1_i41_i_i_i_i = (u64)((u64)(v_14_i_i52_i) + (u64)(18446744073709551611ull));
+    v_8_not_i42_i_i_i_i471 = v_14_i_i52_i > v_15_1_i_i_i417;
+    if (v_8_not_i42_i_i_i_i471) { goto L_bb4_i50_i_i_i_i479; } else { goto L_bb2_i43_i_i_i_i472; }
+L_bb4_i50_i_i_i_i479:;
+    TRAP();
+    TRAP();
+L_bb2_i43_i_i_i_i472:;
+    v_15_not_i45_i_i_i_i473 = v_14_i_i52_i < 5u;
+    if (v_15_not_i45_i_i_i_i473) { goto L_bb7_i49_i_i_i_i478; } else { goto L_copy_from_slice_pkcs1_c_exit147_i_i; }
+L_bb7_i49_i_i_i_i478:;
+    TRAP();
+    TRAP();
+L_copy_from_slice_pkcs1_c_exit147_i_i:;
+    v_472 = v_57_0_i_i_i_i470 + (int64_t)(v_start1_i41_i_i_i_i);
+    put_u8(v_472, 48u);
+    v_25_i_i_sroa_4_0_sroa_idx_i_i474 = v_472 + 1;
+    put_u8(v_25_i_i_sroa_4_0_sroa_idx_i_i474, 131u);
+    v_25_i_i_sroa_5_0_sroa_idx_i_i475 = v_472 + 2;
+    put_u8(v_25_i_i_sroa_5_0_sroa_idx_i_i475, v_26_i_i_i_i467);
+    v_25_i_i_sroa_6_0_sroa_idx_i_i476 = v_472 + 3;
+    put_u8(v_25_i_i_sroa_6_0_sroa_idx_i_i476, v_28_i_i_i_i469);
+    v_25_i_i_sroa_7_0_sroa_idx_i_i477 = v_472 + 4;
+    put_u8(v_25_i_i_sroa_7_0_sroa_idx_i_i477, v_31_i_i_i66_i);
+    { p_v_48_0_i_i_i = v_57_0_i_i_i_i470; p_v_11_i27_i_i = v_start1_i41_i_i_i_i; goto L_bb8_i61_i; }
+L_bb8_i61_i:;
+    v_48_0_i_i_i = p_v_48_0_i_i_i;
+    v_11_i27_i_i = p_v_11_i27_i_i;
+    v_before_neg_i28_i_i = (u64)((u64)(v_11_i27_i_i) - (u64)(v_15_1_i_i_i417));
+    v_8_not_i_i_i62_i = v_11_i27_i_i > v_15_1_i_i_i417;
+    if (v_8_not_i_i_i62_i) { goto L_bb4_i_i152_i_i; } else { goto L_bb2_i_i150_i_i; }
+L_bb4_i_i152_i_i:;
+    TRAP();
+    TRAP();
+L_bb2_i_i150_i_i:;
+    v_15_not_i_i_i63_i = v_11_i27_i_i < 9u;
+    if (v_15_not_i_i_i63_i) { goto L_bb7_i_i151_i_i; } else { goto L_EncodeValue_prepend_value_exit_i_i; }
+L_bb7_i_i151_i_i:;
+    TRAP();
+    TRAP();
+L_EncodeValue_prepend_value_exit_i_i:;
+    v_start1_i_i_i64_i = (u64)((u64)(v_11_i27_i_i) + (u64)(18446744073709551607ull));
+    v_473 = v_48_0_i_i_i + (int64_t)(v_start1_i_i_i64_i);
+    copy(v_473, AT(f_alloc_bc720b20c67523d2f61b658cd0e8ce6e), 9u);
+    v_7_i31_i_i437 = (u64)((u64)(v_15_1_i_i_i417) - (u64)(v_start1_i_i_i64_i));
+    v_6_i32_i_i = (u64)((u64)(v_7_i31_i_i437) + (u64)(v_before_neg_i28_i_i));
+    v_16_i33_i_i = (u32)(v_6_i32_i_i);
+    v_4_i_i35_i_i = v_16_i33_i_i < 128u;
+    if (v_4_i_i35_i_i) { goto L_bb1_i_i118_i_i; } else { goto L_bb2_i_i36_i_i; }
+L_bb2_i_i36_i_i:;
+    v_9_i_i37_i_i = v_16_i33_i_i < 256u;
+    if (v_9_i_i37_i_i) { goto L_bb3_i_i102_i_i; } else { goto L_bb4_i_i38_i_i; }
+L_bb1_i_i118_i_i:;
+    v_15_not_i_i_i127_i_i = v_start1_i_i_i64_i < 2u;
+    if (v_15_not_i_i_i127_i_i) { goto L_bb7_i_i_i132_i_i; } else { goto L_copy_from_slice_pkcs1_c_exit155_i_i; }
+L_bb7_i_i_i132_i_i:;
+    TRAP();
+    TRAP();
+L_copy_from_slice_pkcs1_c_exit155_i_i:;
+    v_start1_i_i_i123_i_i = (u64)((u64)(v_11_i27_i_i) + (u64)(18446744073709551605ull));
+    v_8_i_i119_i_i = (u16)(v_6_i32_i_i);
+    v_474 = v_48_0_i_i_i + (int64_t)(v_start1_i_i_i123_i_i);
+    v_7_i_i25_sroa_0_sroa_4_0_insert_shift_i_i = (u16)((u32)(v_8_i_i119_i_i) << (u32)((8u & 31)));
+    v_7_i_i25_sroa_0_sroa_0_0_insert_insert_i_i = (u16)((u32)(v_7_i_i25_sroa_0_sroa_4_0_insert_shift_i_i) | (u32)(6u));
+    put_u16(v_474, v_7_i_i25_sroa_0_sroa_0_0_insert_insert_i_i);
+    { p_v_start1_i_i_i123_sink_i_i = v_start1_i_i_i123_i_i; goto L_EncodeValue_prepend_value_exit_i; }
+L_bb4_i_i38_i_i:;
+    v_14_i_i39_i_i = v_16_i33_i_i < 65536u;
+    if (v_14_i_i39_i_i) { goto L_bb5_i_i84_i_i; } else { goto L_bb6_i_i40_i_i; }
+L_bb3_i_i102_i_i:;
+    v_15_not_i15_i_i111_i_i = v_start1_i_i_i64_i < 3u;
+    if (v_15_not_i15_i_i111_i_i) { goto L_bb7_i19_i_i116_i_i; } else { goto L_copy_from_slice_pkcs1_c_exit158_i_i; }
+L_bb7_i19_i_i116_i_i:;
+    TRAP();
+    TRAP();
+L_copy_from_slice_pkcs1_c_exit158_i_i:;
+    v_start1_i11_i_i107_i_i = (u64)((u64)(v_11_i27_i_i) + (u64)(18446744073709551604ull));
+    v_13_i_i103_i_i = (u8)(v_6_i32_i_i);
+    v_475 = v_48_0_i_i_i + (int64_t)(v_start1_i11_i_i107_i_i);
+    put_u8(v_475, 6u);
+    v_12_i_i24_sroa_4_0_sroa_idx_i_i = v_475 + 1;
+    put_u8(v_12_i_i24_sroa_4_0_sroa_idx_i_i, 129u);
+    v_12_i_i24_sroa_5_0_sroa_idx_i_i = v_475 + 2;
+    put_u8(v_12_i_i24_sroa_5_0_sroa_idx_i_i, v_13_i_i103_i_i);
+    { p_v_start1_i_i_i123_sink_i_i = v_start1_i11_i_i107_i_i; goto L_EncodeValue_prepend_value_exit_i; }
+L_bb6_i_i40_i_i:;
+    v_22_i_i41_i_i = v_16_i33_i_i < 16777216u;
+    if (v_22_i_i41_i_i) { goto L_bb7_i_i64_i_i; } else { goto L_bb8_i_i42_i_i; }
+L_bb5_i_i84_i_i:;
+    v_15_not_i30_i_i95_i_i = v_start1_i_i_i64_i < 4u;
+    if (v_15_not_i30_i_i95_i_i) { goto L_bb7_i34_i_i100_i_i; } else { goto L_copy_from_slice_pkcs1_c_exit161_i_i; }
+L_bb7_i34_i_i100_i_i:;
+    TRAP();
+    TRAP();
+L_copy_from_slice_pkcs1_c_exit161_i_i:;
+    v_start1_i26_i_i91_i_i = (u64)((u64)(v_11_i27_i_i) + (u64)(18446744073709551603ull));
+    v_476 = v_48_0_i_i_i + (int64_t)(v_start1_i26_i_i91_i_i);
+    v_477 = (u32)((u32)(v_16_i33_i_i) | (u32)(109182976u));
+    v_17_i_i23_sroa_0_sroa_0_0_insert_insert_i_i = TURNED(32, v_477);
+    put_u32(v_476, v_17_i_i23_sroa_0_sroa_0_0_insert_insert_i_i);
+    { p_v_start1_i_i_i123_sink_i_i = v_start1_i26_i_i91_i_i; goto L_EncodeValue_prepend_value_exit_i; }
+L_bb8_i_i42_i_i:;
+    v_15_not_i60_i_i57_i_i = v_start1_i_i_i64_i < 6u;
+    if (v_15_not_i60_i_i57_i_i) { goto L_bb7_i64_i_i62_i_i; } else { goto L_copy_from_slice_pkcs1_c_exit164_i_i; }
+L_bb7_i64_i_i62_i_i:;
+    TRAP();
+    TRAP();
+L_copy_from_slice_pkcs1_c_exit164_i_i:;
+    v_start1_i56_i_i53_i_i = (u64)((u64)(v_11_i27_i_i) + (u64)(18446744073709551601ull));
+    v_44_i_i49_i_i = (u8)(v_6_i32_i_i);
+    v_433_i_i47_i_i = (u64)((u64)(v_6_i32_i_i) >> (u64)((8u & 63)));
+    v_41_i_i48_i_i = (u8)(v_433_i_i47_i_i);
+    v_402_i_i45_i_i = (u64)((u64)(v_6_i32_i_i) >> (u64)((16u & 63)));
+    v_38_i_i46_i_i = (u8)(v_402_i_i45_i_i);
+    v_371_i_i43_i_i = (u64)((u64)(v_6_i32_i_i) >> (u64)((24u & 63)));
+    v_36_i_i44_i_i = (u8)(v_371_i_i43_i_i);
+    v_478 = v_48_0_i_i_i + (int64_t)(v_start1_i56_i_i53_i_i);
+    put_u8(v_478, 6u);
+    v_35_i_i21_sroa_4_0_sroa_idx_i_i = v_478 + 1;
+    put_u8(v_35_i_i21_sroa_4_0_sroa_idx_i_i, 132u);
+    v_35_i_i21_sroa_5_0_sroa_idx_i_i = v_478 + 2;
+    put_u8(v_35_i_i21_sroa_5_0_sroa_idx_i_i, v_36_i_i44_i_i);
+    v_35_i_i21_sroa_6_0_sroa_idx_i_i = v_478 + 3;
+    put_u8(v_35_i_i21_sroa_6_0_sroa_idx_i_i, v_38_i_i46_i_i);
+    v_35_i_i21_sroa_7_0_sroa_idx_i_i = v_478 + 4;
+    put_u8(v_35_i_i21_sroa_7_0_sroa_idx_i_i, v_41_i_i48_i_i);
+    v_35_i_i21_sroa_8_0_sroa_idx_i_i = v_478 + 5;
+    put_u8(v_35_i_i21_sroa_8_0_sroa_idx_i_i, v_44_i_i49_i_i);
+    { p_v_start1_i_i_i123_sink_i_i = v_start1_i56_i_i53_i_i; goto L_EncodeValue_prepend_value_exit_i; }
+L_bb7_i_i64_i_i:;
+    v_15_not_i45_i_i77_i_i = v_start1_i_i_i64_i < 5u;
+    if (v_15_not_i45_i_i77_i_i) { goto L_bb7_i49_i_i82_i_i; } else { goto L_copy_from_slice_pkcs1_c_exit167_i_i; }
+L_bb7_i49_i_i82_i_i:;
+    TRAP();
+    TRAP();
+L_copy_from_slice_pkcs1_c_exit167_i_i:;
+    v_start1_i41_i_i73_i_i = (u64)((u64)(v_11_i27_i_i) + (u64)(18446744073709551602ull));
+    v_31_i_i69_i_i = (u8)(v_6_i32_i_i);
+    v_305_i_i67_i_i = (u64)((u64)(v_6_i32_i_i) >> (u64)((8u & 63)));
+    v_28_i_i68_i_i = (u8)(v_305_i_i67_i_i);
+    v_274_i_i65_i_i = (u64)((u64)(v_6_i32_i_i) >> (u64)((16u & 63)));
+    v_26_i_i66_i_i = (u8)(v_274_i_i65_i_i);
+    v_479 = v_48_0_i_i_i + (int64_t)(v_start1_i41_i_i73_i_i);
+    put_u8(v_479, 6u);
+    v_25_i_i22_sroa_4_0_sroa_idx_i_i = v_479 + 1;
+    put_u8(v_25_i_i22_sroa_4_0_sroa_idx_i_i, 131u);
+    v_25_i_i22_sroa_5_0_sroa_idx_i_i = v_479 + 2;
+    put_u8(v_25_i_i22_sroa_5_0_sroa_idx_i_i, v_26_i_i66_i_i);
+    v_25_i_i22_sroa_6_0_sroa_idx_i_i = v_479 + 3;
+    put_u8(v_25_i_i22_sroa_6_0_sroa_idx_i_i, v_28_i_i68_i_i);
+    v_25_i_i22_sroa_7_0_sroa_idx_i_i = v_479 + 4;
+    put_u8(v_25_i_i22_sroa_7_0_sroa_idx_i_i, v_31_i_i69_i_i);
+    { p_v_start1_i_i_i123_sink_i_i = v_start1_i41_i_i73_i_i; goto L_EncodeValue_prepend_value_exit_i; }
+L_EncodeValue_prepend_value_exit_i:;
+    v_start1_i_i_i123_sink_i_i = p_v_start1_i_i_i123_sink_i_i;
+    v_7_i5_i = (u64)((u64)(v_15_1_i_i_i417) - (u64)(v_start1_i_i_i123_sink_i_i));
+    v_16_i_i439 = (u32)(v_7_i5_i);
+    v_4_i_i_i440 = v_16_i_i439 < 128u;
+    if (v_4_i_i_i440) { goto L_bb1_i_i_i459; } else { goto L_bb2_i_i_i441; }
+L_bb2_i_i_i441:;
+    v_9_i_i_i442 = v_16_i_i439 < 256u;
+    if (v_9_i_i_i442) { goto L_bb3_i_i_i458; } else { goto L_bb4_i_i_i443; }
+L_bb1_i_i_i459:;
+    v_8_i_i_i460 = (u16)(v_7_i5_i);
+    v_8_not_i_i_i_i = v_start1_i_i_i123_sink_i_i > v_15_1_i_i_i417;
+    if (v_8_not_i_i_i_i) { goto L_bb4_i_i_i_i463; } else { goto L_bb2_i_i_i_i461; }
+L_bb4_i_i_i_i463:;
+    TRAP();
+    TRAP();
+L_bb2_i_i_i_i461:;
+    v_15_not_i_i_i_i = v_start1_i_i_i123_sink_i_i < 2u;
+    if (v_15_not_i_i_i_i) { goto L_bb7_i_i_i_i462; } else { goto L_copy_from_slice_pkcs1_c_exit_i; }
+L_bb7_i_i_i_i462:;
+    TRAP();
+    TRAP();
+L_copy_from_slice_pkcs1_c_exit_i:;
+    v_480 = (P)((u64)v_48_0_i_i_i + (u64)(v_start1_i_i_i123_sink_i_i));
+    v_481 = (P)((u64)v_480 + (u64)(-2));
+    v_7_i_i_sroa_0_sroa_4_0_insert_shift_i = (u16)((u32)(v_8_i_i_i460) << (u32)((8u & 31)));
+    v_7_i_i_sroa_0_sroa_0_0_insert_insert_i = (u16)((u32)(v_7_i_i_sroa_0_sroa_4_0_insert_shift_i) | (u32)(48u));
+    put_u16(v_481, v_7_i_i_sroa_0_sroa_0_0_insert_insert_i);
+    { goto L_491; }
+L_bb4_i_i_i443:;
+    v_14_i_i_i444 = v_16_i_i439 < 65536u;
+    if (v_14_i_i_i444) { goto L_bb5_i_i_i457; } else { goto L_bb6_i_i_i445; }
+L_bb3_i_i_i458:;
+    v_13_i_i_i = (u8)(v_7_i5_i);
+    v_8_not_i12_i_i_i = v_start1_i_i_i123_sink_i_i > v_15_1_i_i_i417;
+    if (v_8_not_i12_i_i_i) { goto L_bb4_i20_i_i_i; } else { goto L_bb2_i13_i_i_i; }
+L_bb4_i20_i_i_i:;
+    TRAP();
+    TRAP();
+L_bb2_i13_i_i_i:;
+    v_15_not_i15_i_i_i = v_start1_i_i_i123_sink_i_i < 3u;
+    if (v_15_not_i15_i_i_i) { goto L_bb7_i19_i_i_i; } else { goto L_copy_from_slice_pkcs1_c_exit77_i; }
+L_bb7_i19_i_i_i:;
+    TRAP();
+    TRAP();
+L_copy_from_slice_pkcs1_c_exit77_i:;
+    v_482 = (P)((u64)v_48_0_i_i_i + (u64)(v_start1_i_i_i123_sink_i_i));
+    v_483 = (P)((u64)v_482 + (u64)(-3));
+    put_u8(v_483, 48u);
+    v_12_i_i_sroa_4_0_sroa_idx_i = (P)((u64)v_482 + (u64)(-2));
+    put_u8(v_12_i_i_sroa_4_0_sroa_idx_i, 129u);
+    v_12_i_i_sroa_5_0_sroa_idx_i = (P)((u64)v_482 + (u64)(-1));
+    put_u8(v_12_i_i_sroa_5_0_sroa_idx_i, v_13_i_i_i);
+    { goto L_491; }
+L_bb6_i_i_i445:;
+    v_22_i_i_i446 = v_16_i_i439 < 16777216u;
+    if (v_22_i_i_i446) { goto L_bb7_i_i_i453; } else { goto L_bb8_i_i_i447; }
+L_bb5_i_i_i457:;
+    v_8_not_i27_i_i_i = v_start1_i_i_i123_sink_i_i > v_15_1_i_i_i417;
+    if (v_8_not_i27_i_i_i) { goto L_bb4_i35_i_i_i; } else { goto L_bb2_i28_i_i_i; }
+L_bb4_i35_i_i_i:;
+    TRAP();
+    TRAP();
+L_bb2_i28_i_i_i:;
+    v_15_not_i30_i_i_i = v_start1_i_i_i123_sink_i_i < 4u;
+    if (v_15_not_i30_i_i_i) { goto L_bb7_i34_i_i_i; } else { goto L_copy_from_slice_pkcs1_c_exit81_i; }
+L_bb7_i34_i_i_i:;
+    TRAP();
+    TRAP();
+L_copy_from_slice_pkcs1_c_exit81_i:;
+    v_484 = (P)((u64)v_48_0_i_i_i + (u64)(v_start1_i_i_i123_sink_i_i));
+    v_485 = (P)((u64)v_484 + (u64)(-4));
+    v_486 = (u32)((u32)(v_16_i_i439) | (u32)(813826048u));
+    v_17_i_i_sroa_0_sroa_0_0_insert_insert_i = TURNED(32, v_486);
+    put_u32(v_485, v_17_i_i_sroa_0_sroa_0_0_insert_insert_i);
+    { goto L_491; }
+L_bb8_i_i_i447:;
+    v_371_i_i_i = (u64)((u64)(v_7_i5_i) >> (u64)((24u & 63)));
+    v_36_i_i_i448 = (u8)(v_371_i_i_i);
+    v_402_i_i_i = (u64)((u64)(v_7_i5_i) >> (u64)((16u & 63)));
+    v_38_i_i_i449 = (u8)(v_402_i_i_i);
+    v_433_i_i_i = (u64)((u64)(v_7_i5_i) >> (u64)((8u & 63)));
+    v_41_i_i_i450 = (u8)(v_433_i_i_i);
+    v_44_i_i_i = (u8)(v_7_i5_i);
+    v_8_not_i57_i_i_i = v_start1_i_i_i123_sink_i_i > v_15_1_i_i_i417;
+    if (v_8_not_i57_i_i_i) { goto L_bb4_i65_i_i_i; } else { goto L_bb2_i58_i_i_i; }
+L_bb4_i65_i_i_i:;
+    TRAP();
+    TRAP();
+L_bb2_i58_i_i_i:;
+    v_15_not_i60_i_i_i = v_start1_i_i_i123_sink_i_i < 6u;
+    if (v_15_not_i60_i_i_i) { goto L_bb7_i64_i_i_i; } else { goto L_copy_from_slice_pkcs1_c_exit85_i; }
+L_bb7_i64_i_i_i:;
+    TRAP();
+    TRAP();
+L_copy_from_slice_pkcs1_c_exit85_i:;
+    v_487 = (P)((u64)v_48_0_i_i_i + (u64)(v_start1_i_i_i123_sink_i_i));
+    v_488 = (P)((u64)v_487 + (u64)(-6));
+    put_u8(v_488, 48u);
+    v_35_i_i_sroa_4_0_sroa_idx_i = (P)((u64)v_487 + (u64)(-5));
+    put_u8(v_35_i_i_sroa_4_0_sroa_idx_i, 132u);
+    v_35_i_i_sroa_5_0_sroa_idx_i = (P)((u64)v_487 + (u64)(-4));
+    put_u8(v_35_i_i_sroa_5_0_sroa_idx_i, v_36_i_i_i448);
+    v_35_i_i_sroa_6_0_sroa_idx_i = (P)((u64)v_487 + (u64)(-3));
+    put_u8(v_35_i_i_sroa_6_0_sroa_idx_i, v_38_i_i_i449);
+    v_35_i_i_sroa_7_0_sroa_idx_i = (P)((u64)v_487 + (u64)(-2));
+    put_u8(v_35_i_i_sroa_7_0_sroa_idx_i, v_41_i_i_i450);
+    v_35_i_i_sroa_8_0_sroa_idx_i = (P)((u64)v_487 + (u64)(-1));
+    put_u8(v_35_i_i_sroa_8_0_sroa_idx_i, v_44_i_i_i);
+    { goto L_491; }
+L_bb7_i_i_i453:;
+    v_274_i_i_i = (u64)((u64)(v_7_i5_i) >> (u64)((16u & 63)));
+    v_26_i_i_i454 = (u8)(v_274_i_i_i);
+    v_305_i_i_i = (u64)((u64)(v_7_i5_i) >> (u64)((8u & 63)));
+    v_28_i_i_i455 = (u8)(v_305_i_i_i);
+    v_31_i_i_i456 = (u8)(v_7_i5_i);
+    v_8_not_i42_i_i_i = v_start1_i_i_i123_sink_i_i > v_15_1_i_i_i417;
+    if (v_8_not_i42_i_i_i) { goto L_bb4_i50_i_i_i; } else { goto L_bb2_i43_i_i_i; }
+L_bb4_i50_i_i_i:;
+    TRAP();
+    TRAP();
+L_bb2_i43_i_i_i:;
+    v_15_not_i45_i_i_i = v_start1_i_i_i123_sink_i_i < 5u;
+    if (v_15_not_i45_i_i_i) { goto L_bb7_i49_i_i_i; } else { goto L_copy_from_slice_pkcs1_c_exit89_i; }
+L_bb7_i49_i_i_i:;
+    TRAP();
+    TRAP();
+L_copy_from_slice_pkcs1_c_exit89_i:;
+    v_489 = (P)((u64)v_48_0_i_i_i + (u64)(v_start1_i_i_i123_sink_i_i));
+    v_490 = (P)((u64)v_489 + (u64)(-5));
+    put_u8(v_490, 48u);
+    v_25_i_i_sroa_4_0_sroa_idx_i = (P)((u64)v_489 + (u64)(-4));
+    put_u8(v_25_i_i_sroa_4_0_sroa_idx_i, 131u);
+    v_25_i_i_sroa_5_0_sroa_idx_i = (P)((u64)v_489 + (u64)(-3));
+    put_u8(v_25_i_i_sroa_5_0_sroa_idx_i, v_26_i_i_i454);
+    v_25_i_i_sroa_6_0_sroa_idx_i = (P)((u64)v_489 + (u64)(-2));
+    put_u8(v_25_i_i_sroa_6_0_sroa_idx_i, v_28_i_i_i455);
+    v_25_i_i_sroa_7_0_sroa_idx_i = (P)((u64)v_489 + (u64)(-1));
+    put_u8(v_25_i_i_sroa_7_0_sroa_idx_i, v_31_i_i_i456);
+    { goto L_491; }
+L_491:;
+    { p_v_492 = 0u; goto L_any_AnyRef_exit_i; }
+L_any_AnyRef_exit_i:;
+    v_492 = p_v_492;
+    put_u64(v_len, v_sroa_5_0_extract_shift_i);
+    { p_v_0_sroa_0_0_i3 = v_492; goto L_bb8_i; }
+L_bb3_i504:;
+    v_0_sroa_0_0_insert_insert_i167_i = p_v_0_sroa_0_0_insert_insert_i167_i;
+    v_sroa_4_0_extract_shift_i505 = (u64)((u64)(v_0_sroa_0_0_insert_insert_i167_i) >> (u64)((8u & 63)));
+    v_error_sroa_0_0_extract_trunc_i = (u8)(v_sroa_4_0_extract_shift_i505);
+    switch (v_error_sroa_0_0_extract_trunc_i) {
+    case 0u: { p_v_0_sroa_0_0_i3 = 1u; goto L_bb8_i; }
+    case 1u: { goto L_bb17_i_i511; }
+    case 2u: { goto L_bb16_i_i510; }
+    case 3u: { goto L_bb15_i_i509; }
+    case 4u: { goto L_bb14_i_i508; }
+    case 5u: { goto L_bb13_i100_i; }
+    case 6u: { goto L_bb12_i_i507; }
+    case 7u: { goto L_bb11_i99_i; }
+    case 8u: { goto L_bb10_i98_i; }
+    case 9u: { goto L_bb9_i97_i; }
+    case 10u: { goto L_bb8_i96_i; }
+    case 11u: { goto L_bb7_i95_i; }
+    case 12u: { goto L_bb6_i94_i; }
+    case 13u: { goto L_bb5_i93_i; }
+    case 14u: { goto L_bb4_i92_i; }
+    case 15u: { goto L_bb3_i91_i; }
+    case 16u: { goto L_bb2_i_i506; }
+    default: { goto L_default_unreachable_i_i512; }
+    }
+L_default_unreachable_i_i512:;
+    TRAP();
+L_bb17_i_i511:;
+    { p_v_0_sroa_0_0_i3 = 2u; goto L_bb8_i; }
+L_bb16_i_i510:;
+    { p_v_0_sroa_0_0_i3 = 3u; goto L_bb8_i; }
+L_bb15_i_i509:;
+    { p_v_0_sroa_0_0_i3 = 4u; goto L_bb8_i; }
+L_bb14_i_i508:;
+    { p_v_0_sroa_0_0_i3 = 5u; goto L_bb8_i; }
+L_bb13_i100_i:;
+    { p_v_0_sroa_0_0_i3 = 6u; goto L_bb8_i; }
+L_bb12_i_i507:;
+    { p_v_0_sroa_0_0_i3 = 7u; goto L_bb8_i; }
+L_bb11_i99_i:;
+    { p_v_0_sroa_0_0_i3 = 8u; goto L_bb8_i; }
+L_bb10_i98_i:;
+    { p_v_0_sroa_0_0_i3 = 9u; goto L_bb8_i; }
+L_bb9_i97_i:;
+    { p_v_0_sroa_0_0_i3 = 10u; goto L_bb8_i; }
+L_bb8_i96_i:;
+    { p_v_0_sroa_0_0_i3 = 11u; goto L_bb8_i; }
+L_bb7_i95_i:;
+    { p_v_0_sroa_0_0_i3 = 12u; goto L_bb8_i; }
+L_bb6_i94_i:;
+    { p_v_0_sroa_0_0_i3 = 13u; goto L_bb8_i; }
+L_bb5_i93_i:;
+    { p_v_0_sroa_0_0_i3 = 14u; goto L_bb8_i; }
+L_bb4_i92_i:;
+    { p_v_0_sroa_0_0_i3 = 15u; goto L_bb8_i; }
+L_bb3_i91_i:;
+    { p_v_0_sroa_0_0_i3 = 16u; goto L_bb8_i; }
+L_bb2_i_i506:;
+    { p_v_0_sroa_0_0_i3 = 17u; goto L_bb8_i; }
+L_bb8_i:;
+    v_0_sroa_0_0_i3 = p_v_0_sroa_0_0_i3;
+    { p_v_0_sroa_0_0 = v_0_sroa_0_0_i3; goto L_bb5; }
 L_bb5:;
-    v_0_sroa_0_1 = p_v_0_sroa_0_1;
-    return v_0_sroa_0_1;
-L_bb14:;
-    v_writer_i36_i_sroa_12_1_sink = p_v_writer_i36_i_sroa_12_1_sink;
-    v_23_i79_i_sink_in = p_v_23_i79_i_sink_in;
-    v_0_sroa_5_0_i = p_v_0_sroa_5_0_i;
-    v_23_i79_i_sink = (u16)(v_23_i79_i_sink_in);
-    v_237 = (P)((u64)v_out_0 + (u64)(v_writer_i36_i_sroa_12_1_sink));
-    v_238 = (P)((u64)v_237 + (u64)(-2));
-    v_22_i35_i_sroa_0_sroa_4_0_insert_shift = (u16)((u32)(v_23_i79_i_sink) << (u32)((8u & 31)));
-    v_22_i35_i_sroa_0_sroa_0_0_insert_insert = (u16)((u32)(v_22_i35_i_sroa_0_sroa_4_0_insert_shift) | (u32)(48u));
-    put_u16(v_238, v_22_i35_i_sroa_0_sroa_0_0_insert_insert);
-    put_u64(v_len, v_0_sroa_5_0_i);
-    { p_v_0_sroa_0_1 = 0u; goto L_bb5; }
-L_bb13:;
+    v_0_sroa_0_0 = p_v_0_sroa_0_0;
+    return v_0_sroa_0_0;
+L_bb8_sink_split:;
+    v_start1_i_i102_i_sink = p_v_start1_i_i102_i_sink;
+    v_59_i98_i_sink_in_in = p_v_59_i98_i_sink_in_in;
+    v_0_sroa_5_0_i_ph_ph = p_v_0_sroa_5_0_i_ph_ph;
+    v_59_i98_i_sink_in = (u8)(v_59_i98_i_sink_in_in);
+    v_59_i98_i_sink = (u8)((u32)(v_59_i98_i_sink_in) + (u32)(13u));
+    v_493 = v_out_0 + (int64_t)(v_start1_i_i102_i_sink);
+    put_u8(v_493, 48u);
+    v_58_i33_i_sroa_4_0_sroa_idx = v_493 + 1;
+    put_u8(v_58_i33_i_sroa_4_0_sroa_idx, v_59_i98_i_sink);
+    v_58_i33_i_sroa_5_0_sroa_idx = v_493 + 2;
+    put_u8(v_58_i33_i_sroa_5_0_sroa_idx, 6u);
+    v_58_i33_i_sroa_6_0_sroa_idx = v_493 + 3;
+    put_u8(v_58_i33_i_sroa_6_0_sroa_idx, 9u);
+    v_58_i33_i_sroa_7_0_sroa_idx = v_493 + 4;
+    put_u8(v_58_i33_i_sroa_7_0_sroa_idx, 42u);
+    v_58_i33_i_sroa_8_0_sroa_idx = v_493 + 5;
+    put_u8(v_58_i33_i_sroa_8_0_sroa_idx, 134u);
+    v_58_i33_i_sroa_9_0_sroa_idx = v_493 + 6;
+    put_u8(v_58_i33_i_sroa_9_0_sroa_idx, 72u);
+    v_58_i33_i_sroa_10_0_sroa_idx = v_493 + 7;
+    put_u8(v_58_i33_i_sroa_10_0_sroa_idx, 134u);
+    v_58_i33_i_sroa_11_0_sroa_idx = v_493 + 8;
+    put_u8(v_58_i33_i_sroa_11_0_sroa_idx, 247u);
+    v_58_i33_i_sroa_12_0_sroa_idx = v_493 + 9;
+    put_u8(v_58_i33_i_sroa_12_0_sroa_idx, 13u);
+    v_58_i33_i_sroa_13_0_sroa_idx = v_493 + 10;
+    put_u8(v_58_i33_i_sroa_13_0_sroa_idx, 1u);
+    v_58_i33_i_sroa_14_0_sroa_idx = v_493 + 11;
+    put_u8(v_58_i33_i_sroa_14_0_sroa_idx, 1u);
+    v_58_i33_i_sroa_15_0_sroa_idx = v_493 + 12;
+    put_u8(v_58_i33_i_sroa_15_0_sroa_idx, 7u);
+    { p_v_0_sroa_5_0_i_ph = v_0_sroa_5_0_i_ph_ph; goto L_bb8; }
+L_bb8:;
     v_0_sroa_5_0_i_ph = p_v_0_sroa_5_0_i_ph;
     put_u64(v_len, v_0_sroa_5_0_i_ph);
-    { p_v_0_sroa_0_1 = 15u; goto L_bb5; }
+    { p_v_0_sroa_0_0 = 0u; goto L_bb5; }
+L_bb7:;
+    v_0_sroa_5_0_i = p_v_0_sroa_5_0_i;
+    put_u64(v_len, v_0_sroa_5_0_i);
+    { p_v_0_sroa_0_0 = 15u; goto L_bb5; }
 }
 static u32 proved_oaep_params_encode(P v_params, P v_out, u64 v_out_len, P v_len) {
     u8 p_v_0_sroa_5_0_i34_i_i;
@@ -15405,7 +17287,7 @@ L_bb7_i25_i_i:;
     TRAP();
     TRAP();
 L_bb3:;
-    v_102 = f_oaep_write_others(v_params, v_out, v_out_len, v_len);
+    v_102 = f_oaep_write_others(v_params, 0u, v_out, v_out_len, v_len);
     { p_v_0_sroa_0_0 = v_102; goto L_bb5; }
 L_bb5:;
     v_0_sroa_0_0 = p_v_0_sroa_0_0;
@@ -17687,3443 +19569,6 @@ L_bb6:;
     v_0_sroa_0_0 = p_v_0_sroa_0_0;
     return v_0_sroa_0_0;
 }
-static u32 f_oaep_algorithm_write_others(P v_params, P v_out_0, u64 v_out_1, P v_len) {
-    ALIGNED(8) unsigned char m_v_writer_i_i288[24] = {0};
-    ALIGNED(8) unsigned char m_v_made_i[136] = {0};
-    ALIGNED(8) unsigned char m_v_4_i[136] = {0};
-    u32 p_v_0_sroa_5_sroa_0_0_i_i;
-    u32 p_v_0_sroa_0_0_i9_i;
-    u64 p_v_writer_i36_i_sroa_14_0;
-    u64 p_v_writer_i36_i_sroa_14_1;
-    u64 p_v_writer_i_i_sroa_14_0;
-    u64 p_v_writer_i_i_sroa_14_1;
-    u1 p_v_0_sroa_0_0_shrunk_i_i_i;
-    u1 p_v_0_sroa_0_0_i;
-    u1 p_v_0_sroa_0_0_i254391;
-    u8 p_v_149;
-    u64 p_v_sink_i;
-    u64 p_v_0_sroa_0_0_i705_i_i;
-    u64 p_v_10_sroa_0_0_i_i_i76_i_i;
-    u64 p_v_sink168_i;
-    u64 p_v_sink169_i;
-    u64 p_v_sink170_i;
-    u64 p_v_0_sroa_0_0_i437_i_i;
-    u64 p_v_10_sroa_0_0_i_i_i209_i_i;
-    u64 p_v_sink171_i;
-    u64 p_v_0_sroa_0_0_i170_i_i;
-    u64 p_v_sink172_i;
-    u1 p_v_0_sroa_0_0_i254394;
-    u64 p_v_0_sroa_0_0_i_i21_i;
-    u64 p_v_216;
-    u64 p_v_10_sroa_0_0_i_i400408;
-    u64 p_v_10_sroa_0_0_i_i_ph414418;
-    u64 p_v_10_sroa_0_0_i_i_ph_ph424428;
-    u64 p_v_0_i_i_i554_i_i_i_i_pre_phi;
-    u64 p_v_pre_phi;
-    u64 p_v_4_1_i_i_i548_i_i_i_i;
-    u64 p_v_sink_i_i_i;
-    u64 p_v_0_sroa_0_0_i705_i_i_i_i;
-    u64 p_v_10_sroa_0_0_i_i_i76_i_i_i_i;
-    u64 p_v_sink61_i_i_i;
-    u64 p_v_sink62_i_i_i;
-    u64 p_v_sink63_i_i_i;
-    u64 p_v_0_sroa_0_0_i437_i_i_i_i;
-    u64 p_v_10_sroa_0_0_i_i_i209_i_i_i_i;
-    u64 p_v_sink64_i_i_i;
-    u64 p_v_0_sroa_0_0_i170_i_i_i_i;
-    u64 p_v_sink65_i_i_i;
-    u64 p_v_0_sroa_0_0_i_i_i_i29_i;
-    u64 p_v_0_sroa_0_0_i_i38_i_i_i;
-    u64 p_v_0_sroa_31_0_in_i_i_ph_i_i;
-    u64 p_v_sroa_09_0_insert_insert60_i_i_i;
-    u64 p_v_0_sroa_31_0_in_i_ph_i;
-    u64 p_v_sink_i7_i_i;
-    u64 p_v_0_sroa_0_0_insert_insert_i155_i;
-    P p_v_48_0_i_i_i;
-    u64 p_v_11_i27_i_i;
-    u64 p_v_start1_i_i_i123_sink_i_i;
-    u32 p_v_323;
-    u64 p_v_0_sroa_0_0_insert_insert_i167_i;
-    u32 p_v_0_sroa_0_1_i311;
-    u32 p_v_0_sroa_0_0_i3;
-    u32 p_v_0_sroa_0_0;
-    u64 p_v_start1_i_i102_i_sink;
-    u64 p_v_59_i98_i_sink_in_in;
-    u64 p_v_0_sroa_5_0_i;
-    u64 p_v_0_sroa_5_0_i_ph;
-    P v_writer_i_i288;
-    P v_made_i;
-    P v_4_i;
-    P v_8_i;
-    P v_0;
-    u8 v_1;
-    u1 v_6_i_i;
-    P v_2;
-    u8 v_3;
-    u1 v_4;
-    P v_5;
-    u8 v_6;
-    u1 v_7;
-    u1 v_not;
-    u1 v_8;
-    P v_9;
-    u8 v_10;
-    u1 v_16_i;
-    P v_11;
-    u8 v_17_i;
-    u1 v_9_i;
-    u1 v_or_cond_i;
-    P v_12;
-    P v_hash_0_i;
-    P v_13;
-    u64 v_hash_1_i;
-    P v_14;
-    P v_under_0_i;
-    P v_15;
-    u64 v_under_1_i;
-    P v_13_0_i;
-    P v_16;
-    u64 v_13_1_i;
-    P v_14_0_i;
-    P v_17;
-    u64 v_14_1_i;
-    P v_18;
-    P v_15_0_i;
-    P v_19;
-    u64 v_15_1_i;
-    u1 v_9_not_i;
-    u1 v_20;
-    u1 v_or_cond;
-    u8 v_21_i_i;
-    u1 v_20_i_i;
-    P v_21;
-    u8 v_23_i_i;
-    u1 v_22_i_i;
-    u1 v_19_i_i;
-    P v_22;
-    u8 v_25_i_i;
-    u1 v_24_i_i;
-    u1 v_18_i_i;
-    P v_23;
-    u8 v_27_i_i;
-    u1 v_26_i_i;
-    u1 v_17_i_i;
-    P v_24;
-    u8 v_29_i_i;
-    u1 v_28_i_i;
-    u1 v_16_i_i;
-    P v_25;
-    u8 v_31_i_i;
-    u1 v_30_i_i;
-    u1 v_15_i_i;
-    P v_26;
-    u8 v_33_i_i;
-    u1 v_32_i_i;
-    u1 v_14_i_i;
-    P v_27;
-    u8 v_35_i_i;
-    u1 v_34_i_i;
-    u1 v_front_i_i;
-    P v_28;
-    u8 v_36_i_i;
-    u1 v_29;
-    u1 v_30;
-    u8 v_21_i_i_i;
-    u1 v_20_i_i_i;
-    P v_31;
-    u8 v_23_i_i_i;
-    u1 v_22_i_i_i;
-    u1 v_19_i_i_i;
-    P v_32;
-    u8 v_25_i_i_i;
-    u1 v_24_i_i_i;
-    u1 v_18_i_i_i;
-    P v_33;
-    u8 v_27_i_i_i;
-    u1 v_26_i_i_i;
-    u1 v_17_i_i_i;
-    P v_34;
-    u8 v_29_i_i_i;
-    u1 v_28_i_i_i;
-    u1 v_16_i_i_i;
-    P v_35;
-    u8 v_31_i_i_i;
-    u1 v_30_i_i_i;
-    u1 v_15_i_i_i;
-    P v_36;
-    u8 v_33_i_i_i;
-    u1 v_32_i_i_i;
-    u1 v_14_i_i_i;
-    P v_37;
-    u8 v_35_i_i_i;
-    u1 v_34_i_i_i;
-    u1 v_front_i_i_i;
-    P v_38;
-    u8 v_36_i_i_i;
-    u1 v_39;
-    u1 v_40;
-    u1 v_or_cond384;
-    u8 v_22_i37_i_i;
-    u1 v_21_i38_i_i;
-    P v_41;
-    u8 v_24_i39_i_i;
-    u1 v_23_i40_i_i;
-    u1 v_20_i41_i_i;
-    P v_42;
-    u8 v_26_i42_i_i;
-    u1 v_25_i43_i_i;
-    u1 v_19_i44_i_i;
-    P v_43;
-    u8 v_28_i45_i_i;
-    u1 v_27_i46_i_i;
-    u1 v_18_i47_i_i;
-    P v_44;
-    u8 v_30_i48_i_i;
-    u1 v_29_i49_i_i;
-    u1 v_17_i50_i_i;
-    P v_45;
-    u8 v_32_i51_i_i;
-    u1 v_31_i52_i_i;
-    u1 v_16_i53_i_i;
-    P v_46;
-    u8 v_34_i54_i_i;
-    u1 v_33_i55_i_i;
-    u1 v_15_i56_i_i;
-    P v_47;
-    u8 v_36_i57_i_i;
-    u1 v_35_i58_i_i;
-    u1 v_front_i59_i_i;
-    P v_48;
-    u8 v_38_i61_i_i;
-    u1 v_37_i62_i_i;
-    u1 v_49;
-    u1 v_or_cond385;
-    u8 v_22_i10_i_i;
-    u1 v_21_i11_i_i;
-    P v_50;
-    u8 v_24_i12_i_i;
-    u1 v_23_i13_i_i;
-    u1 v_20_i14_i_i;
-    P v_51;
-    u8 v_26_i15_i_i;
-    u1 v_25_i16_i_i;
-    u1 v_19_i17_i_i;
-    P v_52;
-    u8 v_28_i18_i_i;
-    u1 v_27_i19_i_i;
-    u1 v_18_i20_i_i;
-    P v_53;
-    u8 v_30_i21_i_i;
-    u1 v_29_i22_i_i;
-    u1 v_17_i23_i_i;
-    P v_54;
-    u8 v_32_i24_i_i;
-    u1 v_31_i25_i_i;
-    u1 v_16_i26_i_i;
-    P v_55;
-    u8 v_34_i27_i_i;
-    u1 v_33_i28_i_i;
-    u1 v_15_i29_i_i;
-    P v_56;
-    u8 v_36_i30_i_i;
-    u1 v_35_i31_i_i;
-    u1 v_front_i32_i_i;
-    P v_57;
-    u8 v_38_i_i_i;
-    u1 v_37_i_i_i;
-    u32 v_12_sroa_4_1_insert_ext_i_i;
-    u32 v_12_sroa_4_3_insert_ext_i_i;
-    u32 v_58;
-    u32 v_59;
-    u32 v_60;
-    u32 v_61;
-    u32 v_0_sroa_5_sroa_0_0_i_i;
-    u32 v_0_sroa_0_0_i9_i;
-    u32 v_0_sroa_0_0_insert_insert_i_i;
-    u32 v_sroa_4_0_extract_shift_i;
-    u8 v_sroa_4_0_extract_trunc_i;
-    u32 v_sroa_6_0_extract_shift_i;
-    u8 v_sroa_6_0_extract_trunc_i;
-    u32 v_62;
-    u1 v_63;
-    u1 v_hash_01_i;
-    u32 v_64;
-    u1 v_under_03_i_not_not;
-    u1 v_65;
-    u64 v_spec_select_i40_i;
-    u64 v_28_sroa_0_0_i43_i;
-    u64 v_10_i44_i;
-    u64 v_len_i50_i;
-    u1 v_16_i51_i;
-    u64 v_start1_i5_i;
-    u1 v_15_not_i9_i;
-    P v_66;
-    P v_9_i16_sroa_4_0_sroa_idx;
-    P v_9_i16_sroa_5_0_sroa_idx;
-    P v_9_i16_sroa_6_0_sroa_idx;
-    P v_9_i16_sroa_7_0_sroa_idx;
-    P v_9_i16_sroa_8_0_sroa_idx;
-    P v_9_i16_sroa_9_0_sroa_idx;
-    P v_9_i16_sroa_10_0_sroa_idx;
-    P v_9_i16_sroa_11_0_sroa_idx;
-    P v_9_i16_sroa_12_0_sroa_idx;
-    P v_9_i16_sroa_13_0_sroa_idx;
-    P v_9_i16_sroa_14_0_sroa_idx;
-    P v_9_i16_sroa_15_0_sroa_idx;
-    P v_9_i16_sroa_16_0_sroa_idx;
-    P v_9_i16_sroa_17_0_sroa_idx;
-    P v_9_i16_sroa_18_0_sroa_idx;
-    P v_9_i16_sroa_19_0_sroa_idx;
-    P v_9_i16_sroa_20_0_sroa_idx;
-    P v_9_i16_sroa_21_0_sroa_idx;
-    P v_9_i16_sroa_22_0_sroa_idx;
-    P v_9_i16_sroa_23_0_sroa_idx;
-    P v_9_i16_sroa_24_0_sroa_idx;
-    P v_9_i16_sroa_25_0_sroa_idx;
-    P v_9_i16_sroa_26_0_sroa_idx;
-    P v_9_i16_sroa_27_0_sroa_idx;
-    P v_9_i16_sroa_28_0_sroa_idx;
-    P v_9_i16_sroa_29_0_sroa_idx;
-    P v_9_i16_sroa_30_0_sroa_idx;
-    u64 v_writer_i36_i_sroa_14_0;
-    u1 v_15_not_i9_i61;
-    u64 v_start1_i5_i57;
-    P v_67;
-    P v_9_i52_sroa_4_0_sroa_idx;
-    P v_9_i52_sroa_5_0_sroa_idx;
-    P v_9_i52_sroa_6_0_sroa_idx;
-    P v_9_i52_sroa_7_0_sroa_idx;
-    P v_9_i52_sroa_8_0_sroa_idx;
-    P v_9_i52_sroa_9_0_sroa_idx;
-    P v_9_i52_sroa_10_0_sroa_idx;
-    P v_9_i52_sroa_11_0_sroa_idx;
-    P v_9_i52_sroa_12_0_sroa_idx;
-    P v_9_i52_sroa_13_0_sroa_idx;
-    P v_9_i52_sroa_14_0_sroa_idx;
-    P v_9_i52_sroa_15_0_sroa_idx;
-    P v_9_i52_sroa_16_0_sroa_idx;
-    P v_9_i52_sroa_17_0_sroa_idx;
-    u64 v_writer_i36_i_sroa_14_1;
-    u64 v_start1_i17_i83_i;
-    u1 v_8_not_i18_i84_i;
-    u1 v_15_not_i21_i87_i;
-    P v_68;
-    u16 v_69;
-    u16 v_22_i35_i_sroa_0_sroa_4_0_insert_shift;
-    u16 v_22_i35_i_sroa_0_sroa_0_0_insert_insert;
-    u1 v_8_not_i_i103_i;
-    u64 v_start1_i_i102_i;
-    u1 v_15_not_i_i106_i;
-    u8 v_17_i9;
-    u8 v_24_i;
-    u8 v_25_i;
-    u64 v_spec_select_i_i;
-    u64 v_28_sroa_0_0_i_i;
-    u64 v_10_i_i;
-    u64 v_9_i_i;
-    u64 v_count_i_i;
-    u64 v_len_i_i;
-    u1 v_16_i13_i;
-    u64 v_start1_i47_i_i;
-    P v_70;
-    u64 v_start1_i32_i_i;
-    u1 v_15_not_i36_i_i;
-    P v_71;
-    P v_later_i_sroa_4_0_sroa_idx;
-    P v_later_i_sroa_5_0_sroa_idx;
-    P v_later_i_sroa_6_0_sroa_idx;
-    P v_later_i_sroa_7_0_sroa_idx;
-    P v_later_i_sroa_8_0_sroa_idx;
-    P v_later_i_sroa_9_0_sroa_idx;
-    P v_later_i_sroa_10_0_sroa_idx;
-    P v_later_i_sroa_11_0_sroa_idx;
-    P v_later_i_sroa_12_0_sroa_idx;
-    P v_later_i_sroa_13_0_sroa_idx;
-    P v_later_i_sroa_14_0_sroa_idx;
-    P v_later_i_sroa_15_0_sroa_idx;
-    P v_later_i_sroa_16_0_sroa_idx;
-    P v_later_i_sroa_17_0_sroa_idx;
-    P v_later_i_sroa_18_0_sroa_idx;
-    P v_later_i_sroa_19_0_sroa_idx;
-    u64 v_start1_i5_i33;
-    u1 v_8_not_i6_i34;
-    u1 v_15_not_i9_i37;
-    P v_72;
-    P v_9_i28_sroa_4_0_sroa_idx;
-    P v_9_i28_sroa_5_0_sroa_idx;
-    P v_9_i28_sroa_6_0_sroa_idx;
-    P v_9_i28_sroa_7_0_sroa_idx;
-    P v_9_i28_sroa_8_0_sroa_idx;
-    P v_9_i28_sroa_9_0_sroa_idx;
-    P v_9_i28_sroa_10_0_sroa_idx;
-    P v_9_i28_sroa_11_0_sroa_idx;
-    P v_9_i28_sroa_12_0_sroa_idx;
-    P v_9_i28_sroa_13_0_sroa_idx;
-    P v_9_i28_sroa_14_0_sroa_idx;
-    P v_9_i28_sroa_15_0_sroa_idx;
-    P v_9_i28_sroa_16_0_sroa_idx;
-    P v_9_i28_sroa_17_0_sroa_idx;
-    P v_9_i28_sroa_18_0_sroa_idx;
-    P v_9_i28_sroa_19_0_sroa_idx;
-    P v_9_i28_sroa_20_0_sroa_idx;
-    P v_9_i28_sroa_21_0_sroa_idx;
-    P v_9_i28_sroa_22_0_sroa_idx;
-    P v_9_i28_sroa_23_0_sroa_idx;
-    P v_9_i28_sroa_24_0_sroa_idx;
-    P v_9_i28_sroa_25_0_sroa_idx;
-    P v_9_i28_sroa_26_0_sroa_idx;
-    P v_9_i28_sroa_27_0_sroa_idx;
-    P v_9_i28_sroa_28_0_sroa_idx;
-    P v_9_i28_sroa_29_0_sroa_idx;
-    P v_9_i28_sroa_30_0_sroa_idx;
-    u64 v_writer_i_i_sroa_14_0;
-    u64 v_start1_i5_i80;
-    u1 v_8_not_i6_i81;
-    u1 v_15_not_i9_i84;
-    P v_73;
-    P v_9_i75_sroa_4_0_sroa_idx;
-    P v_9_i75_sroa_5_0_sroa_idx;
-    P v_9_i75_sroa_6_0_sroa_idx;
-    P v_9_i75_sroa_7_0_sroa_idx;
-    P v_9_i75_sroa_8_0_sroa_idx;
-    P v_9_i75_sroa_9_0_sroa_idx;
-    P v_9_i75_sroa_10_0_sroa_idx;
-    P v_9_i75_sroa_11_0_sroa_idx;
-    P v_9_i75_sroa_12_0_sroa_idx;
-    P v_9_i75_sroa_13_0_sroa_idx;
-    P v_9_i75_sroa_14_0_sroa_idx;
-    P v_9_i75_sroa_15_0_sroa_idx;
-    P v_9_i75_sroa_16_0_sroa_idx;
-    P v_9_i75_sroa_17_0_sroa_idx;
-    u64 v_writer_i_i_sroa_14_1;
-    u64 v_start1_i17_i_i;
-    u1 v_8_not_i18_i_i;
-    u1 v_15_not_i21_i_i;
-    P v_74;
-    u16 v_75;
-    u16 v_22_i12_i_sroa_0_sroa_4_0_insert_ext;
-    u16 v_22_i12_i_sroa_0_sroa_0_0_insert_insert;
-    u1 v_8_not_i_i_i;
-    u64 v_start1_i_i_i;
-    u1 v_15_not_i_i_i;
-    P v_76;
-    u1 v_77;
-    P v_6_i;
-    P v_9_i132;
-    P v_78;
-    P v_79;
-    u1 v_80;
-    P v_0_0_i_i;
-    P v_81;
-    u64 v_0_1_i_i;
-    u1 v_82;
-    u8 v_83;
-    u1 v_84;
-    P v_85;
-    u8 v_86;
-    u1 v_87;
-    P v_88;
-    u8 v_89;
-    u1 v_90;
-    P v_91;
-    u8 v_92;
-    u1 v_93;
-    P v_94;
-    u8 v_10_i;
-    u1 v_6_i136;
-    P v_8_sroa_3_0_sroa_idx_i;
-    u64 v_8_sroa_3_0_copyload_i;
-    P v_8_sroa_4_0_sroa_idx_i;
-    u64 v_8_sroa_4_0_copyload_i;
-    u64 v_95;
-    u1 v_96;
-    u1 v_97;
-    u1 v_0_sroa_0_1_i;
-    u1 v_0_sroa_0_0_shrunk_i_i_i;
-    u1 v_3_i_i;
-    u8 v_2_i_i;
-    P v_98;
-    P v_99;
-    u1 v_100;
-    P v_0_0_i_i479;
-    P v_101;
-    u64 v_0_1_i_i480;
-    u1 v_102;
-    u8 v_21_i_i482;
-    u1 v_20_i_i483;
-    P v_103;
-    u8 v_23_i_i484;
-    u1 v_22_i_i485;
-    u1 v_19_i_i486;
-    P v_104;
-    u8 v_25_i_i487;
-    u1 v_24_i_i488;
-    u1 v_18_i_i489;
-    P v_105;
-    u8 v_27_i_i490;
-    u1 v_26_i_i491;
-    u1 v_17_i_i492;
-    P v_106;
-    u8 v_29_i_i493;
-    u1 v_28_i_i494;
-    u1 v_16_i_i495;
-    P v_107;
-    u8 v_31_i_i496;
-    u1 v_30_i_i497;
-    u1 v_15_i_i498;
-    P v_108;
-    u8 v_33_i_i499;
-    u1 v_32_i_i500;
-    u1 v_14_i_i501;
-    P v_109;
-    u8 v_35_i_i502;
-    u1 v_34_i_i503;
-    u1 v_front_i_i504;
-    P v_110;
-    u8 v_36_i_i506;
-    u1 v_111;
-    P v_112;
-    P v_113;
-    u1 v_114;
-    P v_115;
-    u64 v_0_1_i_i_i;
-    u1 v_116;
-    u1 v_or_cond_i508;
-    u8 v_117;
-    u1 v_118;
-    P v_119;
-    u8 v_120;
-    u1 v_121;
-    P v_122;
-    u8 v_123;
-    u1 v_124;
-    P v_125;
-    u8 v_126;
-    u1 v_127;
-    P v_128;
-    u8 v_10_i_i513;
-    u1 v_6_i_i514;
-    P v_8_sroa_3_0_sroa_idx_i_i;
-    u64 v_8_sroa_3_0_copyload_i_i;
-    P v_8_sroa_4_0_sroa_idx_i_i;
-    u64 v_8_sroa_4_0_copyload_i_i;
-    u64 v_129;
-    u1 v_130;
-    u1 v_131;
-    u1 v_0_sroa_0_1_i_i;
-    u1 v_0_sroa_0_0_i;
-    u1 v_3_i4_i;
-    u8 v_2_i5_i;
-    P v_132;
-    P v_133;
-    u1 v_134;
-    P v_0_0_i_i251;
-    P v_135;
-    u64 v_0_1_i_i252;
-    u1 v_136;
-    u8 v_21_i_i256;
-    u1 v_20_i_i257;
-    P v_137;
-    u8 v_23_i_i258;
-    u1 v_22_i_i259;
-    u1 v_19_i_i260;
-    P v_138;
-    u8 v_25_i_i261;
-    u1 v_24_i_i262;
-    u1 v_18_i_i263;
-    P v_139;
-    u8 v_27_i_i264;
-    u1 v_26_i_i265;
-    u1 v_17_i_i266;
-    P v_140;
-    u8 v_29_i_i267;
-    u1 v_28_i_i268;
-    u1 v_16_i_i269;
-    P v_141;
-    u8 v_31_i_i270;
-    u1 v_30_i_i271;
-    u1 v_15_i_i272;
-    P v_142;
-    u8 v_33_i_i273;
-    u1 v_32_i_i274;
-    u1 v_14_i_i275;
-    P v_143;
-    u8 v_35_i_i276;
-    u1 v_34_i_i277;
-    u1 v_front_i_i278;
-    P v_144;
-    u8 v_36_i_i280;
-    u1 v_145;
-    P v_8_sroa_3_0_sroa_idx_i282;
-    u64 v_8_sroa_3_0_copyload_i283;
-    P v_8_sroa_4_0_sroa_idx_i284;
-    u64 v_8_sroa_4_0_copyload_i285;
-    u64 v_146;
-    u1 v_147;
-    u1 v_148;
-    u1 v_0_sroa_0_1_i286;
-    u1 v_cond_fr;
-    u8 v_spec_select;
-    u1 v_0_sroa_0_0_i254391;
-    u8 v_149;
-    u8 v_0_i9_i;
-    u8 v_6_i_i95;
-    u8 v_0_i_i;
-    P v_150;
-    u64 v_0_1_i_i_i545_i_i;
-    P v_151;
-    u64 v_4_1_i_i_i548_i_i;
-    u1 v_5_i84_i_i549_i_i;
-    u64 v_152;
-    u64 v_0_sroa_0_0_i85_i_i550_i_i;
-    u64 v_10_sroa_0_0_i79_i_i552_i_i;
-    u64 v_0_i_i_i554_i_i;
-    u1 v_3_i_i81_i_i555_i_i;
-    u64 v_0_sroa_0_0_i_i82_i_i556_i_v_i;
-    u64 v_0_sroa_0_0_i_i82_i_i556_i_i;
-    u64 v_153;
-    u1 v_10_i_i567_i_i;
-    u64 v_154;
-    P v_155;
-    u64 v_0_1_i_i_i679_i_i;
-    P v_156;
-    u64 v_4_1_i_i_i682_i_i;
-    u1 v_5_i84_i_i683_i_i;
-    u64 v_157;
-    u64 v_0_sroa_0_0_i85_i_i684_i_i;
-    u64 v_10_sroa_0_0_i79_i_i686_i_i;
-    u64 v_0_i_i_i688_i_i;
-    u1 v_3_i_i81_i_i689_i_i;
-    u64 v_0_sroa_0_0_i_i82_i_i690_i_v_i;
-    u64 v_0_sroa_0_0_i_i82_i_i690_i_i;
-    u64 v_158;
-    u1 v_3_i22_i_i691_i_i;
-    u1 v_4_i24_i_i693_i_i;
-    u1 v_5_i26_i_i695_i_i;
-    u1 v_6_i28_i_i697_i_i;
-    u64 v_i;
-    u64 v_sink_i;
-    u64 v_159;
-    u1 v_10_i_i701_i_i;
-    u64 v_160;
-    u64 v_spec_select20_i_i702_i_i;
-    u64 v_0_sroa_0_0_i705_i_i;
-    P v_161;
-    u64 v_0_1_i97_i_i49_i_i;
-    P v_162;
-    u64 v_0_1_i95_i_i53_i_i;
-    P v_163;
-    P v_164;
-    u1 v_165;
-    P v_166;
-    u64 v_4_1_i89_i_i56_i_i;
-    u1 v_5_i90_i_i57_i_i;
-    u64 v_167;
-    u64 v_0_sroa_0_0_i91_i_i58_i_i;
-    u64 v_10_sroa_0_0_i59_i_i60_i_i;
-    u64 v_0_i102_i_i62_i_i;
-    u1 v_3_i_i61_i_i63_i_i;
-    u64 v_0_sroa_0_0_i_i62_i_i64_i_v_i;
-    u64 v_0_sroa_0_0_i_i62_i_i64_i_i;
-    u64 v_168;
-    u1 v_3_i_i_i_i65_i_i;
-    u1 v_4_i_i_i_i67_i_i;
-    u64 v_169;
-    u1 v_5_i_i_i_i69_i_i;
-    u64 v_170;
-    u1 v_6_i_i_i_i71_i_i;
-    u64 v_171;
-    u64 v_172;
-    u64 v_173;
-    u64 v_10_sroa_0_0_i_i_i76_i_i;
-    u64 v_0_i104_i_i78_i_i;
-    u1 v_3_i2_i_i_i79_i_i;
-    u64 v_0_sroa_0_0_i3_i_i_i80_i_v_i;
-    u64 v_0_sroa_0_0_i3_i_i_i80_i_i;
-    u64 v_174;
-    u1 v_3_i_i_i81_i_i;
-    u1 v_4_i_i_i83_i_i;
-    u1 v_5_i_i_i85_i_i;
-    u1 v_6_i_i_i87_i_i;
-    u64 v_173_i;
-    u64 v_sink168_i;
-    u64 v_175;
-    u1 v_31_i_i91_i_i;
-    u64 v_176;
-    u64 v_spec_select19_i_i92_i_i;
-    u64 v_177;
-    P v_178;
-    u64 v_0_1_i_i_i278_i_i;
-    P v_179;
-    u64 v_4_1_i_i_i281_i_i;
-    u1 v_5_i84_i_i282_i_i;
-    u64 v_180;
-    u64 v_0_sroa_0_0_i85_i_i283_i_i;
-    u64 v_10_sroa_0_0_i79_i_i285_i_i;
-    u64 v_0_i_i_i287_i_i;
-    u1 v_3_i_i81_i_i288_i_i;
-    u64 v_0_sroa_0_0_i_i82_i_i289_i_v_i;
-    u64 v_0_sroa_0_0_i_i82_i_i289_i_i;
-    u64 v_181;
-    u1 v_3_i22_i_i290_i_i;
-    u1 v_4_i24_i_i292_i_i;
-    u1 v_5_i26_i_i294_i_i;
-    u1 v_6_i28_i_i296_i_i;
-    u64 v_174_i;
-    u64 v_sink169_i;
-    u64 v_182;
-    u1 v_10_i_i300_i_i;
-    u64 v_183;
-    u64 v_spec_select20_i_i301_i_i;
-    P v_184;
-    u64 v_0_1_i_i_i411_i_i;
-    P v_185;
-    u64 v_4_1_i_i_i414_i_i;
-    u1 v_5_i84_i_i415_i_i;
-    u64 v_186;
-    u64 v_0_sroa_0_0_i85_i_i416_i_i;
-    u64 v_10_sroa_0_0_i79_i_i418_i_i;
-    u64 v_0_i_i_i420_i_i;
-    u1 v_3_i_i81_i_i421_i_i;
-    u64 v_0_sroa_0_0_i_i82_i_i422_i_v_i;
-    u64 v_0_sroa_0_0_i_i82_i_i422_i_i;
-    u64 v_187;
-    u1 v_3_i22_i_i423_i_i;
-    u1 v_4_i24_i_i425_i_i;
-    u1 v_5_i26_i_i427_i_i;
-    u1 v_6_i28_i_i429_i_i;
-    u64 v_175_i;
-    u64 v_sink170_i;
-    u64 v_188;
-    u1 v_10_i_i433_i_i;
-    u64 v_189;
-    u64 v_spec_select20_i_i434_i_i;
-    u64 v_0_sroa_0_0_i437_i_i;
-    P v_190;
-    u64 v_0_1_i97_i_i182_i_i;
-    P v_191;
-    u64 v_0_1_i95_i_i186_i_i;
-    P v_192;
-    P v_193;
-    u1 v_194;
-    P v_195;
-    u64 v_4_1_i89_i_i189_i_i;
-    u1 v_5_i90_i_i190_i_i;
-    u64 v_196;
-    u64 v_0_sroa_0_0_i91_i_i191_i_i;
-    u64 v_10_sroa_0_0_i59_i_i193_i_i;
-    u64 v_0_i102_i_i195_i_i;
-    u1 v_3_i_i61_i_i196_i_i;
-    u64 v_0_sroa_0_0_i_i62_i_i197_i_v_i;
-    u64 v_0_sroa_0_0_i_i62_i_i197_i_i;
-    u64 v_197;
-    u1 v_3_i_i_i_i198_i_i;
-    u1 v_4_i_i_i_i200_i_i;
-    u64 v_198;
-    u1 v_5_i_i_i_i202_i_i;
-    u64 v_199;
-    u1 v_6_i_i_i_i204_i_i;
-    u64 v_200;
-    u64 v_201;
-    u64 v_202;
-    u64 v_10_sroa_0_0_i_i_i209_i_i;
-    u64 v_0_i104_i_i211_i_i;
-    u1 v_3_i2_i_i_i212_i_i;
-    u64 v_0_sroa_0_0_i3_i_i_i213_i_v_i;
-    u64 v_0_sroa_0_0_i3_i_i_i213_i_i;
-    u64 v_203;
-    u1 v_3_i_i_i214_i_i;
-    u1 v_4_i_i_i216_i_i;
-    u1 v_5_i_i_i218_i_i;
-    u1 v_6_i_i_i220_i_i;
-    u64 v_176_i;
-    u64 v_sink171_i;
-    u64 v_204;
-    u1 v_31_i_i224_i_i;
-    u64 v_205;
-    u64 v_spec_select19_i_i225_i_i;
-    u64 v_206;
-    u64 v_0_sroa_0_0_i170_i_i;
-    P v_207;
-    u64 v_0_1_i93_i_i_i_i;
-    P v_208;
-    u64 v_4_1_i86_i_i_i_i;
-    u1 v_5_i87_i_i_i_i;
-    u64 v_209;
-    u64 v_0_sroa_0_0_i88_i_i_i_i;
-    u64 v_10_sroa_0_0_i69_i_i_i_i;
-    u64 v_0_i100_i_i_i_i;
-    u1 v_3_i_i70_i_i_i_i;
-    u64 v_0_sroa_0_0_i_i71_i_i_i_v_i;
-    u64 v_0_sroa_0_0_i_i71_i_i_i_i;
-    u64 v_210;
-    u1 v_3_i36_i_i_i_i;
-    u1 v_4_i38_i_i_i_i;
-    u1 v_5_i40_i_i_i_i;
-    u1 v_6_i42_i_i_i_i;
-    u64 v_177_i;
-    u64 v_sink172_i;
-    u64 v_211;
-    u1 v_33_i_i_i_i;
-    u64 v_212;
-    u64 v_spec_select_i_i_i_i;
-    u64 v_213;
-    u1 v_0_sroa_0_0_i254394;
-    u64 v_0_sroa_0_0_i_i21_i;
-    u1 v_3_i_i_i;
-    u1 v_4_i_i10_i;
-    u1 v_5_i_i_i;
-    u1 v_6_i_i_i;
-    u64 v_214;
-    u1 v_6_i_i293;
-    u64 v_215;
-    u1 v_7_i_i;
-    u64 v_216;
-    u64 v_217;
-    u64 v_218;
-    u1 v_8_i_i294;
-    u64 v_10_sroa_0_0_i_i400408;
-    u64 v_219;
-    u64 v_220;
-    u1 v_9_i_i295;
-    u64 v_221;
-    u64 v_10_sroa_0_0_i_i_ph414418;
-    u64 v_222;
-    u64 v_10_sroa_0_0_i_i_ph_ph424428;
-    u64 v_223;
-    u64 v_224;
-    u1 v_10_i_i297;
-    P v_phi_trans_insert;
-    u64 v_0_1_i_i_i545_i_i_i_i_pre;
-    P v_phi_trans_insert516;
-    u64 v_4_1_i_i_i548_i_i_i_i_pre;
-    u64 v_pre;
-    u64 v_pre518;
-    u64 v_0_i_i_i554_i_i_i_i_pre_phi;
-    u64 v_pre_phi;
-    u64 v_4_1_i_i_i548_i_i_i_i;
-    u1 v_5_i84_i_i549_i_i_i_i;
-    u64 v_0_sroa_0_0_i85_i_i550_i_i_i_i;
-    u64 v_10_sroa_0_0_i79_i_i552_i_i_i_i;
-    u1 v_3_i_i81_i_i555_i_i_i_i;
-    u64 v_0_sroa_0_0_i_i82_i_i556_i_v_i_i_i;
-    u64 v_0_sroa_0_0_i_i82_i_i556_i_i_i_i;
-    u64 v_225;
-    u1 v_10_i_i567_i_i_i_i;
-    u64 v_226;
-    P v_227;
-    u64 v_0_1_i_i_i679_i_i_i_i;
-    P v_228;
-    u64 v_4_1_i_i_i682_i_i_i_i;
-    u1 v_5_i84_i_i683_i_i_i_i;
-    u64 v_229;
-    u64 v_0_sroa_0_0_i85_i_i684_i_i_i_i;
-    u64 v_10_sroa_0_0_i79_i_i686_i_i_i_i;
-    u64 v_0_i_i_i688_i_i_i_i;
-    u1 v_3_i_i81_i_i689_i_i_i_i;
-    u64 v_0_sroa_0_0_i_i82_i_i690_i_v_i_i_i;
-    u64 v_0_sroa_0_0_i_i82_i_i690_i_i_i_i;
-    u64 v_230;
-    u1 v_3_i22_i_i691_i_i_i_i;
-    u1 v_4_i24_i_i693_i_i_i_i;
-    u1 v_5_i26_i_i695_i_i_i_i;
-    u1 v_6_i28_i_i697_i_i_i_i;
-    u64 v_i_i_i;
-    u64 v_sink_i_i_i;
-    u64 v_231;
-    u1 v_10_i_i701_i_i_i_i;
-    u64 v_232;
-    u64 v_spec_select20_i_i702_i_i_i_i;
-    u64 v_0_sroa_0_0_i705_i_i_i_i;
-    P v_233;
-    u64 v_0_1_i97_i_i49_i_i_i_i;
-    P v_234;
-    u64 v_0_1_i95_i_i53_i_i_i_i;
-    P v_235;
-    P v_236;
-    u1 v_237;
-    P v_238;
-    u64 v_4_1_i89_i_i56_i_i_i_i;
-    u1 v_5_i90_i_i57_i_i_i_i;
-    u64 v_239;
-    u64 v_0_sroa_0_0_i91_i_i58_i_i_i_i;
-    u64 v_10_sroa_0_0_i59_i_i60_i_i_i_i;
-    u64 v_0_i102_i_i62_i_i_i_i;
-    u1 v_3_i_i61_i_i63_i_i_i_i;
-    u64 v_0_sroa_0_0_i_i62_i_i64_i_v_i_i_i;
-    u64 v_0_sroa_0_0_i_i62_i_i64_i_i_i_i;
-    u64 v_240;
-    u1 v_3_i_i_i_i65_i_i_i_i;
-    u1 v_4_i_i_i_i67_i_i_i_i;
-    u64 v_241;
-    u1 v_5_i_i_i_i69_i_i_i_i;
-    u64 v_242;
-    u1 v_6_i_i_i_i71_i_i_i_i;
-    u64 v_243;
-    u64 v_244;
-    u64 v_245;
-    u64 v_10_sroa_0_0_i_i_i76_i_i_i_i;
-    u64 v_0_i104_i_i78_i_i_i_i;
-    u1 v_3_i2_i_i_i79_i_i_i_i;
-    u64 v_0_sroa_0_0_i3_i_i_i80_i_v_i_i_i;
-    u64 v_0_sroa_0_0_i3_i_i_i80_i_i_i_i;
-    u64 v_246;
-    u1 v_3_i_i_i81_i_i_i_i;
-    u1 v_4_i_i_i83_i_i_i_i;
-    u1 v_5_i_i_i85_i_i_i_i;
-    u1 v_6_i_i_i87_i_i_i_i;
-    u64 v_66_i_i_i;
-    u64 v_sink61_i_i_i;
-    u64 v_247;
-    u1 v_31_i_i91_i_i_i_i;
-    u64 v_248;
-    u64 v_spec_select19_i_i92_i_i_i_i;
-    u64 v_249;
-    P v_250;
-    u64 v_0_1_i_i_i278_i_i_i_i;
-    P v_251;
-    u64 v_4_1_i_i_i281_i_i_i_i;
-    u1 v_5_i84_i_i282_i_i_i_i;
-    u64 v_252;
-    u64 v_0_sroa_0_0_i85_i_i283_i_i_i_i;
-    u64 v_10_sroa_0_0_i79_i_i285_i_i_i_i;
-    u64 v_0_i_i_i287_i_i_i_i;
-    u1 v_3_i_i81_i_i288_i_i_i_i;
-    u64 v_0_sroa_0_0_i_i82_i_i289_i_v_i_i_i;
-    u64 v_0_sroa_0_0_i_i82_i_i289_i_i_i_i;
-    u64 v_253;
-    u1 v_3_i22_i_i290_i_i_i_i;
-    u1 v_4_i24_i_i292_i_i_i_i;
-    u1 v_5_i26_i_i294_i_i_i_i;
-    u1 v_6_i28_i_i296_i_i_i_i;
-    u64 v_67_i_i_i;
-    u64 v_sink62_i_i_i;
-    u64 v_254;
-    u1 v_10_i_i300_i_i_i_i;
-    u64 v_255;
-    u64 v_spec_select20_i_i301_i_i_i_i;
-    P v_256;
-    u64 v_0_1_i_i_i411_i_i_i_i;
-    P v_257;
-    u64 v_4_1_i_i_i414_i_i_i_i;
-    u1 v_5_i84_i_i415_i_i_i_i;
-    u64 v_258;
-    u64 v_0_sroa_0_0_i85_i_i416_i_i_i_i;
-    u64 v_10_sroa_0_0_i79_i_i418_i_i_i_i;
-    u64 v_0_i_i_i420_i_i_i_i;
-    u1 v_3_i_i81_i_i421_i_i_i_i;
-    u64 v_0_sroa_0_0_i_i82_i_i422_i_v_i_i_i;
-    u64 v_0_sroa_0_0_i_i82_i_i422_i_i_i_i;
-    u64 v_259;
-    u1 v_3_i22_i_i423_i_i_i_i;
-    u1 v_4_i24_i_i425_i_i_i_i;
-    u1 v_5_i26_i_i427_i_i_i_i;
-    u1 v_6_i28_i_i429_i_i_i_i;
-    u64 v_68_i_i_i;
-    u64 v_sink63_i_i_i;
-    u64 v_260;
-    u1 v_10_i_i433_i_i_i_i;
-    u64 v_261;
-    u64 v_spec_select20_i_i434_i_i_i_i;
-    u64 v_0_sroa_0_0_i437_i_i_i_i;
-    P v_262;
-    u64 v_0_1_i97_i_i182_i_i_i_i;
-    P v_263;
-    u64 v_0_1_i95_i_i186_i_i_i_i;
-    P v_264;
-    P v_265;
-    u1 v_266;
-    P v_267;
-    u64 v_4_1_i89_i_i189_i_i_i_i;
-    u1 v_5_i90_i_i190_i_i_i_i;
-    u64 v_268;
-    u64 v_0_sroa_0_0_i91_i_i191_i_i_i_i;
-    u64 v_10_sroa_0_0_i59_i_i193_i_i_i_i;
-    u64 v_0_i102_i_i195_i_i_i_i;
-    u1 v_3_i_i61_i_i196_i_i_i_i;
-    u64 v_0_sroa_0_0_i_i62_i_i197_i_v_i_i_i;
-    u64 v_0_sroa_0_0_i_i62_i_i197_i_i_i_i;
-    u64 v_269;
-    u1 v_3_i_i_i_i198_i_i_i_i;
-    u1 v_4_i_i_i_i200_i_i_i_i;
-    u64 v_270;
-    u1 v_5_i_i_i_i202_i_i_i_i;
-    u64 v_271;
-    u1 v_6_i_i_i_i204_i_i_i_i;
-    u64 v_272;
-    u64 v_273;
-    u64 v_274;
-    u64 v_10_sroa_0_0_i_i_i209_i_i_i_i;
-    u64 v_0_i104_i_i211_i_i_i_i;
-    u1 v_3_i2_i_i_i212_i_i_i_i;
-    u64 v_0_sroa_0_0_i3_i_i_i213_i_v_i_i_i;
-    u64 v_0_sroa_0_0_i3_i_i_i213_i_i_i_i;
-    u64 v_275;
-    u1 v_3_i_i_i214_i_i_i_i;
-    u1 v_4_i_i_i216_i_i_i_i;
-    u1 v_5_i_i_i218_i_i_i_i;
-    u1 v_6_i_i_i220_i_i_i_i;
-    u64 v_69_i_i_i;
-    u64 v_sink64_i_i_i;
-    u64 v_276;
-    u1 v_31_i_i224_i_i_i_i;
-    u64 v_277;
-    u64 v_spec_select19_i_i225_i_i_i_i;
-    u64 v_278;
-    u64 v_0_sroa_0_0_i170_i_i_i_i;
-    P v_279;
-    u64 v_0_1_i93_i_i_i_i_i_i;
-    P v_280;
-    u64 v_4_1_i86_i_i_i_i_i_i;
-    u1 v_5_i87_i_i_i_i_i_i;
-    u64 v_281;
-    u64 v_0_sroa_0_0_i88_i_i_i_i_i_i;
-    u64 v_10_sroa_0_0_i69_i_i_i_i_i_i;
-    u64 v_0_i100_i_i_i_i_i_i;
-    u1 v_3_i_i70_i_i_i_i_i_i;
-    u64 v_0_sroa_0_0_i_i71_i_i_i_v_i_i_i;
-    u64 v_0_sroa_0_0_i_i71_i_i_i_i_i_i;
-    u64 v_282;
-    u1 v_3_i36_i_i_i_i_i_i;
-    u1 v_4_i38_i_i_i_i_i_i;
-    u1 v_5_i40_i_i_i_i_i_i;
-    u1 v_6_i42_i_i_i_i_i_i;
-    u64 v_70_i_i_i;
-    u64 v_sink65_i_i_i;
-    u64 v_283;
-    u1 v_33_i_i_i_i_i_i;
-    u64 v_284;
-    u64 v_spec_select_i_i_i_i_i_i;
-    u64 v_285;
-    u64 v_0_sroa_0_0_i_i_i_i29_i;
-    u1 v_6_i_i_i_i;
-    u1 v_7_i_i_i31_i;
-    u64 v_0_sroa_0_0_i_i38_i_i_i;
-    u64 v_286;
-    u1 v_8_i_i_i_i;
-    u64 v_287;
-    u1 v_9_i_i_i_i;
-    u64 v_288;
-    u64 v_289;
-    u64 v_290;
-    u1 v_10_i_i_i33_i;
-    u64 v_0_sroa_31_0_in_i_i_ph_i_i;
-    u64 v_0_sroa_31_0_insert_shift_i_i11_i_i;
-    u64 v_291;
-    u1 v_trunc18_i_i_i_i;
-    u64 v_sroa_09_0_insert_insert60_i_i_i;
-    u64 v_sroa_57_0_extract_shift_i_i_i_i;
-    u1 v_11_1_i_i_i_i_i;
-    u64 v_292;
-    u64 v_0_sroa_0_0_insert_insert_i_i_i_i_i;
-    u64 v_sroa_4_0_extract_shift14_i_i_i_i;
-    u1 v_trunc_i_i;
-    u64 v_sroa_5_0_extract_shift_i36_i;
-    u1 v_10_i_i_i298;
-    u1 v_11_i_i38_i;
-    u1 v_12_i_i40_i;
-    u1 v_13_i_i41_i;
-    u64 v_i6_i_i;
-    u64 v_0_sroa_31_0_in_i_ph_i;
-    u64 v_0_sroa_31_0_insert_shift_i151_i;
-    u64 v_sink_i7_i_i;
-    u64 v_293;
-    u1 v_14_i_i42_i;
-    u64 v_294;
-    u64 v_295;
-    u64 v_0_sroa_0_0_insert_insert_i_i_i;
-    u1 v_trunc_i;
-    u64 v_0_sroa_0_0_insert_insert_i155_i;
-    u64 v_sroa_5_0_extract_shift_i;
-    u1 v_4_i_i;
-    P v_296;
-    P v_297;
-    u64 v_15_1_i_i_i;
-    u64 v_14_i_i52_i;
-    u64 v_7_i_i53_i;
-    u32 v_16_i_i_i300;
-    u1 v_4_i_i_i_i;
-    u1 v_9_i_i_i56_i;
-    u16 v_8_i_i_i70_i;
-    P v_48_0_i_i_i_i;
-    u64 v_start1_i_i_i_i_i;
-    u1 v_8_not_i_i_i_i_i;
-    u1 v_15_not_i_i_i_i_i;
-    P v_298;
-    u16 v_7_i_i_sroa_0_sroa_4_0_insert_shift_i_i;
-    u16 v_7_i_i_sroa_0_sroa_0_0_insert_insert_i_i;
-    u1 v_14_i_i_i58_i;
-    u8 v_13_i_i_i_i;
-    P v_51_0_i_i_i_i;
-    u64 v_start1_i11_i_i_i_i;
-    u1 v_8_not_i12_i_i_i_i;
-    u1 v_15_not_i15_i_i_i_i;
-    P v_299;
-    P v_12_i_i_sroa_4_0_sroa_idx_i_i;
-    P v_12_i_i_sroa_5_0_sroa_idx_i_i;
-    u1 v_22_i_i_i_i;
-    P v_54_0_i_i_i_i;
-    u64 v_start1_i26_i_i_i_i;
-    u1 v_8_not_i27_i_i_i_i;
-    u1 v_15_not_i30_i_i_i_i;
-    P v_300;
-    u32 v_301;
-    u32 v_17_i_i_sroa_0_sroa_0_0_insert_insert_i_i;
-    u64 v_371_i_i_i_i;
-    u8 v_36_i_i_i_i;
-    u64 v_402_i_i_i_i;
-    u8 v_38_i_i_i_i;
-    u64 v_433_i_i_i_i;
-    u8 v_41_i_i_i_i;
-    u8 v_44_i_i_i_i;
-    P v_60_0_i_i_i_i;
-    u64 v_start1_i56_i_i_i_i;
-    u1 v_8_not_i57_i_i_i_i;
-    u1 v_15_not_i60_i_i_i_i;
-    P v_302;
-    P v_35_i_i_sroa_4_0_sroa_idx_i_i;
-    P v_35_i_i_sroa_5_0_sroa_idx_i_i;
-    P v_35_i_i_sroa_6_0_sroa_idx_i_i;
-    P v_35_i_i_sroa_7_0_sroa_idx_i_i;
-    P v_35_i_i_sroa_8_0_sroa_idx_i_i;
-    u64 v_274_i_i_i_i;
-    u8 v_26_i_i_i_i;
-    u64 v_305_i_i_i_i;
-    u8 v_28_i_i_i_i;
-    u8 v_31_i_i_i66_i;
-    P v_57_0_i_i_i_i;
-    u64 v_start1_i41_i_i_i_i;
-    u1 v_8_not_i42_i_i_i_i;
-    u1 v_15_not_i45_i_i_i_i;
-    P v_303;
-    P v_25_i_i_sroa_4_0_sroa_idx_i_i;
-    P v_25_i_i_sroa_5_0_sroa_idx_i_i;
-    P v_25_i_i_sroa_6_0_sroa_idx_i_i;
-    P v_25_i_i_sroa_7_0_sroa_idx_i_i;
-    P v_48_0_i_i_i;
-    u64 v_11_i27_i_i;
-    u64 v_before_neg_i28_i_i;
-    u1 v_8_not_i_i_i62_i;
-    u1 v_15_not_i_i_i63_i;
-    u64 v_start1_i_i_i64_i;
-    P v_304;
-    u64 v_7_i31_i_i301;
-    u64 v_6_i32_i_i;
-    u32 v_16_i33_i_i;
-    u1 v_4_i_i35_i_i;
-    u1 v_9_i_i37_i_i;
-    u1 v_15_not_i_i_i127_i_i;
-    u64 v_start1_i_i_i123_i_i;
-    u16 v_8_i_i119_i_i;
-    P v_305;
-    u16 v_7_i_i25_sroa_0_sroa_4_0_insert_shift_i_i;
-    u16 v_7_i_i25_sroa_0_sroa_0_0_insert_insert_i_i;
-    u1 v_14_i_i39_i_i;
-    u1 v_15_not_i15_i_i111_i_i;
-    u64 v_start1_i11_i_i107_i_i;
-    u8 v_13_i_i103_i_i;
-    P v_306;
-    P v_12_i_i24_sroa_4_0_sroa_idx_i_i;
-    P v_12_i_i24_sroa_5_0_sroa_idx_i_i;
-    u1 v_22_i_i41_i_i;
-    u1 v_15_not_i30_i_i95_i_i;
-    u64 v_start1_i26_i_i91_i_i;
-    P v_307;
-    u32 v_308;
-    u32 v_17_i_i23_sroa_0_sroa_0_0_insert_insert_i_i;
-    u1 v_15_not_i60_i_i57_i_i;
-    u64 v_start1_i56_i_i53_i_i;
-    u8 v_44_i_i49_i_i;
-    u64 v_433_i_i47_i_i;
-    u8 v_41_i_i48_i_i;
-    u64 v_402_i_i45_i_i;
-    u8 v_38_i_i46_i_i;
-    u64 v_371_i_i43_i_i;
-    u8 v_36_i_i44_i_i;
-    P v_309;
-    P v_35_i_i21_sroa_4_0_sroa_idx_i_i;
-    P v_35_i_i21_sroa_5_0_sroa_idx_i_i;
-    P v_35_i_i21_sroa_6_0_sroa_idx_i_i;
-    P v_35_i_i21_sroa_7_0_sroa_idx_i_i;
-    P v_35_i_i21_sroa_8_0_sroa_idx_i_i;
-    u1 v_15_not_i45_i_i77_i_i;
-    u64 v_start1_i41_i_i73_i_i;
-    u8 v_31_i_i69_i_i;
-    u64 v_305_i_i67_i_i;
-    u8 v_28_i_i68_i_i;
-    u64 v_274_i_i65_i_i;
-    u8 v_26_i_i66_i_i;
-    P v_310;
-    P v_25_i_i22_sroa_4_0_sroa_idx_i_i;
-    P v_25_i_i22_sroa_5_0_sroa_idx_i_i;
-    P v_25_i_i22_sroa_6_0_sroa_idx_i_i;
-    P v_25_i_i22_sroa_7_0_sroa_idx_i_i;
-    u64 v_start1_i_i_i123_sink_i_i;
-    u64 v_7_i5_i;
-    u32 v_16_i_i302;
-    u1 v_4_i_i_i;
-    u1 v_9_i_i_i;
-    u16 v_8_i_i_i;
-    u1 v_8_not_i_i_i_i;
-    u1 v_15_not_i_i_i_i;
-    P v_311;
-    P v_312;
-    u16 v_7_i_i_sroa_0_sroa_4_0_insert_shift_i;
-    u16 v_7_i_i_sroa_0_sroa_0_0_insert_insert_i;
-    u1 v_14_i_i_i305;
-    u8 v_13_i_i_i;
-    u1 v_8_not_i12_i_i_i;
-    u1 v_15_not_i15_i_i_i;
-    P v_313;
-    P v_314;
-    P v_12_i_i_sroa_4_0_sroa_idx_i;
-    P v_12_i_i_sroa_5_0_sroa_idx_i;
-    u1 v_22_i_i_i307;
-    u1 v_8_not_i27_i_i_i;
-    u1 v_15_not_i30_i_i_i;
-    P v_315;
-    P v_316;
-    u32 v_317;
-    u32 v_17_i_i_sroa_0_sroa_0_0_insert_insert_i;
-    u64 v_371_i_i_i;
-    u8 v_36_i_i_i308;
-    u64 v_402_i_i_i;
-    u8 v_38_i_i_i309;
-    u64 v_433_i_i_i;
-    u8 v_41_i_i_i;
-    u8 v_44_i_i_i;
-    u1 v_8_not_i57_i_i_i;
-    u1 v_15_not_i60_i_i_i;
-    P v_318;
-    P v_319;
-    P v_35_i_i_sroa_4_0_sroa_idx_i;
-    P v_35_i_i_sroa_5_0_sroa_idx_i;
-    P v_35_i_i_sroa_6_0_sroa_idx_i;
-    P v_35_i_i_sroa_7_0_sroa_idx_i;
-    P v_35_i_i_sroa_8_0_sroa_idx_i;
-    u64 v_274_i_i_i;
-    u8 v_26_i_i_i313;
-    u64 v_305_i_i_i;
-    u8 v_28_i_i_i314;
-    u8 v_31_i_i_i315;
-    u1 v_8_not_i42_i_i_i;
-    u1 v_15_not_i45_i_i_i;
-    P v_320;
-    P v_321;
-    P v_25_i_i_sroa_4_0_sroa_idx_i;
-    P v_25_i_i_sroa_5_0_sroa_idx_i;
-    P v_25_i_i_sroa_6_0_sroa_idx_i;
-    P v_25_i_i_sroa_7_0_sroa_idx_i;
-    u32 v_323;
-    u64 v_0_sroa_0_0_insert_insert_i167_i;
-    u64 v_sroa_4_0_extract_shift_i319;
-    u8 v_error_sroa_0_0_extract_trunc_i;
-    u32 v_0_sroa_0_1_i311;
-    P v_324;
-    u8 v_failure_i_sroa_0_0_copyload;
-    u8 v_325;
-    u64 v_326;
-    u1 v_327;
-    u64 v_328;
-    u64 v_2_i;
-    u32 v_0_sroa_0_0_i3;
-    u32 v_0_sroa_0_0;
-    u64 v_start1_i_i102_i_sink;
-    u64 v_59_i98_i_sink_in_in;
-    u64 v_0_sroa_5_0_i;
-    u8 v_59_i98_i_sink_in;
-    u8 v_59_i98_i_sink;
-    P v_329;
-    P v_58_i33_i_sroa_4_0_sroa_idx;
-    P v_58_i33_i_sroa_5_0_sroa_idx;
-    P v_58_i33_i_sroa_6_0_sroa_idx;
-    P v_58_i33_i_sroa_7_0_sroa_idx;
-    P v_58_i33_i_sroa_8_0_sroa_idx;
-    P v_58_i33_i_sroa_9_0_sroa_idx;
-    P v_58_i33_i_sroa_10_0_sroa_idx;
-    P v_58_i33_i_sroa_11_0_sroa_idx;
-    P v_58_i33_i_sroa_12_0_sroa_idx;
-    P v_58_i33_i_sroa_13_0_sroa_idx;
-    P v_58_i33_i_sroa_14_0_sroa_idx;
-    P v_58_i33_i_sroa_15_0_sroa_idx;
-    u64 v_0_sroa_5_0_i_ph;
-    v_writer_i_i288 = AT(m_v_writer_i_i288);
-    v_made_i = AT(m_v_made_i);
-    v_4_i = AT(m_v_4_i);
-    v_8_i = v_params + 40;
-    v_0 = v_params + 16;
-    v_1 = get_u8(v_0);
-    v_6_i_i = (u1)((v_1) & 1);
-    if (v_6_i_i) { goto L_bb3; } else { goto L_bb19_i_i; }
-L_bb19_i_i:;
-    v_2 = v_params + 56;
-    v_3 = get_u8(v_2);
-    v_4 = (u1)((v_3) & 1);
-    v_5 = v_params + 80;
-    v_6 = get_u8(v_5);
-    v_7 = (u1)((v_6) & 1);
-    v_not = (u1)(((u32)(v_4) ^ (u32)(1u)) & 1);
-    v_8 = v_not ? 1u : v_7;
-    if (v_8) { goto L_bb3; } else { goto L_bb2_i; }
-L_bb2_i:;
-    v_9 = v_params + 120;
-    v_10 = get_u8(v_9);
-    v_16_i = (u1)((v_10) & 1);
-    v_11 = v_params + 121;
-    v_17_i = get_u8(v_11);
-    v_9_i = v_17_i == 4u;
-    v_or_cond_i = v_16_i ? v_9_i : 0u;
-    if (v_or_cond_i) { goto L_bb3_i; } else { goto L_bb3; }
-L_bb3_i:;
-    v_12 = v_params + 104;
-    v_hash_0_i = get_P(v_params);
-    v_13 = v_params + 8;
-    v_hash_1_i = get_u64(v_13);
-    v_14 = v_params + 64;
-    v_under_0_i = get_P(v_14);
-    v_15 = v_params + 72;
-    v_under_1_i = get_u64(v_15);
-    v_13_0_i = get_P(v_8_i);
-    v_16 = v_params + 48;
-    v_13_1_i = get_u64(v_16);
-    v_14_0_i = get_P(v_12);
-    v_17 = v_params + 112;
-    v_14_1_i = get_u64(v_17);
-    v_18 = v_params + 128;
-    v_15_0_i = get_P(v_18);
-    v_19 = v_params + 136;
-    v_15_1_i = get_u64(v_19);
-    v_9_not_i = v_15_1_i < 51u;
-    v_20 = v_14_1_i == 9u;
-    v_or_cond = (u1)(((u32)(v_20) & (u32)(v_9_not_i)) & 1);
-    if (v_or_cond) { goto L_bb2_i_i; } else { goto L_bb3; }
-L_bb2_i_i:;
-    v_21_i_i = get_u8(v_14_0_i);
-    v_20_i_i = v_21_i_i == 42u;
-    v_21 = v_14_0_i + 1;
-    v_23_i_i = get_u8(v_21);
-    v_22_i_i = v_23_i_i == 134u;
-    v_19_i_i = (u1)(((u32)(v_20_i_i) & (u32)(v_22_i_i)) & 1);
-    v_22 = v_14_0_i + 2;
-    v_25_i_i = get_u8(v_22);
-    v_24_i_i = v_25_i_i == 72u;
-    v_18_i_i = (u1)(((u32)(v_19_i_i) & (u32)(v_24_i_i)) & 1);
-    v_23 = v_14_0_i + 3;
-    v_27_i_i = get_u8(v_23);
-    v_26_i_i = v_27_i_i == 134u;
-    v_17_i_i = (u1)(((u32)(v_18_i_i) & (u32)(v_26_i_i)) & 1);
-    v_24 = v_14_0_i + 4;
-    v_29_i_i = get_u8(v_24);
-    v_28_i_i = v_29_i_i == 247u;
-    v_16_i_i = (u1)(((u32)(v_17_i_i) & (u32)(v_28_i_i)) & 1);
-    v_25 = v_14_0_i + 5;
-    v_31_i_i = get_u8(v_25);
-    v_30_i_i = v_31_i_i == 13u;
-    v_15_i_i = (u1)(((u32)(v_16_i_i) & (u32)(v_30_i_i)) & 1);
-    v_26 = v_14_0_i + 6;
-    v_33_i_i = get_u8(v_26);
-    v_32_i_i = v_33_i_i == 1u;
-    v_14_i_i = (u1)(((u32)(v_15_i_i) & (u32)(v_32_i_i)) & 1);
-    v_27 = v_14_0_i + 7;
-    v_35_i_i = get_u8(v_27);
-    v_34_i_i = v_35_i_i == 1u;
-    v_front_i_i = (u1)(((u32)(v_14_i_i) & (u32)(v_34_i_i)) & 1);
-    if (v_front_i_i) { goto L_hash_fields_is_pkcs1_exit_i; } else { goto L_bb3; }
-L_hash_fields_is_pkcs1_exit_i:;
-    v_28 = v_14_0_i + 8;
-    v_36_i_i = get_u8(v_28);
-    v_29 = v_36_i_i == 9u;
-    if (v_29) { goto L_bb3_i8; } else { goto L_bb3; }
-L_bb3_i8:;
-    v_30 = v_13_1_i == 9u;
-    if (v_30) { goto L_bb2_i_i_i; } else { p_v_0_sroa_5_sroa_0_0_i_i = 0u; p_v_0_sroa_0_0_i9_i = 2u; goto L_known_known_hashes_exit_i; }
-L_bb2_i_i_i:;
-    v_21_i_i_i = get_u8(v_13_0_i);
-    v_20_i_i_i = v_21_i_i_i == 42u;
-    v_31 = v_13_0_i + 1;
-    v_23_i_i_i = get_u8(v_31);
-    v_22_i_i_i = v_23_i_i_i == 134u;
-    v_19_i_i_i = (u1)(((u32)(v_20_i_i_i) & (u32)(v_22_i_i_i)) & 1);
-    v_32 = v_13_0_i + 2;
-    v_25_i_i_i = get_u8(v_32);
-    v_24_i_i_i = v_25_i_i_i == 72u;
-    v_18_i_i_i = (u1)(((u32)(v_19_i_i_i) & (u32)(v_24_i_i_i)) & 1);
-    v_33 = v_13_0_i + 3;
-    v_27_i_i_i = get_u8(v_33);
-    v_26_i_i_i = v_27_i_i_i == 134u;
-    v_17_i_i_i = (u1)(((u32)(v_18_i_i_i) & (u32)(v_26_i_i_i)) & 1);
-    v_34 = v_13_0_i + 4;
-    v_29_i_i_i = get_u8(v_34);
-    v_28_i_i_i = v_29_i_i_i == 247u;
-    v_16_i_i_i = (u1)(((u32)(v_17_i_i_i) & (u32)(v_28_i_i_i)) & 1);
-    v_35 = v_13_0_i + 5;
-    v_31_i_i_i = get_u8(v_35);
-    v_30_i_i_i = v_31_i_i_i == 13u;
-    v_15_i_i_i = (u1)(((u32)(v_16_i_i_i) & (u32)(v_30_i_i_i)) & 1);
-    v_36 = v_13_0_i + 6;
-    v_33_i_i_i = get_u8(v_36);
-    v_32_i_i_i = v_33_i_i_i == 1u;
-    v_14_i_i_i = (u1)(((u32)(v_15_i_i_i) & (u32)(v_32_i_i_i)) & 1);
-    v_37 = v_13_0_i + 7;
-    v_35_i_i_i = get_u8(v_37);
-    v_34_i_i_i = v_35_i_i_i == 1u;
-    v_front_i_i_i = (u1)(((u32)(v_14_i_i_i) & (u32)(v_34_i_i_i)) & 1);
-    if (v_front_i_i_i) { goto L_hash_fields_is_pkcs1_exit_i_i; } else { p_v_0_sroa_5_sroa_0_0_i_i = 0u; p_v_0_sroa_0_0_i9_i = 2u; goto L_known_known_hashes_exit_i; }
-L_hash_fields_is_pkcs1_exit_i_i:;
-    v_38 = v_13_0_i + 8;
-    v_36_i_i_i = get_u8(v_38);
-    v_39 = v_36_i_i_i == 8u;
-    v_40 = v_hash_1_i == 9u;
-    v_or_cond384 = (u1)(((u32)(v_40) & (u32)(v_39)) & 1);
-    if (v_or_cond384) { goto L_bb5_i36_i_i; } else { p_v_0_sroa_5_sroa_0_0_i_i = 0u; p_v_0_sroa_0_0_i9_i = 2u; goto L_known_known_hashes_exit_i; }
-L_bb5_i36_i_i:;
-    v_22_i37_i_i = get_u8(v_hash_0_i);
-    v_21_i38_i_i = v_22_i37_i_i == 96u;
-    v_41 = v_hash_0_i + 1;
-    v_24_i39_i_i = get_u8(v_41);
-    v_23_i40_i_i = v_24_i39_i_i == 134u;
-    v_20_i41_i_i = (u1)(((u32)(v_21_i38_i_i) & (u32)(v_23_i40_i_i)) & 1);
-    v_42 = v_hash_0_i + 2;
-    v_26_i42_i_i = get_u8(v_42);
-    v_25_i43_i_i = v_26_i42_i_i == 72u;
-    v_19_i44_i_i = (u1)(((u32)(v_20_i41_i_i) & (u32)(v_25_i43_i_i)) & 1);
-    v_43 = v_hash_0_i + 3;
-    v_28_i45_i_i = get_u8(v_43);
-    v_27_i46_i_i = v_28_i45_i_i == 1u;
-    v_18_i47_i_i = (u1)(((u32)(v_19_i44_i_i) & (u32)(v_27_i46_i_i)) & 1);
-    v_44 = v_hash_0_i + 4;
-    v_30_i48_i_i = get_u8(v_44);
-    v_29_i49_i_i = v_30_i48_i_i == 101u;
-    v_17_i50_i_i = (u1)(((u32)(v_18_i47_i_i) & (u32)(v_29_i49_i_i)) & 1);
-    v_45 = v_hash_0_i + 5;
-    v_32_i51_i_i = get_u8(v_45);
-    v_31_i52_i_i = v_32_i51_i_i == 3u;
-    v_16_i53_i_i = (u1)(((u32)(v_17_i50_i_i) & (u32)(v_31_i52_i_i)) & 1);
-    v_46 = v_hash_0_i + 6;
-    v_34_i54_i_i = get_u8(v_46);
-    v_33_i55_i_i = v_34_i54_i_i == 4u;
-    v_15_i56_i_i = (u1)(((u32)(v_16_i53_i_i) & (u32)(v_33_i55_i_i)) & 1);
-    v_47 = v_hash_0_i + 7;
-    v_36_i57_i_i = get_u8(v_47);
-    v_35_i58_i_i = v_36_i57_i_i == 2u;
-    v_front_i59_i_i = (u1)(((u32)(v_15_i56_i_i) & (u32)(v_35_i58_i_i)) & 1);
-    if (v_front_i59_i_i) { goto L_bb6_i60_i_i; } else { p_v_0_sroa_5_sroa_0_0_i_i = 0u; p_v_0_sroa_0_0_i9_i = 2u; goto L_known_known_hashes_exit_i; }
-L_bb6_i60_i_i:;
-    v_48 = v_hash_0_i + 8;
-    v_38_i61_i_i = get_u8(v_48);
-    v_37_i62_i_i = (u8)(v_38_i61_i_i ^ ((u8)1 << 7)) > (u8)(255u ^ ((u8)1 << 7));
-    v_49 = v_under_1_i == 9u;
-    v_or_cond385 = (u1)(((u32)(v_49) & (u32)(v_37_i62_i_i)) & 1);
-    if (v_or_cond385) { goto L_bb5_i_i_i; } else { p_v_0_sroa_5_sroa_0_0_i_i = 0u; p_v_0_sroa_0_0_i9_i = 2u; goto L_known_known_hashes_exit_i; }
-L_bb5_i_i_i:;
-    v_22_i10_i_i = get_u8(v_under_0_i);
-    v_21_i11_i_i = v_22_i10_i_i == 96u;
-    v_50 = v_under_0_i + 1;
-    v_24_i12_i_i = get_u8(v_50);
-    v_23_i13_i_i = v_24_i12_i_i == 134u;
-    v_20_i14_i_i = (u1)(((u32)(v_21_i11_i_i) & (u32)(v_23_i13_i_i)) & 1);
-    v_51 = v_under_0_i + 2;
-    v_26_i15_i_i = get_u8(v_51);
-    v_25_i16_i_i = v_26_i15_i_i == 72u;
-    v_19_i17_i_i = (u1)(((u32)(v_20_i14_i_i) & (u32)(v_25_i16_i_i)) & 1);
-    v_52 = v_under_0_i + 3;
-    v_28_i18_i_i = get_u8(v_52);
-    v_27_i19_i_i = v_28_i18_i_i == 1u;
-    v_18_i20_i_i = (u1)(((u32)(v_19_i17_i_i) & (u32)(v_27_i19_i_i)) & 1);
-    v_53 = v_under_0_i + 4;
-    v_30_i21_i_i = get_u8(v_53);
-    v_29_i22_i_i = v_30_i21_i_i == 101u;
-    v_17_i23_i_i = (u1)(((u32)(v_18_i20_i_i) & (u32)(v_29_i22_i_i)) & 1);
-    v_54 = v_under_0_i + 5;
-    v_32_i24_i_i = get_u8(v_54);
-    v_31_i25_i_i = v_32_i24_i_i == 3u;
-    v_16_i26_i_i = (u1)(((u32)(v_17_i23_i_i) & (u32)(v_31_i25_i_i)) & 1);
-    v_55 = v_under_0_i + 6;
-    v_34_i27_i_i = get_u8(v_55);
-    v_33_i28_i_i = v_34_i27_i_i == 4u;
-    v_15_i29_i_i = (u1)(((u32)(v_16_i26_i_i) & (u32)(v_33_i28_i_i)) & 1);
-    v_56 = v_under_0_i + 7;
-    v_36_i30_i_i = get_u8(v_56);
-    v_35_i31_i_i = v_36_i30_i_i == 2u;
-    v_front_i32_i_i = (u1)(((u32)(v_15_i29_i_i) & (u32)(v_35_i31_i_i)) & 1);
-    if (v_front_i32_i_i) { goto L_bb6_i_i_i; } else { p_v_0_sroa_5_sroa_0_0_i_i = 0u; p_v_0_sroa_0_0_i9_i = 2u; goto L_known_known_hashes_exit_i; }
-L_bb6_i_i_i:;
-    v_57 = v_under_0_i + 8;
-    v_38_i_i_i = get_u8(v_57);
-    v_37_i_i_i = (u8)(v_38_i_i_i ^ ((u8)1 << 7)) > (u8)(255u ^ ((u8)1 << 7));
-    if (v_37_i_i_i) { goto L_bb12_i_i; } else { p_v_0_sroa_5_sroa_0_0_i_i = 0u; p_v_0_sroa_0_0_i9_i = 2u; goto L_known_known_hashes_exit_i; }
-L_bb12_i_i:;
-    v_12_sroa_4_1_insert_ext_i_i = (u32)v_38_i61_i_i;
-    v_12_sroa_4_3_insert_ext_i_i = (u32)v_38_i_i_i;
-    v_58 = (u32)((u32)(v_12_sroa_4_3_insert_ext_i_i) << (u32)((24u & 31)));
-    v_59 = (u32)((u32)(v_12_sroa_4_1_insert_ext_i_i) << (u32)((8u & 31)));
-    v_60 = (u32)((u32)(v_59) | (u32)(65536u));
-    v_61 = (u32)((u32)(v_58) | (u32)(v_60));
-    { p_v_0_sroa_5_sroa_0_0_i_i = v_61; p_v_0_sroa_0_0_i9_i = 1u; goto L_known_known_hashes_exit_i; }
-L_known_known_hashes_exit_i:;
-    v_0_sroa_5_sroa_0_0_i_i = p_v_0_sroa_5_sroa_0_0_i_i;
-    v_0_sroa_0_0_i9_i = p_v_0_sroa_0_0_i9_i;
-    v_0_sroa_0_0_insert_insert_i_i = (u32)((u32)(v_0_sroa_0_0_i9_i) | (u32)(v_0_sroa_5_sroa_0_0_i_i));
-    v_sroa_4_0_extract_shift_i = (u32)((u32)(v_0_sroa_5_sroa_0_0_i_i) >> (u32)((8u & 31)));
-    v_sroa_4_0_extract_trunc_i = (u8)(v_sroa_4_0_extract_shift_i);
-    v_sroa_6_0_extract_shift_i = (u32)((u32)(v_0_sroa_5_sroa_0_0_i_i) >> (u32)((24u & 31)));
-    v_sroa_6_0_extract_trunc_i = (u8)(v_sroa_6_0_extract_shift_i);
-    v_62 = (u32)((u32)(v_0_sroa_0_0_insert_insert_i_i) & (u32)(255u));
-    v_63 = v_62 == 2u;
-    if (v_63) { goto L_bb3; } else { goto L_bb17_i; }
-L_bb17_i:;
-    v_hash_01_i = (u1)((v_0_sroa_0_0_insert_insert_i_i) & 1);
-    v_64 = (u32)((u32)(v_0_sroa_5_sroa_0_0_i_i) & (u32)(65536u));
-    v_under_03_i_not_not = v_64 == 0u;
-    v_65 = v_15_1_i == 0u;
-    if (v_65) { goto L_bb7_i; } else { goto L_bb9_i; }
-L_bb7_i:;
-    v_spec_select_i40_i = v_hash_01_i ? 15u : 0u;
-    v_28_sroa_0_0_i43_i = v_under_03_i_not_not ? 0u : 28u;
-    v_10_i44_i = (u64)((u64)(v_spec_select_i40_i) + (u64)(v_28_sroa_0_0_i43_i));
-    v_len_i50_i = (u64)((u64)(v_10_i44_i) + (u64)(15u));
-    v_16_i51_i = v_len_i50_i > v_out_1;
-    if (v_16_i51_i) { p_v_0_sroa_5_0_i_ph = v_len_i50_i; goto L_bb7; } else { goto L_copy_from_slice_pkcs1_c_exit101; }
-L_copy_from_slice_pkcs1_c_exit101:;
-    if (v_under_03_i_not_not) { p_v_writer_i36_i_sroa_14_0 = v_len_i50_i; goto L_bb23_i75_i; } else { goto L_bb2_i7_i; }
-L_bb2_i7_i:;
-    v_start1_i5_i = (u64)((u64)(v_10_i44_i) + (u64)(18446744073709551603ull));
-    v_15_not_i9_i = v_start1_i5_i > v_len_i50_i;
-    if (v_15_not_i9_i) { goto L_bb7_i13_i; } else { goto L_copy_from_slice_pkcs1_c_exit104; }
-L_bb7_i13_i:;
-    TRAP();
-    TRAP();
-L_copy_from_slice_pkcs1_c_exit104:;
-    v_66 = v_out_0 + (int64_t)(v_start1_i5_i);
-    put_u8(v_66, 161u);
-    v_9_i16_sroa_4_0_sroa_idx = v_66 + 1;
-    put_u8(v_9_i16_sroa_4_0_sroa_idx, 26u);
-    v_9_i16_sroa_5_0_sroa_idx = v_66 + 2;
-    put_u8(v_9_i16_sroa_5_0_sroa_idx, 48u);
-    v_9_i16_sroa_6_0_sroa_idx = v_66 + 3;
-    put_u8(v_9_i16_sroa_6_0_sroa_idx, 24u);
-    v_9_i16_sroa_7_0_sroa_idx = v_66 + 4;
-    put_u8(v_9_i16_sroa_7_0_sroa_idx, 6u);
-    v_9_i16_sroa_8_0_sroa_idx = v_66 + 5;
-    put_u8(v_9_i16_sroa_8_0_sroa_idx, 9u);
-    v_9_i16_sroa_9_0_sroa_idx = v_66 + 6;
-    put_u8(v_9_i16_sroa_9_0_sroa_idx, 42u);
-    v_9_i16_sroa_10_0_sroa_idx = v_66 + 7;
-    put_u8(v_9_i16_sroa_10_0_sroa_idx, 134u);
-    v_9_i16_sroa_11_0_sroa_idx = v_66 + 8;
-    put_u8(v_9_i16_sroa_11_0_sroa_idx, 72u);
-    v_9_i16_sroa_12_0_sroa_idx = v_66 + 9;
-    put_u8(v_9_i16_sroa_12_0_sroa_idx, 134u);
-    v_9_i16_sroa_13_0_sroa_idx = v_66 + 10;
-    put_u8(v_9_i16_sroa_13_0_sroa_idx, 247u);
-    v_9_i16_sroa_14_0_sroa_idx = v_66 + 11;
-    put_u8(v_9_i16_sroa_14_0_sroa_idx, 13u);
-    v_9_i16_sroa_15_0_sroa_idx = v_66 + 12;
-    put_u8(v_9_i16_sroa_15_0_sroa_idx, 1u);
-    v_9_i16_sroa_16_0_sroa_idx = v_out_0 + (int64_t)(v_10_i44_i);
-    put_u8(v_9_i16_sroa_16_0_sroa_idx, 1u);
-    v_9_i16_sroa_17_0_sroa_idx = v_66 + 14;
-    put_u8(v_9_i16_sroa_17_0_sroa_idx, 8u);
-    v_9_i16_sroa_18_0_sroa_idx = v_66 + 15;
-    put_u8(v_9_i16_sroa_18_0_sroa_idx, 48u);
-    v_9_i16_sroa_19_0_sroa_idx = v_66 + 16;
-    put_u8(v_9_i16_sroa_19_0_sroa_idx, 11u);
-    v_9_i16_sroa_20_0_sroa_idx = v_66 + 17;
-    put_u8(v_9_i16_sroa_20_0_sroa_idx, 6u);
-    v_9_i16_sroa_21_0_sroa_idx = v_66 + 18;
-    put_u8(v_9_i16_sroa_21_0_sroa_idx, 9u);
-    v_9_i16_sroa_22_0_sroa_idx = v_66 + 19;
-    put_u8(v_9_i16_sroa_22_0_sroa_idx, 96u);
-    v_9_i16_sroa_23_0_sroa_idx = v_66 + 20;
-    put_u8(v_9_i16_sroa_23_0_sroa_idx, 134u);
-    v_9_i16_sroa_24_0_sroa_idx = v_66 + 21;
-    put_u8(v_9_i16_sroa_24_0_sroa_idx, 72u);
-    v_9_i16_sroa_25_0_sroa_idx = v_66 + 22;
-    put_u8(v_9_i16_sroa_25_0_sroa_idx, 1u);
-    v_9_i16_sroa_26_0_sroa_idx = v_66 + 23;
-    put_u8(v_9_i16_sroa_26_0_sroa_idx, 101u);
-    v_9_i16_sroa_27_0_sroa_idx = v_66 + 24;
-    put_u8(v_9_i16_sroa_27_0_sroa_idx, 3u);
-    v_9_i16_sroa_28_0_sroa_idx = v_66 + 25;
-    put_u8(v_9_i16_sroa_28_0_sroa_idx, 4u);
-    v_9_i16_sroa_29_0_sroa_idx = v_66 + 26;
-    put_u8(v_9_i16_sroa_29_0_sroa_idx, 2u);
-    v_9_i16_sroa_30_0_sroa_idx = v_66 + 27;
-    put_u8(v_9_i16_sroa_30_0_sroa_idx, v_sroa_6_0_extract_trunc_i);
-    { p_v_writer_i36_i_sroa_14_0 = v_start1_i5_i; goto L_bb23_i75_i; }
-L_bb23_i75_i:;
-    v_writer_i36_i_sroa_14_0 = p_v_writer_i36_i_sroa_14_0;
-    if (v_hash_01_i) { goto L_bb24_i115_i; } else { p_v_writer_i36_i_sroa_14_1 = v_writer_i36_i_sroa_14_0; goto L_bb21_i78_i; }
-L_bb24_i115_i:;
-    v_15_not_i9_i61 = v_writer_i36_i_sroa_14_0 < 15u;
-    if (v_15_not_i9_i61) { goto L_bb7_i13_i66; } else { goto L_copy_from_slice_pkcs1_c_exit107; }
-L_bb7_i13_i66:;
-    TRAP();
-    TRAP();
-L_copy_from_slice_pkcs1_c_exit107:;
-    v_start1_i5_i57 = (u64)((u64)(v_writer_i36_i_sroa_14_0) + (u64)(18446744073709551601ull));
-    v_67 = v_out_0 + (int64_t)(v_start1_i5_i57);
-    put_u8(v_67, 160u);
-    v_9_i52_sroa_4_0_sroa_idx = v_67 + 1;
-    put_u8(v_9_i52_sroa_4_0_sroa_idx, 13u);
-    v_9_i52_sroa_5_0_sroa_idx = v_67 + 2;
-    put_u8(v_9_i52_sroa_5_0_sroa_idx, 48u);
-    v_9_i52_sroa_6_0_sroa_idx = v_67 + 3;
-    put_u8(v_9_i52_sroa_6_0_sroa_idx, 11u);
-    v_9_i52_sroa_7_0_sroa_idx = v_67 + 4;
-    put_u8(v_9_i52_sroa_7_0_sroa_idx, 6u);
-    v_9_i52_sroa_8_0_sroa_idx = v_67 + 5;
-    put_u8(v_9_i52_sroa_8_0_sroa_idx, 9u);
-    v_9_i52_sroa_9_0_sroa_idx = v_67 + 6;
-    put_u8(v_9_i52_sroa_9_0_sroa_idx, 96u);
-    v_9_i52_sroa_10_0_sroa_idx = v_67 + 7;
-    put_u8(v_9_i52_sroa_10_0_sroa_idx, 134u);
-    v_9_i52_sroa_11_0_sroa_idx = v_67 + 8;
-    put_u8(v_9_i52_sroa_11_0_sroa_idx, 72u);
-    v_9_i52_sroa_12_0_sroa_idx = v_67 + 9;
-    put_u8(v_9_i52_sroa_12_0_sroa_idx, 1u);
-    v_9_i52_sroa_13_0_sroa_idx = v_67 + 10;
-    put_u8(v_9_i52_sroa_13_0_sroa_idx, 101u);
-    v_9_i52_sroa_14_0_sroa_idx = v_67 + 11;
-    put_u8(v_9_i52_sroa_14_0_sroa_idx, 3u);
-    v_9_i52_sroa_15_0_sroa_idx = v_67 + 12;
-    put_u8(v_9_i52_sroa_15_0_sroa_idx, 4u);
-    v_9_i52_sroa_16_0_sroa_idx = v_67 + 13;
-    put_u8(v_9_i52_sroa_16_0_sroa_idx, 2u);
-    v_9_i52_sroa_17_0_sroa_idx = v_67 + 14;
-    put_u8(v_9_i52_sroa_17_0_sroa_idx, v_sroa_4_0_extract_trunc_i);
-    { p_v_writer_i36_i_sroa_14_1 = v_start1_i5_i57; goto L_bb21_i78_i; }
-L_bb21_i78_i:;
-    v_writer_i36_i_sroa_14_1 = p_v_writer_i36_i_sroa_14_1;
-    v_start1_i17_i83_i = (u64)((u64)(v_writer_i36_i_sroa_14_1) + (u64)(18446744073709551614ull));
-    v_8_not_i18_i84_i = v_writer_i36_i_sroa_14_1 > v_len_i50_i;
-    if (v_8_not_i18_i84_i) { goto L_bb4_i26_i114_i; } else { goto L_bb2_i19_i85_i; }
-L_bb4_i26_i114_i:;
-    TRAP();
-    TRAP();
-L_bb2_i19_i85_i:;
-    v_15_not_i21_i87_i = v_writer_i36_i_sroa_14_1 < 2u;
-    if (v_15_not_i21_i87_i) { goto L_bb7_i25_i113_i; } else { goto L_copy_from_slice_pkcs1_c_exit110; }
-L_bb7_i25_i113_i:;
-    TRAP();
-    TRAP();
-L_copy_from_slice_pkcs1_c_exit110:;
-    v_68 = v_out_0 + (int64_t)(v_start1_i17_i83_i);
-    v_69 = (u16)(v_10_i44_i);
-    v_22_i35_i_sroa_0_sroa_4_0_insert_shift = (u16)((u32)(v_69) << (u32)((8u & 31)));
-    v_22_i35_i_sroa_0_sroa_0_0_insert_insert = (u16)((u32)(v_22_i35_i_sroa_0_sroa_4_0_insert_shift) | (u32)(48u));
-    put_u16(v_68, v_22_i35_i_sroa_0_sroa_0_0_insert_insert);
-    v_8_not_i_i103_i = v_start1_i17_i83_i > v_len_i50_i;
-    if (v_8_not_i_i103_i) { goto L_bb4_i_i112_i; } else { goto L_bb2_i_i104_i; }
-L_bb4_i_i112_i:;
-    TRAP();
-    TRAP();
-L_bb2_i_i104_i:;
-    v_start1_i_i102_i = (u64)((u64)(v_writer_i36_i_sroa_14_1) + (u64)(18446744073709551601ull));
-    v_15_not_i_i106_i = v_start1_i_i102_i > v_start1_i17_i83_i;
-    if (v_15_not_i_i106_i) { goto L_bb7_i_i111_i; } else { p_v_start1_i_i102_i_sink = v_start1_i_i102_i; p_v_59_i98_i_sink_in_in = v_10_i44_i; p_v_0_sroa_5_0_i = v_len_i50_i; goto L_bb8; }
-L_bb7_i_i111_i:;
-    TRAP();
-    TRAP();
-L_bb9_i:;
-    v_17_i9 = (u8)(v_15_1_i);
-    v_24_i = (u8)((u32)(v_17_i9) + (u32)(15u));
-    v_25_i = (u8)((u32)(v_17_i9) + (u32)(13u));
-    v_spec_select_i_i = v_hash_01_i ? 15u : 0u;
-    v_28_sroa_0_0_i_i = v_under_03_i_not_not ? 0u : 28u;
-    v_10_i_i = (u64)((u64)(v_15_1_i) + (u64)(17u));
-    v_9_i_i = (u64)((u64)(v_10_i_i) + (u64)(v_28_sroa_0_0_i_i));
-    v_count_i_i = (u64)((u64)(v_9_i_i) + (u64)(v_spec_select_i_i));
-    v_len_i_i = (u64)((u64)(v_count_i_i) + (u64)(15u));
-    v_16_i13_i = v_len_i_i > v_out_1;
-    if (v_16_i13_i) { p_v_0_sroa_5_0_i_ph = v_len_i_i; goto L_bb7; } else { goto L_bb2_i34_i_i; }
-L_bb2_i34_i_i:;
-    v_start1_i47_i_i = (u64)((u64)(v_len_i_i) - (u64)(v_15_1_i));
-    v_70 = v_out_0 + (int64_t)(v_start1_i47_i_i);
-    copy(v_70, v_15_0_i, v_15_1_i);
-    v_start1_i32_i_i = (u64)((u64)(v_start1_i47_i_i) + (u64)(18446744073709551599ull));
-    v_15_not_i36_i_i = v_start1_i47_i_i < 17u;
-    if (v_15_not_i36_i_i) { goto L_bb7_i40_i_i; } else { goto L_copy_from_slice_pkcs1_c_exit119; }
-L_bb7_i40_i_i:;
-    TRAP();
-    TRAP();
-L_copy_from_slice_pkcs1_c_exit119:;
-    v_71 = v_out_0 + (int64_t)(v_start1_i32_i_i);
-    put_u8(v_71, 162u);
-    v_later_i_sroa_4_0_sroa_idx = v_71 + 1;
-    put_u8(v_later_i_sroa_4_0_sroa_idx, v_24_i);
-    v_later_i_sroa_5_0_sroa_idx = v_71 + 2;
-    put_u8(v_later_i_sroa_5_0_sroa_idx, 48u);
-    v_later_i_sroa_6_0_sroa_idx = v_71 + 3;
-    put_u8(v_later_i_sroa_6_0_sroa_idx, v_25_i);
-    v_later_i_sroa_7_0_sroa_idx = v_71 + 4;
-    put_u8(v_later_i_sroa_7_0_sroa_idx, 6u);
-    v_later_i_sroa_8_0_sroa_idx = v_71 + 5;
-    put_u8(v_later_i_sroa_8_0_sroa_idx, 9u);
-    v_later_i_sroa_9_0_sroa_idx = v_71 + 6;
-    put_u8(v_later_i_sroa_9_0_sroa_idx, 42u);
-    v_later_i_sroa_10_0_sroa_idx = v_71 + 7;
-    put_u8(v_later_i_sroa_10_0_sroa_idx, 134u);
-    v_later_i_sroa_11_0_sroa_idx = v_71 + 8;
-    put_u8(v_later_i_sroa_11_0_sroa_idx, 72u);
-    v_later_i_sroa_12_0_sroa_idx = v_71 + 9;
-    put_u8(v_later_i_sroa_12_0_sroa_idx, 134u);
-    v_later_i_sroa_13_0_sroa_idx = v_71 + 10;
-    put_u8(v_later_i_sroa_13_0_sroa_idx, 247u);
-    v_later_i_sroa_14_0_sroa_idx = v_71 + 11;
-    put_u8(v_later_i_sroa_14_0_sroa_idx, 13u);
-    v_later_i_sroa_15_0_sroa_idx = v_71 + 12;
-    put_u8(v_later_i_sroa_15_0_sroa_idx, 1u);
-    v_later_i_sroa_16_0_sroa_idx = v_71 + 13;
-    put_u8(v_later_i_sroa_16_0_sroa_idx, 1u);
-    v_later_i_sroa_17_0_sroa_idx = v_71 + 14;
-    put_u8(v_later_i_sroa_17_0_sroa_idx, 9u);
-    v_later_i_sroa_18_0_sroa_idx = v_71 + 15;
-    put_u8(v_later_i_sroa_18_0_sroa_idx, 4u);
-    v_later_i_sroa_19_0_sroa_idx = v_71 + 16;
-    put_u8(v_later_i_sroa_19_0_sroa_idx, v_17_i9);
-    if (v_under_03_i_not_not) { p_v_writer_i_i_sroa_14_0 = v_start1_i32_i_i; goto L_bb23_i_i; } else { goto L_bb22_i_i; }
-L_bb22_i_i:;
-    v_start1_i5_i33 = (u64)((u64)(v_start1_i47_i_i) + (u64)(18446744073709551571ull));
-    v_8_not_i6_i34 = v_start1_i32_i_i > v_len_i_i;
-    if (v_8_not_i6_i34) { goto L_bb4_i14_i43; } else { goto L_bb2_i7_i35; }
-L_bb4_i14_i43:;
-    TRAP();
-    TRAP();
-L_bb2_i7_i35:;
-    v_15_not_i9_i37 = v_start1_i5_i33 > v_start1_i32_i_i;
-    if (v_15_not_i9_i37) { goto L_bb7_i13_i42; } else { goto L_copy_from_slice_pkcs1_c_exit122; }
-L_bb7_i13_i42:;
-    TRAP();
-    TRAP();
-L_copy_from_slice_pkcs1_c_exit122:;
-    v_72 = v_out_0 + (int64_t)(v_start1_i5_i33);
-    put_u8(v_72, 161u);
-    v_9_i28_sroa_4_0_sroa_idx = v_72 + 1;
-    put_u8(v_9_i28_sroa_4_0_sroa_idx, 26u);
-    v_9_i28_sroa_5_0_sroa_idx = v_72 + 2;
-    put_u8(v_9_i28_sroa_5_0_sroa_idx, 48u);
-    v_9_i28_sroa_6_0_sroa_idx = v_72 + 3;
-    put_u8(v_9_i28_sroa_6_0_sroa_idx, 24u);
-    v_9_i28_sroa_7_0_sroa_idx = v_72 + 4;
-    put_u8(v_9_i28_sroa_7_0_sroa_idx, 6u);
-    v_9_i28_sroa_8_0_sroa_idx = v_72 + 5;
-    put_u8(v_9_i28_sroa_8_0_sroa_idx, 9u);
-    v_9_i28_sroa_9_0_sroa_idx = v_72 + 6;
-    put_u8(v_9_i28_sroa_9_0_sroa_idx, 42u);
-    v_9_i28_sroa_10_0_sroa_idx = v_72 + 7;
-    put_u8(v_9_i28_sroa_10_0_sroa_idx, 134u);
-    v_9_i28_sroa_11_0_sroa_idx = v_72 + 8;
-    put_u8(v_9_i28_sroa_11_0_sroa_idx, 72u);
-    v_9_i28_sroa_12_0_sroa_idx = v_72 + 9;
-    put_u8(v_9_i28_sroa_12_0_sroa_idx, 134u);
-    v_9_i28_sroa_13_0_sroa_idx = v_72 + 10;
-    put_u8(v_9_i28_sroa_13_0_sroa_idx, 247u);
-    v_9_i28_sroa_14_0_sroa_idx = v_72 + 11;
-    put_u8(v_9_i28_sroa_14_0_sroa_idx, 13u);
-    v_9_i28_sroa_15_0_sroa_idx = v_72 + 12;
-    put_u8(v_9_i28_sroa_15_0_sroa_idx, 1u);
-    v_9_i28_sroa_16_0_sroa_idx = v_72 + 13;
-    put_u8(v_9_i28_sroa_16_0_sroa_idx, 1u);
-    v_9_i28_sroa_17_0_sroa_idx = v_72 + 14;
-    put_u8(v_9_i28_sroa_17_0_sroa_idx, 8u);
-    v_9_i28_sroa_18_0_sroa_idx = v_72 + 15;
-    put_u8(v_9_i28_sroa_18_0_sroa_idx, 48u);
-    v_9_i28_sroa_19_0_sroa_idx = v_72 + 16;
-    put_u8(v_9_i28_sroa_19_0_sroa_idx, 11u);
-    v_9_i28_sroa_20_0_sroa_idx = v_72 + 17;
-    put_u8(v_9_i28_sroa_20_0_sroa_idx, 6u);
-    v_9_i28_sroa_21_0_sroa_idx = v_72 + 18;
-    put_u8(v_9_i28_sroa_21_0_sroa_idx, 9u);
-    v_9_i28_sroa_22_0_sroa_idx = v_72 + 19;
-    put_u8(v_9_i28_sroa_22_0_sroa_idx, 96u);
-    v_9_i28_sroa_23_0_sroa_idx = v_72 + 20;
-    put_u8(v_9_i28_sroa_23_0_sroa_idx, 134u);
-    v_9_i28_sroa_24_0_sroa_idx = v_72 + 21;
-    put_u8(v_9_i28_sroa_24_0_sroa_idx, 72u);
-    v_9_i28_sroa_25_0_sroa_idx = v_72 + 22;
-    put_u8(v_9_i28_sroa_25_0_sroa_idx, 1u);
-    v_9_i28_sroa_26_0_sroa_idx = v_72 + 23;
-    put_u8(v_9_i28_sroa_26_0_sroa_idx, 101u);
-    v_9_i28_sroa_27_0_sroa_idx = v_72 + 24;
-    put_u8(v_9_i28_sroa_27_0_sroa_idx, 3u);
-    v_9_i28_sroa_28_0_sroa_idx = v_72 + 25;
-    put_u8(v_9_i28_sroa_28_0_sroa_idx, 4u);
-    v_9_i28_sroa_29_0_sroa_idx = v_72 + 26;
-    put_u8(v_9_i28_sroa_29_0_sroa_idx, 2u);
-    v_9_i28_sroa_30_0_sroa_idx = v_72 + 27;
-    put_u8(v_9_i28_sroa_30_0_sroa_idx, v_sroa_6_0_extract_trunc_i);
-    { p_v_writer_i_i_sroa_14_0 = v_start1_i5_i33; goto L_bb23_i_i; }
-L_bb23_i_i:;
-    v_writer_i_i_sroa_14_0 = p_v_writer_i_i_sroa_14_0;
-    if (v_hash_01_i) { goto L_bb24_i_i; } else { p_v_writer_i_i_sroa_14_1 = v_writer_i_i_sroa_14_0; goto L_bb21_i_i; }
-L_bb24_i_i:;
-    v_start1_i5_i80 = (u64)((u64)(v_writer_i_i_sroa_14_0) + (u64)(18446744073709551601ull));
-    v_8_not_i6_i81 = v_writer_i_i_sroa_14_0 > v_len_i_i;
-    if (v_8_not_i6_i81) { goto L_bb4_i14_i90; } else { goto L_bb2_i7_i82; }
-L_bb4_i14_i90:;
-    TRAP();
-    TRAP();
-L_bb2_i7_i82:;
-    v_15_not_i9_i84 = v_writer_i_i_sroa_14_0 < 15u;
-    if (v_15_not_i9_i84) { goto L_bb7_i13_i89; } else { goto L_copy_from_slice_pkcs1_c_exit125; }
-L_bb7_i13_i89:;
-    TRAP();
-    TRAP();
-L_copy_from_slice_pkcs1_c_exit125:;
-    v_73 = v_out_0 + (int64_t)(v_start1_i5_i80);
-    put_u8(v_73, 160u);
-    v_9_i75_sroa_4_0_sroa_idx = v_73 + 1;
-    put_u8(v_9_i75_sroa_4_0_sroa_idx, 13u);
-    v_9_i75_sroa_5_0_sroa_idx = v_73 + 2;
-    put_u8(v_9_i75_sroa_5_0_sroa_idx, 48u);
-    v_9_i75_sroa_6_0_sroa_idx = v_73 + 3;
-    put_u8(v_9_i75_sroa_6_0_sroa_idx, 11u);
-    v_9_i75_sroa_7_0_sroa_idx = v_73 + 4;
-    put_u8(v_9_i75_sroa_7_0_sroa_idx, 6u);
-    v_9_i75_sroa_8_0_sroa_idx = v_73 + 5;
-    put_u8(v_9_i75_sroa_8_0_sroa_idx, 9u);
-    v_9_i75_sroa_9_0_sroa_idx = v_73 + 6;
-    put_u8(v_9_i75_sroa_9_0_sroa_idx, 96u);
-    v_9_i75_sroa_10_0_sroa_idx = v_73 + 7;
-    put_u8(v_9_i75_sroa_10_0_sroa_idx, 134u);
-    v_9_i75_sroa_11_0_sroa_idx = v_73 + 8;
-    put_u8(v_9_i75_sroa_11_0_sroa_idx, 72u);
-    v_9_i75_sroa_12_0_sroa_idx = v_73 + 9;
-    put_u8(v_9_i75_sroa_12_0_sroa_idx, 1u);
-    v_9_i75_sroa_13_0_sroa_idx = v_73 + 10;
-    put_u8(v_9_i75_sroa_13_0_sroa_idx, 101u);
-    v_9_i75_sroa_14_0_sroa_idx = v_73 + 11;
-    put_u8(v_9_i75_sroa_14_0_sroa_idx, 3u);
-    v_9_i75_sroa_15_0_sroa_idx = v_73 + 12;
-    put_u8(v_9_i75_sroa_15_0_sroa_idx, 4u);
-    v_9_i75_sroa_16_0_sroa_idx = v_73 + 13;
-    put_u8(v_9_i75_sroa_16_0_sroa_idx, 2u);
-    v_9_i75_sroa_17_0_sroa_idx = v_73 + 14;
-    put_u8(v_9_i75_sroa_17_0_sroa_idx, v_sroa_4_0_extract_trunc_i);
-    { p_v_writer_i_i_sroa_14_1 = v_start1_i5_i80; goto L_bb21_i_i; }
-L_bb21_i_i:;
-    v_writer_i_i_sroa_14_1 = p_v_writer_i_i_sroa_14_1;
-    v_start1_i17_i_i = (u64)((u64)(v_writer_i_i_sroa_14_1) + (u64)(18446744073709551614ull));
-    v_8_not_i18_i_i = v_writer_i_i_sroa_14_1 > v_len_i_i;
-    if (v_8_not_i18_i_i) { goto L_bb4_i26_i_i; } else { goto L_bb2_i19_i_i; }
-L_bb4_i26_i_i:;
-    TRAP();
-    TRAP();
-L_bb2_i19_i_i:;
-    v_15_not_i21_i_i = v_writer_i_i_sroa_14_1 < 2u;
-    if (v_15_not_i21_i_i) { goto L_bb7_i25_i_i; } else { goto L_copy_from_slice_pkcs1_c_exit128; }
-L_bb7_i25_i_i:;
-    TRAP();
-    TRAP();
-L_copy_from_slice_pkcs1_c_exit128:;
-    v_74 = v_out_0 + (int64_t)(v_start1_i17_i_i);
-    v_75 = (u16)(v_count_i_i);
-    v_22_i12_i_sroa_0_sroa_4_0_insert_ext = (u16)((u32)(v_75) << (u32)((8u & 31)));
-    v_22_i12_i_sroa_0_sroa_0_0_insert_insert = (u16)((u32)(v_22_i12_i_sroa_0_sroa_4_0_insert_ext) | (u32)(48u));
-    put_u16(v_74, v_22_i12_i_sroa_0_sroa_0_0_insert_insert);
-    v_8_not_i_i_i = v_start1_i17_i_i > v_len_i_i;
-    if (v_8_not_i_i_i) { goto L_bb4_i_i_i; } else { goto L_bb2_i_i17_i; }
-L_bb4_i_i_i:;
-    TRAP();
-    TRAP();
-L_bb2_i_i17_i:;
-    v_start1_i_i_i = (u64)((u64)(v_writer_i_i_sroa_14_1) + (u64)(18446744073709551601ull));
-    v_15_not_i_i_i = v_start1_i_i_i > v_start1_i17_i_i;
-    if (v_15_not_i_i_i) { goto L_bb7_i_i_i; } else { p_v_start1_i_i102_i_sink = v_start1_i_i_i; p_v_59_i98_i_sink_in_in = v_count_i_i; p_v_0_sroa_5_0_i = v_len_i_i; goto L_bb8; }
-L_bb7_i_i_i:;
-    TRAP();
-    TRAP();
-L_bb3:;
-    f_oaep_from_c_oaep(v_4_i, v_params);
-    v_76 = get_P(v_4_i);
-    v_77 = v_76 == (P)0;
-    if (v_77) { goto L_bb3_i4; } else { goto L_bb6_i_i_i98; }
-L_bb6_i_i_i98:;
-    copy(v_made_i, v_4_i, 136u);
-    v_6_i = v_made_i + 40;
-    v_9_i132 = v_made_i + 96;
-    v_78 = v_made_i + 16;
-    v_79 = get_P(v_78);
-    v_80 = v_79 == (P)0;
-    if (v_80) { p_v_0_sroa_0_0_shrunk_i_i_i = 0u; goto L_bb2_i_i17_i94; } else { goto L_bb3_i133; }
-L_bb3_i133:;
-    v_0_0_i_i = get_P(v_made_i);
-    v_81 = v_made_i + 8;
-    v_0_1_i_i = get_u64(v_81);
-    v_82 = v_0_1_i_i == 5u;
-    if (v_82) { goto L_bb11_i; } else { p_v_0_sroa_0_0_shrunk_i_i_i = 0u; goto L_bb2_i_i17_i94; }
-L_bb11_i:;
-    v_83 = get_u8(v_0_0_i_i);
-    v_84 = v_83 == 43u;
-    if (v_84) { goto L_bb12_i; } else { p_v_0_sroa_0_0_shrunk_i_i_i = 0u; goto L_bb2_i_i17_i94; }
-L_bb12_i:;
-    v_85 = v_0_0_i_i + 1;
-    v_86 = get_u8(v_85);
-    v_87 = v_86 == 14u;
-    if (v_87) { goto L_bb13_i; } else { p_v_0_sroa_0_0_shrunk_i_i_i = 0u; goto L_bb2_i_i17_i94; }
-L_bb13_i:;
-    v_88 = v_0_0_i_i + 2;
-    v_89 = get_u8(v_88);
-    v_90 = v_89 == 3u;
-    if (v_90) { goto L_bb14_i; } else { p_v_0_sroa_0_0_shrunk_i_i_i = 0u; goto L_bb2_i_i17_i94; }
-L_bb14_i:;
-    v_91 = v_0_0_i_i + 3;
-    v_92 = get_u8(v_91);
-    v_93 = v_92 == 2u;
-    if (v_93) { goto L_bb15_i; } else { p_v_0_sroa_0_0_shrunk_i_i_i = 0u; goto L_bb2_i_i17_i94; }
-L_bb15_i:;
-    v_94 = v_0_0_i_i + 4;
-    v_10_i = get_u8(v_94);
-    v_6_i136 = v_10_i == 26u;
-    if (v_6_i136) { goto L_bb5_i; } else { p_v_0_sroa_0_0_shrunk_i_i_i = 0u; goto L_bb2_i_i17_i94; }
-L_bb5_i:;
-    v_8_sroa_3_0_sroa_idx_i = v_made_i + 24;
-    v_8_sroa_3_0_copyload_i = get_u64(v_8_sroa_3_0_sroa_idx_i);
-    v_8_sroa_4_0_sroa_idx_i = v_made_i + 32;
-    v_8_sroa_4_0_copyload_i = get_u64(v_8_sroa_4_0_sroa_idx_i);
-    v_95 = (u64)((u64)(v_8_sroa_4_0_copyload_i) & (u64)(255u));
-    v_96 = v_95 == 5u;
-    v_97 = v_8_sroa_3_0_copyload_i == 0u;
-    v_0_sroa_0_1_i = v_96 ? v_97 : 0u;
-    { p_v_0_sroa_0_0_shrunk_i_i_i = v_0_sroa_0_1_i; goto L_bb2_i_i17_i94; }
-L_bb2_i_i17_i94:;
-    v_0_sroa_0_0_shrunk_i_i_i = p_v_0_sroa_0_0_shrunk_i_i_i;
-    v_3_i_i = (u1)(((u32)(v_0_sroa_0_0_shrunk_i_i_i) ^ (u32)(1u)) & 1);
-    v_2_i_i = (u8)v_3_i_i;
-    v_98 = v_made_i + 56;
-    v_99 = get_P(v_98);
-    v_100 = v_99 == (P)0;
-    if (v_100) { p_v_0_sroa_0_0_i = 0u; goto L_MaskHolder_is_default_exit; } else { goto L_bb3_i478; }
-L_bb3_i478:;
-    v_0_0_i_i479 = get_P(v_6_i);
-    v_101 = v_made_i + 48;
-    v_0_1_i_i480 = get_u64(v_101);
-    v_102 = v_0_1_i_i480 == 9u;
-    if (v_102) { goto L_bb2_i_i481; } else { p_v_0_sroa_0_0_i = 0u; goto L_MaskHolder_is_default_exit; }
-L_bb2_i_i481:;
-    v_21_i_i482 = get_u8(v_0_0_i_i479);
-    v_20_i_i483 = v_21_i_i482 == 42u;
-    v_103 = v_0_0_i_i479 + 1;
-    v_23_i_i484 = get_u8(v_103);
-    v_22_i_i485 = v_23_i_i484 == 134u;
-    v_19_i_i486 = (u1)(((u32)(v_20_i_i483) & (u32)(v_22_i_i485)) & 1);
-    v_104 = v_0_0_i_i479 + 2;
-    v_25_i_i487 = get_u8(v_104);
-    v_24_i_i488 = v_25_i_i487 == 72u;
-    v_18_i_i489 = (u1)(((u32)(v_19_i_i486) & (u32)(v_24_i_i488)) & 1);
-    v_105 = v_0_0_i_i479 + 3;
-    v_27_i_i490 = get_u8(v_105);
-    v_26_i_i491 = v_27_i_i490 == 134u;
-    v_17_i_i492 = (u1)(((u32)(v_18_i_i489) & (u32)(v_26_i_i491)) & 1);
-    v_106 = v_0_0_i_i479 + 4;
-    v_29_i_i493 = get_u8(v_106);
-    v_28_i_i494 = v_29_i_i493 == 247u;
-    v_16_i_i495 = (u1)(((u32)(v_17_i_i492) & (u32)(v_28_i_i494)) & 1);
-    v_107 = v_0_0_i_i479 + 5;
-    v_31_i_i496 = get_u8(v_107);
-    v_30_i_i497 = v_31_i_i496 == 13u;
-    v_15_i_i498 = (u1)(((u32)(v_16_i_i495) & (u32)(v_30_i_i497)) & 1);
-    v_108 = v_0_0_i_i479 + 6;
-    v_33_i_i499 = get_u8(v_108);
-    v_32_i_i500 = v_33_i_i499 == 1u;
-    v_14_i_i501 = (u1)(((u32)(v_15_i_i498) & (u32)(v_32_i_i500)) & 1);
-    v_109 = v_0_0_i_i479 + 7;
-    v_35_i_i502 = get_u8(v_109);
-    v_34_i_i503 = v_35_i_i502 == 1u;
-    v_front_i_i504 = (u1)(((u32)(v_14_i_i501) & (u32)(v_34_i_i503)) & 1);
-    if (v_front_i_i504) { goto L_hash_fields_is_pkcs1_exit_i505; } else { p_v_0_sroa_0_0_i = 0u; goto L_MaskHolder_is_default_exit; }
-L_hash_fields_is_pkcs1_exit_i505:;
-    v_110 = v_0_0_i_i479 + 8;
-    v_36_i_i506 = get_u8(v_110);
-    v_111 = v_36_i_i506 == 8u;
-    if (v_111) { goto L_bb5_i507; } else { p_v_0_sroa_0_0_i = 0u; goto L_MaskHolder_is_default_exit; }
-L_bb5_i507:;
-    v_112 = v_made_i + 72;
-    v_113 = get_P(v_112);
-    v_114 = v_113 != (P)0;
-    v_115 = v_made_i + 64;
-    v_0_1_i_i_i = get_u64(v_115);
-    v_116 = v_0_1_i_i_i == 5u;
-    v_or_cond_i508 = v_114 ? v_116 : 0u;
-    if (v_or_cond_i508) { goto L_bb11_i_i509; } else { p_v_0_sroa_0_0_i = 0u; goto L_MaskHolder_is_default_exit; }
-L_bb11_i_i509:;
-    v_117 = get_u8(v_99);
-    v_118 = v_117 == 43u;
-    if (v_118) { goto L_bb12_i_i510; } else { p_v_0_sroa_0_0_i = 0u; goto L_MaskHolder_is_default_exit; }
-L_bb12_i_i510:;
-    v_119 = v_99 + 1;
-    v_120 = get_u8(v_119);
-    v_121 = v_120 == 14u;
-    if (v_121) { goto L_bb13_i_i; } else { p_v_0_sroa_0_0_i = 0u; goto L_MaskHolder_is_default_exit; }
-L_bb13_i_i:;
-    v_122 = v_99 + 2;
-    v_123 = get_u8(v_122);
-    v_124 = v_123 == 3u;
-    if (v_124) { goto L_bb14_i_i511; } else { p_v_0_sroa_0_0_i = 0u; goto L_MaskHolder_is_default_exit; }
-L_bb14_i_i511:;
-    v_125 = v_99 + 3;
-    v_126 = get_u8(v_125);
-    v_127 = v_126 == 2u;
-    if (v_127) { goto L_bb15_i_i512; } else { p_v_0_sroa_0_0_i = 0u; goto L_MaskHolder_is_default_exit; }
-L_bb15_i_i512:;
-    v_128 = v_99 + 4;
-    v_10_i_i513 = get_u8(v_128);
-    v_6_i_i514 = v_10_i_i513 == 26u;
-    if (v_6_i_i514) { goto L_bb5_i_i; } else { p_v_0_sroa_0_0_i = 0u; goto L_MaskHolder_is_default_exit; }
-L_bb5_i_i:;
-    v_8_sroa_3_0_sroa_idx_i_i = v_made_i + 80;
-    v_8_sroa_3_0_copyload_i_i = get_u64(v_8_sroa_3_0_sroa_idx_i_i);
-    v_8_sroa_4_0_sroa_idx_i_i = v_made_i + 88;
-    v_8_sroa_4_0_copyload_i_i = get_u64(v_8_sroa_4_0_sroa_idx_i_i);
-    v_129 = (u64)((u64)(v_8_sroa_4_0_copyload_i_i) & (u64)(255u));
-    v_130 = v_129 == 5u;
-    v_131 = v_8_sroa_3_0_copyload_i_i == 0u;
-    v_0_sroa_0_1_i_i = v_130 ? v_131 : 0u;
-    { p_v_0_sroa_0_0_i = v_0_sroa_0_1_i_i; goto L_MaskHolder_is_default_exit; }
-L_MaskHolder_is_default_exit:;
-    v_0_sroa_0_0_i = p_v_0_sroa_0_0_i;
-    v_3_i4_i = (u1)(((u32)(v_0_sroa_0_0_i) ^ (u32)(1u)) & 1);
-    v_2_i5_i = (u8)v_3_i4_i;
-    v_132 = v_made_i + 112;
-    v_133 = get_P(v_132);
-    v_134 = v_133 == (P)0;
-    if (v_134) { p_v_0_sroa_0_0_i254391 = 0u; p_v_149 = 2u; goto L_bb10_i8_i_thread; } else { goto L_bb3_i250; }
-L_bb3_i250:;
-    v_0_0_i_i251 = get_P(v_9_i132);
-    v_135 = v_made_i + 104;
-    v_0_1_i_i252 = get_u64(v_135);
-    v_136 = v_0_1_i_i252 == 9u;
-    if (v_136) { goto L_bb2_i_i255; } else { p_v_0_sroa_0_0_i254391 = 0u; p_v_149 = 2u; goto L_bb10_i8_i_thread; }
-L_bb2_i_i255:;
-    v_21_i_i256 = get_u8(v_0_0_i_i251);
-    v_20_i_i257 = v_21_i_i256 == 42u;
-    v_137 = v_0_0_i_i251 + 1;
-    v_23_i_i258 = get_u8(v_137);
-    v_22_i_i259 = v_23_i_i258 == 134u;
-    v_19_i_i260 = (u1)(((u32)(v_20_i_i257) & (u32)(v_22_i_i259)) & 1);
-    v_138 = v_0_0_i_i251 + 2;
-    v_25_i_i261 = get_u8(v_138);
-    v_24_i_i262 = v_25_i_i261 == 72u;
-    v_18_i_i263 = (u1)(((u32)(v_19_i_i260) & (u32)(v_24_i_i262)) & 1);
-    v_139 = v_0_0_i_i251 + 3;
-    v_27_i_i264 = get_u8(v_139);
-    v_26_i_i265 = v_27_i_i264 == 134u;
-    v_17_i_i266 = (u1)(((u32)(v_18_i_i263) & (u32)(v_26_i_i265)) & 1);
-    v_140 = v_0_0_i_i251 + 4;
-    v_29_i_i267 = get_u8(v_140);
-    v_28_i_i268 = v_29_i_i267 == 247u;
-    v_16_i_i269 = (u1)(((u32)(v_17_i_i266) & (u32)(v_28_i_i268)) & 1);
-    v_141 = v_0_0_i_i251 + 5;
-    v_31_i_i270 = get_u8(v_141);
-    v_30_i_i271 = v_31_i_i270 == 13u;
-    v_15_i_i272 = (u1)(((u32)(v_16_i_i269) & (u32)(v_30_i_i271)) & 1);
-    v_142 = v_0_0_i_i251 + 6;
-    v_33_i_i273 = get_u8(v_142);
-    v_32_i_i274 = v_33_i_i273 == 1u;
-    v_14_i_i275 = (u1)(((u32)(v_15_i_i272) & (u32)(v_32_i_i274)) & 1);
-    v_143 = v_0_0_i_i251 + 7;
-    v_35_i_i276 = get_u8(v_143);
-    v_34_i_i277 = v_35_i_i276 == 1u;
-    v_front_i_i278 = (u1)(((u32)(v_14_i_i275) & (u32)(v_34_i_i277)) & 1);
-    if (v_front_i_i278) { goto L_hash_fields_is_pkcs1_exit_i279; } else { p_v_0_sroa_0_0_i254391 = 0u; p_v_149 = 2u; goto L_bb10_i8_i_thread; }
-L_hash_fields_is_pkcs1_exit_i279:;
-    v_144 = v_0_0_i_i251 + 8;
-    v_36_i_i280 = get_u8(v_144);
-    v_145 = v_36_i_i280 == 9u;
-    if (v_145) { goto L_bb10_i8_i; } else { p_v_0_sroa_0_0_i254391 = 0u; p_v_149 = 2u; goto L_bb10_i8_i_thread; }
-L_bb10_i8_i:;
-    v_8_sroa_3_0_sroa_idx_i282 = v_made_i + 120;
-    v_8_sroa_3_0_copyload_i283 = get_u64(v_8_sroa_3_0_sroa_idx_i282);
-    v_8_sroa_4_0_sroa_idx_i284 = v_made_i + 128;
-    v_8_sroa_4_0_copyload_i285 = get_u64(v_8_sroa_4_0_sroa_idx_i284);
-    v_146 = (u64)((u64)(v_8_sroa_4_0_copyload_i285) & (u64)(255u));
-    v_147 = v_146 == 4u;
-    v_148 = v_8_sroa_3_0_copyload_i283 == 0u;
-    v_0_sroa_0_1_i286 = v_147 ? v_148 : 0u;
-    v_cond_fr = v_0_sroa_0_1_i286;
-    v_spec_select = v_cond_fr ? 0u : 2u;
-    { p_v_0_sroa_0_0_i254391 = v_cond_fr; p_v_149 = v_spec_select; goto L_bb10_i8_i_thread; }
-L_bb10_i8_i_thread:;
-    v_0_sroa_0_0_i254391 = p_v_0_sroa_0_0_i254391;
-    v_149 = p_v_149;
-    v_0_i9_i = (u8)((u32)(v_149) | (u32)(v_2_i5_i));
-    v_6_i_i95 = (u8)((u32)(v_0_i9_i) << (u32)((1u & 31)));
-    v_0_i_i = (u8)((u32)(v_6_i_i95) | (u32)(v_2_i_i));
-    if (v_0_sroa_0_0_shrunk_i_i_i) { goto L_bb6_i_i23_i; } else { goto L_bb7_i_i18_i; }
-L_bb6_i_i23_i:;
-    if (v_0_sroa_0_0_i) { goto L_bb6_i133_i_i; } else { goto L_bb7_i7_i_i; }
-L_bb6_i133_i_i:;
-    if (v_0_sroa_0_0_i254391) { p_v_216 = 2u; goto L_bb4_i_i; } else { goto L_bb2_i_i542_i_i; }
-L_bb2_i_i542_i_i:;
-    v_150 = v_made_i + 104;
-    v_0_1_i_i_i545_i_i = get_u64(v_150);
-    v_151 = v_made_i + 120;
-    v_4_1_i_i_i548_i_i = get_u64(v_151);
-    v_5_i84_i_i549_i_i = v_4_1_i_i_i548_i_i < 128u;
-    v_152 = (u64)((u64)(v_4_1_i_i_i548_i_i) + (u64)(2u));
-    v_0_sroa_0_0_i85_i_i550_i_i = v_5_i84_i_i549_i_i ? v_152 : 4294967296ull;
-    v_10_sroa_0_0_i79_i_i552_i_i = v_134 ? 0u : v_0_sroa_0_0_i85_i_i550_i_i;
-    v_0_i_i_i554_i_i = (u64)((u64)(v_0_1_i_i_i545_i_i) & (u64)(255u));
-    v_3_i_i81_i_i555_i_i = v_0_i_i_i554_i_i < 128u;
-    v_0_sroa_0_0_i_i82_i_i556_i_v_i = v_3_i_i81_i_i555_i_i ? 2u : 3u;
-    v_0_sroa_0_0_i_i82_i_i556_i_i = (u64)((u64)(v_0_sroa_0_0_i_i82_i_i556_i_v_i) + (u64)(v_0_i_i_i554_i_i));
-    v_153 = (u64)((u64)(v_0_sroa_0_0_i_i82_i_i556_i_i) + (u64)(v_10_sroa_0_0_i79_i_i552_i_i));
-    v_10_i_i567_i_i = v_153 < 126u;
-    v_154 = (u64)((u64)(v_153) + (u64)(4u));
-    if (v_10_i_i567_i_i) { p_v_0_sroa_0_0_i254394 = 0u; p_v_0_sroa_0_0_i_i21_i = v_154; goto L_EncodeValue_quick_value_len_exit_i; } else { p_v_0_i_i_i554_i_i_i_i_pre_phi = v_0_i_i_i554_i_i; p_v_pre_phi = v_152; p_v_4_1_i_i_i548_i_i_i_i = v_4_1_i_i_i548_i_i; goto L_bb2_i_i542_i_i_i_i; }
-L_bb7_i7_i_i:;
-    if (v_0_sroa_0_0_i254391) { p_v_0_sroa_0_0_i705_i_i = 0u; goto L_bb5_i_i46_i_i; } else { goto L_bb2_i_i676_i_i; }
-L_bb2_i_i676_i_i:;
-    v_155 = v_made_i + 104;
-    v_0_1_i_i_i679_i_i = get_u64(v_155);
-    v_156 = v_made_i + 120;
-    v_4_1_i_i_i682_i_i = get_u64(v_156);
-    v_5_i84_i_i683_i_i = v_4_1_i_i_i682_i_i < 128u;
-    v_157 = (u64)((u64)(v_4_1_i_i_i682_i_i) + (u64)(2u));
-    v_0_sroa_0_0_i85_i_i684_i_i = v_5_i84_i_i683_i_i ? v_157 : 4294967296ull;
-    v_10_sroa_0_0_i79_i_i686_i_i = v_134 ? 0u : v_0_sroa_0_0_i85_i_i684_i_i;
-    v_0_i_i_i688_i_i = (u64)((u64)(v_0_1_i_i_i679_i_i) & (u64)(255u));
-    v_3_i_i81_i_i689_i_i = v_0_i_i_i688_i_i < 128u;
-    v_0_sroa_0_0_i_i82_i_i690_i_v_i = v_3_i_i81_i_i689_i_i ? 2u : 3u;
-    v_0_sroa_0_0_i_i82_i_i690_i_i = (u64)((u64)(v_0_sroa_0_0_i_i82_i_i690_i_v_i) + (u64)(v_0_i_i_i688_i_i));
-    v_158 = (u64)((u64)(v_0_sroa_0_0_i_i82_i_i690_i_i) + (u64)(v_10_sroa_0_0_i79_i_i686_i_i));
-    v_3_i22_i_i691_i_i = v_158 < 128u;
-    if (v_3_i22_i_i691_i_i) { p_v_sink_i = 2u; goto L_AnyRef_quick_len_exit_i703_i_i; } else { goto L_bb4_i23_i_i692_i_i; }
-L_bb4_i23_i_i692_i_i:;
-    v_4_i24_i_i693_i_i = v_158 < 256u;
-    if (v_4_i24_i_i693_i_i) { p_v_sink_i = 3u; goto L_AnyRef_quick_len_exit_i703_i_i; } else { goto L_bb6_i25_i_i694_i_i; }
-L_bb6_i25_i_i694_i_i:;
-    v_5_i26_i_i695_i_i = v_158 < 65536u;
-    if (v_5_i26_i_i695_i_i) { p_v_sink_i = 4u; goto L_AnyRef_quick_len_exit_i703_i_i; } else { goto L_bb8_i27_i_i696_i_i; }
-L_bb8_i27_i_i696_i_i:;
-    v_6_i28_i_i697_i_i = v_158 < 16777216u;
-    v_i = v_6_i28_i_i697_i_i ? 5u : 6u;
-    { p_v_sink_i = v_i; goto L_AnyRef_quick_len_exit_i703_i_i; }
-L_AnyRef_quick_len_exit_i703_i_i:;
-    v_sink_i = p_v_sink_i;
-    v_159 = (u64)((u64)(v_sink_i) + (u64)(v_158));
-    v_10_i_i701_i_i = v_159 < 128u;
-    v_160 = (u64)((u64)(v_159) + (u64)(2u));
-    v_spec_select20_i_i702_i_i = v_10_i_i701_i_i ? v_160 : 4294967296ull;
-    { p_v_0_sroa_0_0_i705_i_i = v_spec_select20_i_i702_i_i; goto L_bb5_i_i46_i_i; }
-L_bb5_i_i46_i_i:;
-    v_0_sroa_0_0_i705_i_i = p_v_0_sroa_0_0_i705_i_i;
-    v_161 = v_made_i + 48;
-    v_0_1_i97_i_i49_i_i = get_u64(v_161);
-    if (v_100) { p_v_10_sroa_0_0_i_i_i76_i_i = 0u; goto L_EncodeValue_quick_value_len_exit_i_i75_i_i; } else { goto L_bb10_i51_i_i51_i_i; }
-L_bb10_i51_i_i51_i_i:;
-    v_162 = v_made_i + 64;
-    v_0_1_i95_i_i53_i_i = get_u64(v_162);
-    v_163 = v_made_i + 72;
-    v_164 = get_P(v_163);
-    v_165 = v_164 == (P)0;
-    v_166 = v_made_i + 80;
-    v_4_1_i89_i_i56_i_i = get_u64(v_166);
-    v_5_i90_i_i57_i_i = v_4_1_i89_i_i56_i_i < 128u;
-    v_167 = (u64)((u64)(v_4_1_i89_i_i56_i_i) + (u64)(2u));
-    v_0_sroa_0_0_i91_i_i58_i_i = v_5_i90_i_i57_i_i ? v_167 : 4294967296ull;
-    v_10_sroa_0_0_i59_i_i60_i_i = v_165 ? 0u : v_0_sroa_0_0_i91_i_i58_i_i;
-    v_0_i102_i_i62_i_i = (u64)((u64)(v_0_1_i95_i_i53_i_i) & (u64)(255u));
-    v_3_i_i61_i_i63_i_i = v_0_i102_i_i62_i_i < 128u;
-    v_0_sroa_0_0_i_i62_i_i64_i_v_i = v_3_i_i61_i_i63_i_i ? 2u : 3u;
-    v_0_sroa_0_0_i_i62_i_i64_i_i = (u64)((u64)(v_0_sroa_0_0_i_i62_i_i64_i_v_i) + (u64)(v_0_i102_i_i62_i_i));
-    v_168 = (u64)((u64)(v_0_sroa_0_0_i_i62_i_i64_i_i) + (u64)(v_10_sroa_0_0_i59_i_i60_i_i));
-    v_3_i_i_i_i65_i_i = v_168 < 128u;
-    if (v_3_i_i_i_i65_i_i) { goto L_bb3_i_i_i_i100_i_i; } else { goto L_bb4_i_i_i_i66_i_i; }
-L_bb4_i_i_i_i66_i_i:;
-    v_4_i_i_i_i67_i_i = v_168 < 256u;
-    if (v_4_i_i_i_i67_i_i) { goto L_bb5_i_i_i_i99_i_i; } else { goto L_bb6_i_i_i_i68_i_i; }
-L_bb3_i_i_i_i100_i_i:;
-    v_169 = (u64)((u64)(v_168) + (u64)(2u));
-    { p_v_10_sroa_0_0_i_i_i76_i_i = v_169; goto L_EncodeValue_quick_value_len_exit_i_i75_i_i; }
-L_bb6_i_i_i_i68_i_i:;
-    v_5_i_i_i_i69_i_i = v_168 < 65536u;
-    if (v_5_i_i_i_i69_i_i) { goto L_bb7_i_i_i_i98_i_i; } else { goto L_bb8_i_i_i_i70_i_i; }
-L_bb5_i_i_i_i99_i_i:;
-    v_170 = (u64)((u64)(v_168) + (u64)(3u));
-    { p_v_10_sroa_0_0_i_i_i76_i_i = v_170; goto L_EncodeValue_quick_value_len_exit_i_i75_i_i; }
-L_bb8_i_i_i_i70_i_i:;
-    v_6_i_i_i_i71_i_i = v_168 < 16777216u;
-    if (v_6_i_i_i_i71_i_i) { goto L_bb9_i_i_i_i97_i_i; } else { goto L_bb10_i_i_i_i72_i_i; }
-L_bb7_i_i_i_i98_i_i:;
-    v_171 = (u64)((u64)(v_168) + (u64)(4u));
-    { p_v_10_sroa_0_0_i_i_i76_i_i = v_171; goto L_EncodeValue_quick_value_len_exit_i_i75_i_i; }
-L_bb10_i_i_i_i72_i_i:;
-    v_172 = (u64)((u64)(v_168) + (u64)(6u));
-    { p_v_10_sroa_0_0_i_i_i76_i_i = v_172; goto L_EncodeValue_quick_value_len_exit_i_i75_i_i; }
-L_bb9_i_i_i_i97_i_i:;
-    v_173 = (u64)((u64)(v_168) + (u64)(5u));
-    { p_v_10_sroa_0_0_i_i_i76_i_i = v_173; goto L_EncodeValue_quick_value_len_exit_i_i75_i_i; }
-L_EncodeValue_quick_value_len_exit_i_i75_i_i:;
-    v_10_sroa_0_0_i_i_i76_i_i = p_v_10_sroa_0_0_i_i_i76_i_i;
-    v_0_i104_i_i78_i_i = (u64)((u64)(v_0_1_i97_i_i49_i_i) & (u64)(255u));
-    v_3_i2_i_i_i79_i_i = v_0_i104_i_i78_i_i < 128u;
-    v_0_sroa_0_0_i3_i_i_i80_i_v_i = v_3_i2_i_i_i79_i_i ? 2u : 3u;
-    v_0_sroa_0_0_i3_i_i_i80_i_i = (u64)((u64)(v_0_sroa_0_0_i3_i_i_i80_i_v_i) + (u64)(v_0_i104_i_i78_i_i));
-    v_174 = (u64)((u64)(v_0_sroa_0_0_i3_i_i_i80_i_i) + (u64)(v_10_sroa_0_0_i_i_i76_i_i));
-    v_3_i_i_i81_i_i = v_174 < 128u;
-    if (v_3_i_i_i81_i_i) { p_v_sink168_i = 2u; goto L_AnyRef_quick_len_exit_i35_i_i; } else { goto L_bb4_i_i_i82_i_i; }
-L_bb4_i_i_i82_i_i:;
-    v_4_i_i_i83_i_i = v_174 < 256u;
-    if (v_4_i_i_i83_i_i) { p_v_sink168_i = 3u; goto L_AnyRef_quick_len_exit_i35_i_i; } else { goto L_bb6_i_i_i84_i_i; }
-L_bb6_i_i_i84_i_i:;
-    v_5_i_i_i85_i_i = v_174 < 65536u;
-    if (v_5_i_i_i85_i_i) { p_v_sink168_i = 4u; goto L_AnyRef_quick_len_exit_i35_i_i; } else { goto L_bb8_i_i_i86_i_i; }
-L_bb8_i_i_i86_i_i:;
-    v_6_i_i_i87_i_i = v_174 < 16777216u;
-    v_173_i = v_6_i_i_i87_i_i ? 5u : 6u;
-    { p_v_sink168_i = v_173_i; goto L_AnyRef_quick_len_exit_i35_i_i; }
-L_AnyRef_quick_len_exit_i35_i_i:;
-    v_sink168_i = p_v_sink168_i;
-    v_175 = (u64)((u64)(v_sink168_i) + (u64)(v_174));
-    v_31_i_i91_i_i = v_175 < 128u;
-    v_176 = (u64)((u64)(v_175) + (u64)(2u));
-    v_spec_select19_i_i92_i_i = v_31_i_i91_i_i ? v_176 : 4294967296ull;
-    v_177 = (u64)((u64)(v_spec_select19_i_i92_i_i) + (u64)(v_0_sroa_0_0_i705_i_i));
-    { p_v_0_sroa_0_0_i254394 = v_0_sroa_0_0_i254391; p_v_0_sroa_0_0_i_i21_i = v_177; goto L_EncodeValue_quick_value_len_exit_i; }
-L_bb7_i_i18_i:;
-    if (v_0_sroa_0_0_i) { goto L_bb6_i266_i_i; } else { goto L_bb7_i140_i_i; }
-L_bb6_i266_i_i:;
-    if (v_0_sroa_0_0_i254391) { p_v_0_sroa_0_0_i170_i_i = 0u; goto L_bb6_i_i_i_i; } else { goto L_bb2_i_i275_i_i; }
-L_bb2_i_i275_i_i:;
-    v_178 = v_made_i + 104;
-    v_0_1_i_i_i278_i_i = get_u64(v_178);
-    v_179 = v_made_i + 120;
-    v_4_1_i_i_i281_i_i = get_u64(v_179);
-    v_5_i84_i_i282_i_i = v_4_1_i_i_i281_i_i < 128u;
-    v_180 = (u64)((u64)(v_4_1_i_i_i281_i_i) + (u64)(2u));
-    v_0_sroa_0_0_i85_i_i283_i_i = v_5_i84_i_i282_i_i ? v_180 : 4294967296ull;
-    v_10_sroa_0_0_i79_i_i285_i_i = v_134 ? 0u : v_0_sroa_0_0_i85_i_i283_i_i;
-    v_0_i_i_i287_i_i = (u64)((u64)(v_0_1_i_i_i278_i_i) & (u64)(255u));
-    v_3_i_i81_i_i288_i_i = v_0_i_i_i287_i_i < 128u;
-    v_0_sroa_0_0_i_i82_i_i289_i_v_i = v_3_i_i81_i_i288_i_i ? 2u : 3u;
-    v_0_sroa_0_0_i_i82_i_i289_i_i = (u64)((u64)(v_0_sroa_0_0_i_i82_i_i289_i_v_i) + (u64)(v_0_i_i_i287_i_i));
-    v_181 = (u64)((u64)(v_0_sroa_0_0_i_i82_i_i289_i_i) + (u64)(v_10_sroa_0_0_i79_i_i285_i_i));
-    v_3_i22_i_i290_i_i = v_181 < 128u;
-    if (v_3_i22_i_i290_i_i) { p_v_sink169_i = 2u; goto L_AnyRef_quick_len_exit_i302_i_i; } else { goto L_bb4_i23_i_i291_i_i; }
-L_bb4_i23_i_i291_i_i:;
-    v_4_i24_i_i292_i_i = v_181 < 256u;
-    if (v_4_i24_i_i292_i_i) { p_v_sink169_i = 3u; goto L_AnyRef_quick_len_exit_i302_i_i; } else { goto L_bb6_i25_i_i293_i_i; }
-L_bb6_i25_i_i293_i_i:;
-    v_5_i26_i_i294_i_i = v_181 < 65536u;
-    if (v_5_i26_i_i294_i_i) { p_v_sink169_i = 4u; goto L_AnyRef_quick_len_exit_i302_i_i; } else { goto L_bb8_i27_i_i295_i_i; }
-L_bb8_i27_i_i295_i_i:;
-    v_6_i28_i_i296_i_i = v_181 < 16777216u;
-    v_174_i = v_6_i28_i_i296_i_i ? 5u : 6u;
-    { p_v_sink169_i = v_174_i; goto L_AnyRef_quick_len_exit_i302_i_i; }
-L_AnyRef_quick_len_exit_i302_i_i:;
-    v_sink169_i = p_v_sink169_i;
-    v_182 = (u64)((u64)(v_sink169_i) + (u64)(v_181));
-    v_10_i_i300_i_i = v_182 < 128u;
-    v_183 = (u64)((u64)(v_182) + (u64)(2u));
-    v_spec_select20_i_i301_i_i = v_10_i_i300_i_i ? v_183 : 4294967296ull;
-    { p_v_0_sroa_0_0_i170_i_i = v_spec_select20_i_i301_i_i; goto L_bb6_i_i_i_i; }
-L_bb7_i140_i_i:;
-    if (v_0_sroa_0_0_i254391) { p_v_0_sroa_0_0_i437_i_i = 0u; goto L_bb5_i_i179_i_i; } else { goto L_bb2_i_i408_i_i; }
-L_bb2_i_i408_i_i:;
-    v_184 = v_made_i + 104;
-    v_0_1_i_i_i411_i_i = get_u64(v_184);
-    v_185 = v_made_i + 120;
-    v_4_1_i_i_i414_i_i = get_u64(v_185);
-    v_5_i84_i_i415_i_i = v_4_1_i_i_i414_i_i < 128u;
-    v_186 = (u64)((u64)(v_4_1_i_i_i414_i_i) + (u64)(2u));
-    v_0_sroa_0_0_i85_i_i416_i_i = v_5_i84_i_i415_i_i ? v_186 : 4294967296ull;
-    v_10_sroa_0_0_i79_i_i418_i_i = v_134 ? 0u : v_0_sroa_0_0_i85_i_i416_i_i;
-    v_0_i_i_i420_i_i = (u64)((u64)(v_0_1_i_i_i411_i_i) & (u64)(255u));
-    v_3_i_i81_i_i421_i_i = v_0_i_i_i420_i_i < 128u;
-    v_0_sroa_0_0_i_i82_i_i422_i_v_i = v_3_i_i81_i_i421_i_i ? 2u : 3u;
-    v_0_sroa_0_0_i_i82_i_i422_i_i = (u64)((u64)(v_0_sroa_0_0_i_i82_i_i422_i_v_i) + (u64)(v_0_i_i_i420_i_i));
-    v_187 = (u64)((u64)(v_0_sroa_0_0_i_i82_i_i422_i_i) + (u64)(v_10_sroa_0_0_i79_i_i418_i_i));
-    v_3_i22_i_i423_i_i = v_187 < 128u;
-    if (v_3_i22_i_i423_i_i) { p_v_sink170_i = 2u; goto L_AnyRef_quick_len_exit_i435_i_i; } else { goto L_bb4_i23_i_i424_i_i; }
-L_bb4_i23_i_i424_i_i:;
-    v_4_i24_i_i425_i_i = v_187 < 256u;
-    if (v_4_i24_i_i425_i_i) { p_v_sink170_i = 3u; goto L_AnyRef_quick_len_exit_i435_i_i; } else { goto L_bb6_i25_i_i426_i_i; }
-L_bb6_i25_i_i426_i_i:;
-    v_5_i26_i_i427_i_i = v_187 < 65536u;
-    if (v_5_i26_i_i427_i_i) { p_v_sink170_i = 4u; goto L_AnyRef_quick_len_exit_i435_i_i; } else { goto L_bb8_i27_i_i428_i_i; }
-L_bb8_i27_i_i428_i_i:;
-    v_6_i28_i_i429_i_i = v_187 < 16777216u;
-    v_175_i = v_6_i28_i_i429_i_i ? 5u : 6u;
-    { p_v_sink170_i = v_175_i; goto L_AnyRef_quick_len_exit_i435_i_i; }
-L_AnyRef_quick_len_exit_i435_i_i:;
-    v_sink170_i = p_v_sink170_i;
-    v_188 = (u64)((u64)(v_sink170_i) + (u64)(v_187));
-    v_10_i_i433_i_i = v_188 < 128u;
-    v_189 = (u64)((u64)(v_188) + (u64)(2u));
-    v_spec_select20_i_i434_i_i = v_10_i_i433_i_i ? v_189 : 4294967296ull;
-    { p_v_0_sroa_0_0_i437_i_i = v_spec_select20_i_i434_i_i; goto L_bb5_i_i179_i_i; }
-L_bb5_i_i179_i_i:;
-    v_0_sroa_0_0_i437_i_i = p_v_0_sroa_0_0_i437_i_i;
-    v_190 = v_made_i + 48;
-    v_0_1_i97_i_i182_i_i = get_u64(v_190);
-    if (v_100) { p_v_10_sroa_0_0_i_i_i209_i_i = 0u; goto L_EncodeValue_quick_value_len_exit_i_i208_i_i; } else { goto L_bb10_i51_i_i184_i_i; }
-L_bb10_i51_i_i184_i_i:;
-    v_191 = v_made_i + 64;
-    v_0_1_i95_i_i186_i_i = get_u64(v_191);
-    v_192 = v_made_i + 72;
-    v_193 = get_P(v_192);
-    v_194 = v_193 == (P)0;
-    v_195 = v_made_i + 80;
-    v_4_1_i89_i_i189_i_i = get_u64(v_195);
-    v_5_i90_i_i190_i_i = v_4_1_i89_i_i189_i_i < 128u;
-    v_196 = (u64)((u64)(v_4_1_i89_i_i189_i_i) + (u64)(2u));
-    v_0_sroa_0_0_i91_i_i191_i_i = v_5_i90_i_i190_i_i ? v_196 : 4294967296ull;
-    v_10_sroa_0_0_i59_i_i193_i_i = v_194 ? 0u : v_0_sroa_0_0_i91_i_i191_i_i;
-    v_0_i102_i_i195_i_i = (u64)((u64)(v_0_1_i95_i_i186_i_i) & (u64)(255u));
-    v_3_i_i61_i_i196_i_i = v_0_i102_i_i195_i_i < 128u;
-    v_0_sroa_0_0_i_i62_i_i197_i_v_i = v_3_i_i61_i_i196_i_i ? 2u : 3u;
-    v_0_sroa_0_0_i_i62_i_i197_i_i = (u64)((u64)(v_0_sroa_0_0_i_i62_i_i197_i_v_i) + (u64)(v_0_i102_i_i195_i_i));
-    v_197 = (u64)((u64)(v_0_sroa_0_0_i_i62_i_i197_i_i) + (u64)(v_10_sroa_0_0_i59_i_i193_i_i));
-    v_3_i_i_i_i198_i_i = v_197 < 128u;
-    if (v_3_i_i_i_i198_i_i) { goto L_bb3_i_i_i_i233_i_i; } else { goto L_bb4_i_i_i_i199_i_i; }
-L_bb4_i_i_i_i199_i_i:;
-    v_4_i_i_i_i200_i_i = v_197 < 256u;
-    if (v_4_i_i_i_i200_i_i) { goto L_bb5_i_i_i_i232_i_i; } else { goto L_bb6_i_i_i_i201_i_i; }
-L_bb3_i_i_i_i233_i_i:;
-    v_198 = (u64)((u64)(v_197) + (u64)(2u));
-    { p_v_10_sroa_0_0_i_i_i209_i_i = v_198; goto L_EncodeValue_quick_value_len_exit_i_i208_i_i; }
-L_bb6_i_i_i_i201_i_i:;
-    v_5_i_i_i_i202_i_i = v_197 < 65536u;
-    if (v_5_i_i_i_i202_i_i) { goto L_bb7_i_i_i_i231_i_i; } else { goto L_bb8_i_i_i_i203_i_i; }
-L_bb5_i_i_i_i232_i_i:;
-    v_199 = (u64)((u64)(v_197) + (u64)(3u));
-    { p_v_10_sroa_0_0_i_i_i209_i_i = v_199; goto L_EncodeValue_quick_value_len_exit_i_i208_i_i; }
-L_bb8_i_i_i_i203_i_i:;
-    v_6_i_i_i_i204_i_i = v_197 < 16777216u;
-    if (v_6_i_i_i_i204_i_i) { goto L_bb9_i_i_i_i230_i_i; } else { goto L_bb10_i_i_i_i205_i_i; }
-L_bb7_i_i_i_i231_i_i:;
-    v_200 = (u64)((u64)(v_197) + (u64)(4u));
-    { p_v_10_sroa_0_0_i_i_i209_i_i = v_200; goto L_EncodeValue_quick_value_len_exit_i_i208_i_i; }
-L_bb10_i_i_i_i205_i_i:;
-    v_201 = (u64)((u64)(v_197) + (u64)(6u));
-    { p_v_10_sroa_0_0_i_i_i209_i_i = v_201; goto L_EncodeValue_quick_value_len_exit_i_i208_i_i; }
-L_bb9_i_i_i_i230_i_i:;
-    v_202 = (u64)((u64)(v_197) + (u64)(5u));
-    { p_v_10_sroa_0_0_i_i_i209_i_i = v_202; goto L_EncodeValue_quick_value_len_exit_i_i208_i_i; }
-L_EncodeValue_quick_value_len_exit_i_i208_i_i:;
-    v_10_sroa_0_0_i_i_i209_i_i = p_v_10_sroa_0_0_i_i_i209_i_i;
-    v_0_i104_i_i211_i_i = (u64)((u64)(v_0_1_i97_i_i182_i_i) & (u64)(255u));
-    v_3_i2_i_i_i212_i_i = v_0_i104_i_i211_i_i < 128u;
-    v_0_sroa_0_0_i3_i_i_i213_i_v_i = v_3_i2_i_i_i212_i_i ? 2u : 3u;
-    v_0_sroa_0_0_i3_i_i_i213_i_i = (u64)((u64)(v_0_sroa_0_0_i3_i_i_i213_i_v_i) + (u64)(v_0_i104_i_i211_i_i));
-    v_203 = (u64)((u64)(v_0_sroa_0_0_i3_i_i_i213_i_i) + (u64)(v_10_sroa_0_0_i_i_i209_i_i));
-    v_3_i_i_i214_i_i = v_203 < 128u;
-    if (v_3_i_i_i214_i_i) { p_v_sink171_i = 2u; goto L_AnyRef_quick_len_exit_i168_i_i; } else { goto L_bb4_i_i_i215_i_i; }
-L_bb4_i_i_i215_i_i:;
-    v_4_i_i_i216_i_i = v_203 < 256u;
-    if (v_4_i_i_i216_i_i) { p_v_sink171_i = 3u; goto L_AnyRef_quick_len_exit_i168_i_i; } else { goto L_bb6_i_i_i217_i_i; }
-L_bb6_i_i_i217_i_i:;
-    v_5_i_i_i218_i_i = v_203 < 65536u;
-    if (v_5_i_i_i218_i_i) { p_v_sink171_i = 4u; goto L_AnyRef_quick_len_exit_i168_i_i; } else { goto L_bb8_i_i_i219_i_i; }
-L_bb8_i_i_i219_i_i:;
-    v_6_i_i_i220_i_i = v_203 < 16777216u;
-    v_176_i = v_6_i_i_i220_i_i ? 5u : 6u;
-    { p_v_sink171_i = v_176_i; goto L_AnyRef_quick_len_exit_i168_i_i; }
-L_AnyRef_quick_len_exit_i168_i_i:;
-    v_sink171_i = p_v_sink171_i;
-    v_204 = (u64)((u64)(v_sink171_i) + (u64)(v_203));
-    v_31_i_i224_i_i = v_204 < 128u;
-    v_205 = (u64)((u64)(v_204) + (u64)(2u));
-    v_spec_select19_i_i225_i_i = v_31_i_i224_i_i ? v_205 : 4294967296ull;
-    v_206 = (u64)((u64)(v_spec_select19_i_i225_i_i) + (u64)(v_0_sroa_0_0_i437_i_i));
-    { p_v_0_sroa_0_0_i170_i_i = v_206; goto L_bb6_i_i_i_i; }
-L_bb6_i_i_i_i:;
-    v_0_sroa_0_0_i170_i_i = p_v_0_sroa_0_0_i170_i_i;
-    v_207 = v_made_i + 8;
-    v_0_1_i93_i_i_i_i = get_u64(v_207);
-    v_208 = v_made_i + 24;
-    v_4_1_i86_i_i_i_i = get_u64(v_208);
-    v_5_i87_i_i_i_i = v_4_1_i86_i_i_i_i < 128u;
-    v_209 = (u64)((u64)(v_4_1_i86_i_i_i_i) + (u64)(2u));
-    v_0_sroa_0_0_i88_i_i_i_i = v_5_i87_i_i_i_i ? v_209 : 4294967296ull;
-    v_10_sroa_0_0_i69_i_i_i_i = v_80 ? 0u : v_0_sroa_0_0_i88_i_i_i_i;
-    v_0_i100_i_i_i_i = (u64)((u64)(v_0_1_i93_i_i_i_i) & (u64)(255u));
-    v_3_i_i70_i_i_i_i = v_0_i100_i_i_i_i < 128u;
-    v_0_sroa_0_0_i_i71_i_i_i_v_i = v_3_i_i70_i_i_i_i ? 2u : 3u;
-    v_0_sroa_0_0_i_i71_i_i_i_i = (u64)((u64)(v_0_sroa_0_0_i_i71_i_i_i_v_i) + (u64)(v_0_i100_i_i_i_i));
-    v_210 = (u64)((u64)(v_0_sroa_0_0_i_i71_i_i_i_i) + (u64)(v_10_sroa_0_0_i69_i_i_i_i));
-    v_3_i36_i_i_i_i = v_210 < 128u;
-    if (v_3_i36_i_i_i_i) { p_v_sink172_i = 2u; goto L_AnyRef_quick_len_exit_i_i_i; } else { goto L_bb4_i37_i_i_i_i; }
-L_bb4_i37_i_i_i_i:;
-    v_4_i38_i_i_i_i = v_210 < 256u;
-    if (v_4_i38_i_i_i_i) { p_v_sink172_i = 3u; goto L_AnyRef_quick_len_exit_i_i_i; } else { goto L_bb6_i39_i_i_i_i; }
-L_bb6_i39_i_i_i_i:;
-    v_5_i40_i_i_i_i = v_210 < 65536u;
-    if (v_5_i40_i_i_i_i) { p_v_sink172_i = 4u; goto L_AnyRef_quick_len_exit_i_i_i; } else { goto L_bb8_i41_i_i_i_i; }
-L_bb8_i41_i_i_i_i:;
-    v_6_i42_i_i_i_i = v_210 < 16777216u;
-    v_177_i = v_6_i42_i_i_i_i ? 5u : 6u;
-    { p_v_sink172_i = v_177_i; goto L_AnyRef_quick_len_exit_i_i_i; }
-L_AnyRef_quick_len_exit_i_i_i:;
-    v_sink172_i = p_v_sink172_i;
-    v_211 = (u64)((u64)(v_sink172_i) + (u64)(v_210));
-    v_33_i_i_i_i = v_211 < 128u;
-    v_212 = (u64)((u64)(v_211) + (u64)(2u));
-    v_spec_select_i_i_i_i = v_33_i_i_i_i ? v_212 : 4294967296ull;
-    v_213 = (u64)((u64)(v_spec_select_i_i_i_i) + (u64)(v_0_sroa_0_0_i170_i_i));
-    { p_v_0_sroa_0_0_i254394 = v_0_sroa_0_0_i254391; p_v_0_sroa_0_0_i_i21_i = v_213; goto L_EncodeValue_quick_value_len_exit_i; }
-L_EncodeValue_quick_value_len_exit_i:;
-    v_0_sroa_0_0_i254394 = p_v_0_sroa_0_0_i254394;
-    v_0_sroa_0_0_i_i21_i = p_v_0_sroa_0_0_i_i21_i;
-    v_3_i_i_i = v_0_sroa_0_0_i_i21_i < 128u;
-    if (v_3_i_i_i) { goto L_EncodeValue_quick_value_len_exit_i__2; } else { goto L_bb4_i_i9_i; }
-L_bb4_i_i9_i:;
-    v_4_i_i10_i = v_0_sroa_0_0_i_i21_i < 256u;
-    if (v_4_i_i10_i) { goto L_bb5_i3_i; } else { goto L_bb6_i_i11_i; }
-L_bb6_i_i11_i:;
-    v_5_i_i_i = v_0_sroa_0_0_i_i21_i < 65536u;
-    if (v_5_i_i_i) { goto L_bb7_i_i; } else { goto L_bb8_i_i12_i; }
-L_bb8_i_i12_i:;
-    v_6_i_i_i = v_0_sroa_0_0_i_i21_i < 16777216u;
-    if (v_6_i_i_i) { goto L_bb9_i_i; } else { goto L_bb3_i_i296; }
-L_EncodeValue_quick_value_len_exit_i__2:;
-    v_214 = (u64)((u64)(v_0_sroa_0_0_i_i21_i) + (u64)(2u));
-    v_6_i_i293 = v_0_sroa_0_0_i_i21_i < 115u;
-    if (v_6_i_i293) { p_v_216 = v_214; goto L_bb4_i_i; } else { p_v_10_sroa_0_0_i_i400408 = v_214; goto L_bb6_i_i; }
-L_bb5_i3_i:;
-    v_215 = (u64)((u64)(v_0_sroa_0_0_i_i21_i) + (u64)(3u));
-    v_7_i_i = v_0_sroa_0_0_i_i21_i < 242u;
-    if (v_7_i_i) { p_v_10_sroa_0_0_i_i400408 = v_215; goto L_bb6_i_i; } else { p_v_10_sroa_0_0_i_i_ph414418 = v_215; goto L_bb8_i_i; }
-L_bb4_i_i:;
-    v_216 = p_v_216;
-    v_217 = (u64)((u64)(v_216) + (u64)(13u));
-    { p_v_0_sroa_31_0_in_i_ph_i = v_217; goto L_Encode_encoded_len_exit_thread_i; }
-L_bb7_i_i:;
-    v_218 = (u64)((u64)(v_0_sroa_0_0_i_i21_i) + (u64)(4u));
-    v_8_i_i294 = v_0_sroa_0_0_i_i21_i < 65521u;
-    if (v_8_i_i294) { p_v_10_sroa_0_0_i_i_ph414418 = v_218; goto L_bb8_i_i; } else { p_v_10_sroa_0_0_i_i_ph_ph424428 = v_218; goto L_bb10_i_i323; }
-L_bb6_i_i:;
-    v_10_sroa_0_0_i_i400408 = p_v_10_sroa_0_0_i_i400408;
-    v_219 = (u64)((u64)(v_10_sroa_0_0_i_i400408) + (u64)(14u));
-    { p_v_0_sroa_31_0_in_i_ph_i = v_219; goto L_Encode_encoded_len_exit_thread_i; }
-L_bb9_i_i:;
-    v_220 = (u64)((u64)(v_0_sroa_0_0_i_i21_i) + (u64)(5u));
-    v_9_i_i295 = v_0_sroa_0_0_i_i21_i < 16777200u;
-    if (v_9_i_i295) { p_v_10_sroa_0_0_i_i_ph_ph424428 = v_220; goto L_bb10_i_i323; } else { goto L_bb3_i_i296_thread; }
-L_bb3_i_i296_thread:;
-    v_221 = (u64)((u64)(v_0_sroa_0_0_i_i21_i) + (u64)(22u));
-    { p_v_0_sroa_31_0_in_i_ph_i = v_221; goto L_Encode_encoded_len_exit_thread_i; }
-L_bb8_i_i:;
-    v_10_sroa_0_0_i_i_ph414418 = p_v_10_sroa_0_0_i_i_ph414418;
-    v_222 = (u64)((u64)(v_10_sroa_0_0_i_i_ph414418) + (u64)(15u));
-    { p_v_0_sroa_31_0_in_i_ph_i = v_222; goto L_Encode_encoded_len_exit_thread_i; }
-L_bb10_i_i323:;
-    v_10_sroa_0_0_i_i_ph_ph424428 = p_v_10_sroa_0_0_i_i_ph_ph424428;
-    v_223 = (u64)((u64)(v_10_sroa_0_0_i_i_ph_ph424428) + (u64)(16u));
-    { p_v_0_sroa_31_0_in_i_ph_i = v_223; goto L_Encode_encoded_len_exit_thread_i; }
-L_bb3_i_i296:;
-    v_224 = (u64)((u64)(v_0_sroa_0_0_i_i21_i) + (u64)(23u));
-    v_10_i_i297 = v_0_sroa_0_0_i_i21_i < 4294967273ull;
-    if (v_10_i_i297) { p_v_0_sroa_31_0_in_i_ph_i = v_224; goto L_Encode_encoded_len_exit_thread_i; } else { goto L_bb10_i_i26_i; }
-L_bb10_i_i26_i:;
-    if (v_0_sroa_0_0_shrunk_i_i_i) { goto L_bb6_i_i_i_i49_i; } else { goto L_bb7_i_i_i_i27_i; }
-L_bb6_i_i_i_i49_i:;
-    if (v_0_sroa_0_0_i) { goto L_bb6_i133_i_i_i_i; } else { goto L_bb7_i7_i_i_i_i; }
-L_bb6_i133_i_i_i_i:;
-    if (v_0_sroa_0_0_i254394) { p_v_0_sroa_0_0_i_i38_i_i_i = 0u; goto L_bb4_i_i_i48_i; } else { goto L_bb6_i133_i_i_i_i_bb2_i_i542_i_i_i_i_crit_edge; }
-L_bb6_i133_i_i_i_i_bb2_i_i542_i_i_i_i_crit_edge:;
-    v_phi_trans_insert = v_made_i + 104;
-    v_0_1_i_i_i545_i_i_i_i_pre = get_u64(v_phi_trans_insert);
-    v_phi_trans_insert516 = v_made_i + 120;
-    v_4_1_i_i_i548_i_i_i_i_pre = get_u64(v_phi_trans_insert516);
-    v_pre = (u64)((u64)(v_4_1_i_i_i548_i_i_i_i_pre) + (u64)(2u));
-    v_pre518 = (u64)((u64)(v_0_1_i_i_i545_i_i_i_i_pre) & (u64)(255u));
-    { p_v_0_i_i_i554_i_i_i_i_pre_phi = v_pre518; p_v_pre_phi = v_pre; p_v_4_1_i_i_i548_i_i_i_i = v_4_1_i_i_i548_i_i_i_i_pre; goto L_bb2_i_i542_i_i_i_i; }
-L_bb2_i_i542_i_i_i_i:;
-    v_0_i_i_i554_i_i_i_i_pre_phi = p_v_0_i_i_i554_i_i_i_i_pre_phi;
-    v_pre_phi = p_v_pre_phi;
-    v_4_1_i_i_i548_i_i_i_i = p_v_4_1_i_i_i548_i_i_i_i;
-    v_5_i84_i_i549_i_i_i_i = v_4_1_i_i_i548_i_i_i_i < 128u;
-    v_0_sroa_0_0_i85_i_i550_i_i_i_i = v_5_i84_i_i549_i_i_i_i ? v_pre_phi : 4294967296ull;
-    v_10_sroa_0_0_i79_i_i552_i_i_i_i = v_134 ? 0u : v_0_sroa_0_0_i85_i_i550_i_i_i_i;
-    v_3_i_i81_i_i555_i_i_i_i = v_0_i_i_i554_i_i_i_i_pre_phi < 128u;
-    v_0_sroa_0_0_i_i82_i_i556_i_v_i_i_i = v_3_i_i81_i_i555_i_i_i_i ? 2u : 3u;
-    v_0_sroa_0_0_i_i82_i_i556_i_i_i_i = (u64)((u64)(v_0_sroa_0_0_i_i82_i_i556_i_v_i_i_i) + (u64)(v_0_i_i_i554_i_i_i_i_pre_phi));
-    v_225 = (u64)((u64)(v_0_sroa_0_0_i_i82_i_i556_i_i_i_i) + (u64)(v_10_sroa_0_0_i79_i_i552_i_i_i_i));
-    v_10_i_i567_i_i_i_i = v_225 < 126u;
-    v_226 = (u64)((u64)(v_225) + (u64)(4u));
-    if (v_10_i_i567_i_i_i_i) { p_v_0_sroa_0_0_i_i_i_i29_i = v_226; goto L_EncodeValue_quick_value_len_exit_i_i_i; } else { goto L_bb8_i_i34_i; }
-L_bb7_i7_i_i_i_i:;
-    if (v_0_sroa_0_0_i254394) { p_v_0_sroa_0_0_i705_i_i_i_i = 0u; goto L_bb5_i_i46_i_i_i_i; } else { goto L_bb2_i_i676_i_i_i_i; }
-L_bb2_i_i676_i_i_i_i:;
-    v_227 = v_made_i + 104;
-    v_0_1_i_i_i679_i_i_i_i = get_u64(v_227);
-    v_228 = v_made_i + 120;
-    v_4_1_i_i_i682_i_i_i_i = get_u64(v_228);
-    v_5_i84_i_i683_i_i_i_i = v_4_1_i_i_i682_i_i_i_i < 128u;
-    v_229 = (u64)((u64)(v_4_1_i_i_i682_i_i_i_i) + (u64)(2u));
-    v_0_sroa_0_0_i85_i_i684_i_i_i_i = v_5_i84_i_i683_i_i_i_i ? v_229 : 4294967296ull;
-    v_10_sroa_0_0_i79_i_i686_i_i_i_i = v_134 ? 0u : v_0_sroa_0_0_i85_i_i684_i_i_i_i;
-    v_0_i_i_i688_i_i_i_i = (u64)((u64)(v_0_1_i_i_i679_i_i_i_i) & (u64)(255u));
-    v_3_i_i81_i_i689_i_i_i_i = v_0_i_i_i688_i_i_i_i < 128u;
-    v_0_sroa_0_0_i_i82_i_i690_i_v_i_i_i = v_3_i_i81_i_i689_i_i_i_i ? 2u : 3u;
-    v_0_sroa_0_0_i_i82_i_i690_i_i_i_i = (u64)((u64)(v_0_sroa_0_0_i_i82_i_i690_i_v_i_i_i) + (u64)(v_0_i_i_i688_i_i_i_i));
-    v_230 = (u64)((u64)(v_0_sroa_0_0_i_i82_i_i690_i_i_i_i) + (u64)(v_10_sroa_0_0_i79_i_i686_i_i_i_i));
-    v_3_i22_i_i691_i_i_i_i = v_230 < 128u;
-    if (v_3_i22_i_i691_i_i_i_i) { p_v_sink_i_i_i = 2u; goto L_AnyRef_quick_len_exit_i703_i_i_i_i; } else { goto L_bb4_i23_i_i692_i_i_i_i; }
-L_bb4_i23_i_i692_i_i_i_i:;
-    v_4_i24_i_i693_i_i_i_i = v_230 < 256u;
-    if (v_4_i24_i_i693_i_i_i_i) { p_v_sink_i_i_i = 3u; goto L_AnyRef_quick_len_exit_i703_i_i_i_i; } else { goto L_bb6_i25_i_i694_i_i_i_i; }
-L_bb6_i25_i_i694_i_i_i_i:;
-    v_5_i26_i_i695_i_i_i_i = v_230 < 65536u;
-    if (v_5_i26_i_i695_i_i_i_i) { p_v_sink_i_i_i = 4u; goto L_AnyRef_quick_len_exit_i703_i_i_i_i; } else { goto L_bb8_i27_i_i696_i_i_i_i; }
-L_bb8_i27_i_i696_i_i_i_i:;
-    v_6_i28_i_i697_i_i_i_i = v_230 < 16777216u;
-    v_i_i_i = v_6_i28_i_i697_i_i_i_i ? 5u : 6u;
-    { p_v_sink_i_i_i = v_i_i_i; goto L_AnyRef_quick_len_exit_i703_i_i_i_i; }
-L_AnyRef_quick_len_exit_i703_i_i_i_i:;
-    v_sink_i_i_i = p_v_sink_i_i_i;
-    v_231 = (u64)((u64)(v_sink_i_i_i) + (u64)(v_230));
-    v_10_i_i701_i_i_i_i = v_231 < 128u;
-    v_232 = (u64)((u64)(v_231) + (u64)(2u));
-    v_spec_select20_i_i702_i_i_i_i = v_10_i_i701_i_i_i_i ? v_232 : 4294967296ull;
-    { p_v_0_sroa_0_0_i705_i_i_i_i = v_spec_select20_i_i702_i_i_i_i; goto L_bb5_i_i46_i_i_i_i; }
-L_bb5_i_i46_i_i_i_i:;
-    v_0_sroa_0_0_i705_i_i_i_i = p_v_0_sroa_0_0_i705_i_i_i_i;
-    v_233 = v_made_i + 48;
-    v_0_1_i97_i_i49_i_i_i_i = get_u64(v_233);
-    if (v_100) { p_v_10_sroa_0_0_i_i_i76_i_i_i_i = 0u; goto L_EncodeValue_quick_value_len_exit_i_i75_i_i_i_i; } else { goto L_bb10_i51_i_i51_i_i_i_i; }
-L_bb10_i51_i_i51_i_i_i_i:;
-    v_234 = v_made_i + 64;
-    v_0_1_i95_i_i53_i_i_i_i = get_u64(v_234);
-    v_235 = v_made_i + 72;
-    v_236 = get_P(v_235);
-    v_237 = v_236 == (P)0;
-    v_238 = v_made_i + 80;
-    v_4_1_i89_i_i56_i_i_i_i = get_u64(v_238);
-    v_5_i90_i_i57_i_i_i_i = v_4_1_i89_i_i56_i_i_i_i < 128u;
-    v_239 = (u64)((u64)(v_4_1_i89_i_i56_i_i_i_i) + (u64)(2u));
-    v_0_sroa_0_0_i91_i_i58_i_i_i_i = v_5_i90_i_i57_i_i_i_i ? v_239 : 4294967296ull;
-    v_10_sroa_0_0_i59_i_i60_i_i_i_i = v_237 ? 0u : v_0_sroa_0_0_i91_i_i58_i_i_i_i;
-    v_0_i102_i_i62_i_i_i_i = (u64)((u64)(v_0_1_i95_i_i53_i_i_i_i) & (u64)(255u));
-    v_3_i_i61_i_i63_i_i_i_i = v_0_i102_i_i62_i_i_i_i < 128u;
-    v_0_sroa_0_0_i_i62_i_i64_i_v_i_i_i = v_3_i_i61_i_i63_i_i_i_i ? 2u : 3u;
-    v_0_sroa_0_0_i_i62_i_i64_i_i_i_i = (u64)((u64)(v_0_sroa_0_0_i_i62_i_i64_i_v_i_i_i) + (u64)(v_0_i102_i_i62_i_i_i_i));
-    v_240 = (u64)((u64)(v_0_sroa_0_0_i_i62_i_i64_i_i_i_i) + (u64)(v_10_sroa_0_0_i59_i_i60_i_i_i_i));
-    v_3_i_i_i_i65_i_i_i_i = v_240 < 128u;
-    if (v_3_i_i_i_i65_i_i_i_i) { goto L_bb3_i_i_i_i100_i_i_i_i; } else { goto L_bb4_i_i_i_i66_i_i_i_i; }
-L_bb4_i_i_i_i66_i_i_i_i:;
-    v_4_i_i_i_i67_i_i_i_i = v_240 < 256u;
-    if (v_4_i_i_i_i67_i_i_i_i) { goto L_bb5_i_i_i_i99_i_i_i_i; } else { goto L_bb6_i_i_i_i68_i_i_i_i; }
-L_bb3_i_i_i_i100_i_i_i_i:;
-    v_241 = (u64)((u64)(v_240) + (u64)(2u));
-    { p_v_10_sroa_0_0_i_i_i76_i_i_i_i = v_241; goto L_EncodeValue_quick_value_len_exit_i_i75_i_i_i_i; }
-L_bb6_i_i_i_i68_i_i_i_i:;
-    v_5_i_i_i_i69_i_i_i_i = v_240 < 65536u;
-    if (v_5_i_i_i_i69_i_i_i_i) { goto L_bb7_i_i_i_i98_i_i_i_i; } else { goto L_bb8_i_i_i_i70_i_i_i_i; }
-L_bb5_i_i_i_i99_i_i_i_i:;
-    v_242 = (u64)((u64)(v_240) + (u64)(3u));
-    { p_v_10_sroa_0_0_i_i_i76_i_i_i_i = v_242; goto L_EncodeValue_quick_value_len_exit_i_i75_i_i_i_i; }
-L_bb8_i_i_i_i70_i_i_i_i:;
-    v_6_i_i_i_i71_i_i_i_i = v_240 < 16777216u;
-    if (v_6_i_i_i_i71_i_i_i_i) { goto L_bb9_i_i_i_i97_i_i_i_i; } else { goto L_bb10_i_i_i_i72_i_i_i_i; }
-L_bb7_i_i_i_i98_i_i_i_i:;
-    v_243 = (u64)((u64)(v_240) + (u64)(4u));
-    { p_v_10_sroa_0_0_i_i_i76_i_i_i_i = v_243; goto L_EncodeValue_quick_value_len_exit_i_i75_i_i_i_i; }
-L_bb10_i_i_i_i72_i_i_i_i:;
-    v_244 = (u64)((u64)(v_240) + (u64)(6u));
-    { p_v_10_sroa_0_0_i_i_i76_i_i_i_i = v_244; goto L_EncodeValue_quick_value_len_exit_i_i75_i_i_i_i; }
-L_bb9_i_i_i_i97_i_i_i_i:;
-    v_245 = (u64)((u64)(v_240) + (u64)(5u));
-    { p_v_10_sroa_0_0_i_i_i76_i_i_i_i = v_245; goto L_EncodeValue_quick_value_len_exit_i_i75_i_i_i_i; }
-L_EncodeValue_quick_value_len_exit_i_i75_i_i_i_i:;
-    v_10_sroa_0_0_i_i_i76_i_i_i_i = p_v_10_sroa_0_0_i_i_i76_i_i_i_i;
-    v_0_i104_i_i78_i_i_i_i = (u64)((u64)(v_0_1_i97_i_i49_i_i_i_i) & (u64)(255u));
-    v_3_i2_i_i_i79_i_i_i_i = v_0_i104_i_i78_i_i_i_i < 128u;
-    v_0_sroa_0_0_i3_i_i_i80_i_v_i_i_i = v_3_i2_i_i_i79_i_i_i_i ? 2u : 3u;
-    v_0_sroa_0_0_i3_i_i_i80_i_i_i_i = (u64)((u64)(v_0_sroa_0_0_i3_i_i_i80_i_v_i_i_i) + (u64)(v_0_i104_i_i78_i_i_i_i));
-    v_246 = (u64)((u64)(v_0_sroa_0_0_i3_i_i_i80_i_i_i_i) + (u64)(v_10_sroa_0_0_i_i_i76_i_i_i_i));
-    v_3_i_i_i81_i_i_i_i = v_246 < 128u;
-    if (v_3_i_i_i81_i_i_i_i) { p_v_sink61_i_i_i = 2u; goto L_AnyRef_quick_len_exit_i35_i_i_i_i; } else { goto L_bb4_i_i_i82_i_i_i_i; }
-L_bb4_i_i_i82_i_i_i_i:;
-    v_4_i_i_i83_i_i_i_i = v_246 < 256u;
-    if (v_4_i_i_i83_i_i_i_i) { p_v_sink61_i_i_i = 3u; goto L_AnyRef_quick_len_exit_i35_i_i_i_i; } else { goto L_bb6_i_i_i84_i_i_i_i; }
-L_bb6_i_i_i84_i_i_i_i:;
-    v_5_i_i_i85_i_i_i_i = v_246 < 65536u;
-    if (v_5_i_i_i85_i_i_i_i) { p_v_sink61_i_i_i = 4u; goto L_AnyRef_quick_len_exit_i35_i_i_i_i; } else { goto L_bb8_i_i_i86_i_i_i_i; }
-L_bb8_i_i_i86_i_i_i_i:;
-    v_6_i_i_i87_i_i_i_i = v_246 < 16777216u;
-    v_66_i_i_i = v_6_i_i_i87_i_i_i_i ? 5u : 6u;
-    { p_v_sink61_i_i_i = v_66_i_i_i; goto L_AnyRef_quick_len_exit_i35_i_i_i_i; }
-L_AnyRef_quick_len_exit_i35_i_i_i_i:;
-    v_sink61_i_i_i = p_v_sink61_i_i_i;
-    v_247 = (u64)((u64)(v_sink61_i_i_i) + (u64)(v_246));
-    v_31_i_i91_i_i_i_i = v_247 < 128u;
-    v_248 = (u64)((u64)(v_247) + (u64)(2u));
-    v_spec_select19_i_i92_i_i_i_i = v_31_i_i91_i_i_i_i ? v_248 : 4294967296ull;
-    v_249 = (u64)((u64)(v_spec_select19_i_i92_i_i_i_i) + (u64)(v_0_sroa_0_0_i705_i_i_i_i));
-    { p_v_0_sroa_0_0_i_i_i_i29_i = v_249; goto L_EncodeValue_quick_value_len_exit_i_i_i; }
-L_bb7_i_i_i_i27_i:;
-    if (v_0_sroa_0_0_i) { goto L_bb6_i266_i_i_i_i; } else { goto L_bb7_i140_i_i_i_i; }
-L_bb6_i266_i_i_i_i:;
-    if (v_0_sroa_0_0_i254394) { p_v_0_sroa_0_0_i170_i_i_i_i = 0u; goto L_bb6_i_i_i_i_i28_i; } else { goto L_bb2_i_i275_i_i_i_i; }
-L_bb2_i_i275_i_i_i_i:;
-    v_250 = v_made_i + 104;
-    v_0_1_i_i_i278_i_i_i_i = get_u64(v_250);
-    v_251 = v_made_i + 120;
-    v_4_1_i_i_i281_i_i_i_i = get_u64(v_251);
-    v_5_i84_i_i282_i_i_i_i = v_4_1_i_i_i281_i_i_i_i < 128u;
-    v_252 = (u64)((u64)(v_4_1_i_i_i281_i_i_i_i) + (u64)(2u));
-    v_0_sroa_0_0_i85_i_i283_i_i_i_i = v_5_i84_i_i282_i_i_i_i ? v_252 : 4294967296ull;
-    v_10_sroa_0_0_i79_i_i285_i_i_i_i = v_134 ? 0u : v_0_sroa_0_0_i85_i_i283_i_i_i_i;
-    v_0_i_i_i287_i_i_i_i = (u64)((u64)(v_0_1_i_i_i278_i_i_i_i) & (u64)(255u));
-    v_3_i_i81_i_i288_i_i_i_i = v_0_i_i_i287_i_i_i_i < 128u;
-    v_0_sroa_0_0_i_i82_i_i289_i_v_i_i_i = v_3_i_i81_i_i288_i_i_i_i ? 2u : 3u;
-    v_0_sroa_0_0_i_i82_i_i289_i_i_i_i = (u64)((u64)(v_0_sroa_0_0_i_i82_i_i289_i_v_i_i_i) + (u64)(v_0_i_i_i287_i_i_i_i));
-    v_253 = (u64)((u64)(v_0_sroa_0_0_i_i82_i_i289_i_i_i_i) + (u64)(v_10_sroa_0_0_i79_i_i285_i_i_i_i));
-    v_3_i22_i_i290_i_i_i_i = v_253 < 128u;
-    if (v_3_i22_i_i290_i_i_i_i) { p_v_sink62_i_i_i = 2u; goto L_AnyRef_quick_len_exit_i302_i_i_i_i; } else { goto L_bb4_i23_i_i291_i_i_i_i; }
-L_bb4_i23_i_i291_i_i_i_i:;
-    v_4_i24_i_i292_i_i_i_i = v_253 < 256u;
-    if (v_4_i24_i_i292_i_i_i_i) { p_v_sink62_i_i_i = 3u; goto L_AnyRef_quick_len_exit_i302_i_i_i_i; } else { goto L_bb6_i25_i_i293_i_i_i_i; }
-L_bb6_i25_i_i293_i_i_i_i:;
-    v_5_i26_i_i294_i_i_i_i = v_253 < 65536u;
-    if (v_5_i26_i_i294_i_i_i_i) { p_v_sink62_i_i_i = 4u; goto L_AnyRef_quick_len_exit_i302_i_i_i_i; } else { goto L_bb8_i27_i_i295_i_i_i_i; }
-L_bb8_i27_i_i295_i_i_i_i:;
-    v_6_i28_i_i296_i_i_i_i = v_253 < 16777216u;
-    v_67_i_i_i = v_6_i28_i_i296_i_i_i_i ? 5u : 6u;
-    { p_v_sink62_i_i_i = v_67_i_i_i; goto L_AnyRef_quick_len_exit_i302_i_i_i_i; }
-L_AnyRef_quick_len_exit_i302_i_i_i_i:;
-    v_sink62_i_i_i = p_v_sink62_i_i_i;
-    v_254 = (u64)((u64)(v_sink62_i_i_i) + (u64)(v_253));
-    v_10_i_i300_i_i_i_i = v_254 < 128u;
-    v_255 = (u64)((u64)(v_254) + (u64)(2u));
-    v_spec_select20_i_i301_i_i_i_i = v_10_i_i300_i_i_i_i ? v_255 : 4294967296ull;
-    { p_v_0_sroa_0_0_i170_i_i_i_i = v_spec_select20_i_i301_i_i_i_i; goto L_bb6_i_i_i_i_i28_i; }
-L_bb7_i140_i_i_i_i:;
-    if (v_0_sroa_0_0_i254394) { p_v_0_sroa_0_0_i437_i_i_i_i = 0u; goto L_bb5_i_i179_i_i_i_i; } else { goto L_bb2_i_i408_i_i_i_i; }
-L_bb2_i_i408_i_i_i_i:;
-    v_256 = v_made_i + 104;
-    v_0_1_i_i_i411_i_i_i_i = get_u64(v_256);
-    v_257 = v_made_i + 120;
-    v_4_1_i_i_i414_i_i_i_i = get_u64(v_257);
-    v_5_i84_i_i415_i_i_i_i = v_4_1_i_i_i414_i_i_i_i < 128u;
-    v_258 = (u64)((u64)(v_4_1_i_i_i414_i_i_i_i) + (u64)(2u));
-    v_0_sroa_0_0_i85_i_i416_i_i_i_i = v_5_i84_i_i415_i_i_i_i ? v_258 : 4294967296ull;
-    v_10_sroa_0_0_i79_i_i418_i_i_i_i = v_134 ? 0u : v_0_sroa_0_0_i85_i_i416_i_i_i_i;
-    v_0_i_i_i420_i_i_i_i = (u64)((u64)(v_0_1_i_i_i411_i_i_i_i) & (u64)(255u));
-    v_3_i_i81_i_i421_i_i_i_i = v_0_i_i_i420_i_i_i_i < 128u;
-    v_0_sroa_0_0_i_i82_i_i422_i_v_i_i_i = v_3_i_i81_i_i421_i_i_i_i ? 2u : 3u;
-    v_0_sroa_0_0_i_i82_i_i422_i_i_i_i = (u64)((u64)(v_0_sroa_0_0_i_i82_i_i422_i_v_i_i_i) + (u64)(v_0_i_i_i420_i_i_i_i));
-    v_259 = (u64)((u64)(v_0_sroa_0_0_i_i82_i_i422_i_i_i_i) + (u64)(v_10_sroa_0_0_i79_i_i418_i_i_i_i));
-    v_3_i22_i_i423_i_i_i_i = v_259 < 128u;
-    if (v_3_i22_i_i423_i_i_i_i) { p_v_sink63_i_i_i = 2u; goto L_AnyRef_quick_len_exit_i435_i_i_i_i; } else { goto L_bb4_i23_i_i424_i_i_i_i; }
-L_bb4_i23_i_i424_i_i_i_i:;
-    v_4_i24_i_i425_i_i_i_i = v_259 < 256u;
-    if (v_4_i24_i_i425_i_i_i_i) { p_v_sink63_i_i_i = 3u; goto L_AnyRef_quick_len_exit_i435_i_i_i_i; } else { goto L_bb6_i25_i_i426_i_i_i_i; }
-L_bb6_i25_i_i426_i_i_i_i:;
-    v_5_i26_i_i427_i_i_i_i = v_259 < 65536u;
-    if (v_5_i26_i_i427_i_i_i_i) { p_v_sink63_i_i_i = 4u; goto L_AnyRef_quick_len_exit_i435_i_i_i_i; } else { goto L_bb8_i27_i_i428_i_i_i_i; }
-L_bb8_i27_i_i428_i_i_i_i:;
-    v_6_i28_i_i429_i_i_i_i = v_259 < 16777216u;
-    v_68_i_i_i = v_6_i28_i_i429_i_i_i_i ? 5u : 6u;
-    { p_v_sink63_i_i_i = v_68_i_i_i; goto L_AnyRef_quick_len_exit_i435_i_i_i_i; }
-L_AnyRef_quick_len_exit_i435_i_i_i_i:;
-    v_sink63_i_i_i = p_v_sink63_i_i_i;
-    v_260 = (u64)((u64)(v_sink63_i_i_i) + (u64)(v_259));
-    v_10_i_i433_i_i_i_i = v_260 < 128u;
-    v_261 = (u64)((u64)(v_260) + (u64)(2u));
-    v_spec_select20_i_i434_i_i_i_i = v_10_i_i433_i_i_i_i ? v_261 : 4294967296ull;
-    { p_v_0_sroa_0_0_i437_i_i_i_i = v_spec_select20_i_i434_i_i_i_i; goto L_bb5_i_i179_i_i_i_i; }
-L_bb5_i_i179_i_i_i_i:;
-    v_0_sroa_0_0_i437_i_i_i_i = p_v_0_sroa_0_0_i437_i_i_i_i;
-    v_262 = v_made_i + 48;
-    v_0_1_i97_i_i182_i_i_i_i = get_u64(v_262);
-    if (v_100) { p_v_10_sroa_0_0_i_i_i209_i_i_i_i = 0u; goto L_EncodeValue_quick_value_len_exit_i_i208_i_i_i_i; } else { goto L_bb10_i51_i_i184_i_i_i_i; }
-L_bb10_i51_i_i184_i_i_i_i:;
-    v_263 = v_made_i + 64;
-    v_0_1_i95_i_i186_i_i_i_i = get_u64(v_263);
-    v_264 = v_made_i + 72;
-    v_265 = get_P(v_264);
-    v_266 = v_265 == (P)0;
-    v_267 = v_made_i + 80;
-    v_4_1_i89_i_i189_i_i_i_i = get_u64(v_267);
-    v_5_i90_i_i190_i_i_i_i = v_4_1_i89_i_i189_i_i_i_i < 128u;
-    v_268 = (u64)((u64)(v_4_1_i89_i_i189_i_i_i_i) + (u64)(2u));
-    v_0_sroa_0_0_i91_i_i191_i_i_i_i = v_5_i90_i_i190_i_i_i_i ? v_268 : 4294967296ull;
-    v_10_sroa_0_0_i59_i_i193_i_i_i_i = v_266 ? 0u : v_0_sroa_0_0_i91_i_i191_i_i_i_i;
-    v_0_i102_i_i195_i_i_i_i = (u64)((u64)(v_0_1_i95_i_i186_i_i_i_i) & (u64)(255u));
-    v_3_i_i61_i_i196_i_i_i_i = v_0_i102_i_i195_i_i_i_i < 128u;
-    v_0_sroa_0_0_i_i62_i_i197_i_v_i_i_i = v_3_i_i61_i_i196_i_i_i_i ? 2u : 3u;
-    v_0_sroa_0_0_i_i62_i_i197_i_i_i_i = (u64)((u64)(v_0_sroa_0_0_i_i62_i_i197_i_v_i_i_i) + (u64)(v_0_i102_i_i195_i_i_i_i));
-    v_269 = (u64)((u64)(v_0_sroa_0_0_i_i62_i_i197_i_i_i_i) + (u64)(v_10_sroa_0_0_i59_i_i193_i_i_i_i));
-    v_3_i_i_i_i198_i_i_i_i = v_269 < 128u;
-    if (v_3_i_i_i_i198_i_i_i_i) { goto L_bb3_i_i_i_i233_i_i_i_i; } else { goto L_bb4_i_i_i_i199_i_i_i_i; }
-L_bb4_i_i_i_i199_i_i_i_i:;
-    v_4_i_i_i_i200_i_i_i_i = v_269 < 256u;
-    if (v_4_i_i_i_i200_i_i_i_i) { goto L_bb5_i_i_i_i232_i_i_i_i; } else { goto L_bb6_i_i_i_i201_i_i_i_i; }
-L_bb3_i_i_i_i233_i_i_i_i:;
-    v_270 = (u64)((u64)(v_269) + (u64)(2u));
-    { p_v_10_sroa_0_0_i_i_i209_i_i_i_i = v_270; goto L_EncodeValue_quick_value_len_exit_i_i208_i_i_i_i; }
-L_bb6_i_i_i_i201_i_i_i_i:;
-    v_5_i_i_i_i202_i_i_i_i = v_269 < 65536u;
-    if (v_5_i_i_i_i202_i_i_i_i) { goto L_bb7_i_i_i_i231_i_i_i_i; } else { goto L_bb8_i_i_i_i203_i_i_i_i; }
-L_bb5_i_i_i_i232_i_i_i_i:;
-    v_271 = (u64)((u64)(v_269) + (u64)(3u));
-    { p_v_10_sroa_0_0_i_i_i209_i_i_i_i = v_271; goto L_EncodeValue_quick_value_len_exit_i_i208_i_i_i_i; }
-L_bb8_i_i_i_i203_i_i_i_i:;
-    v_6_i_i_i_i204_i_i_i_i = v_269 < 16777216u;
-    if (v_6_i_i_i_i204_i_i_i_i) { goto L_bb9_i_i_i_i230_i_i_i_i; } else { goto L_bb10_i_i_i_i205_i_i_i_i; }
-L_bb7_i_i_i_i231_i_i_i_i:;
-    v_272 = (u64)((u64)(v_269) + (u64)(4u));
-    { p_v_10_sroa_0_0_i_i_i209_i_i_i_i = v_272; goto L_EncodeValue_quick_value_len_exit_i_i208_i_i_i_i; }
-L_bb10_i_i_i_i205_i_i_i_i:;
-    v_273 = (u64)((u64)(v_269) + (u64)(6u));
-    { p_v_10_sroa_0_0_i_i_i209_i_i_i_i = v_273; goto L_EncodeValue_quick_value_len_exit_i_i208_i_i_i_i; }
-L_bb9_i_i_i_i230_i_i_i_i:;
-    v_274 = (u64)((u64)(v_269) + (u64)(5u));
-    { p_v_10_sroa_0_0_i_i_i209_i_i_i_i = v_274; goto L_EncodeValue_quick_value_len_exit_i_i208_i_i_i_i; }
-L_EncodeValue_quick_value_len_exit_i_i208_i_i_i_i:;
-    v_10_sroa_0_0_i_i_i209_i_i_i_i = p_v_10_sroa_0_0_i_i_i209_i_i_i_i;
-    v_0_i104_i_i211_i_i_i_i = (u64)((u64)(v_0_1_i97_i_i182_i_i_i_i) & (u64)(255u));
-    v_3_i2_i_i_i212_i_i_i_i = v_0_i104_i_i211_i_i_i_i < 128u;
-    v_0_sroa_0_0_i3_i_i_i213_i_v_i_i_i = v_3_i2_i_i_i212_i_i_i_i ? 2u : 3u;
-    v_0_sroa_0_0_i3_i_i_i213_i_i_i_i = (u64)((u64)(v_0_sroa_0_0_i3_i_i_i213_i_v_i_i_i) + (u64)(v_0_i104_i_i211_i_i_i_i));
-    v_275 = (u64)((u64)(v_0_sroa_0_0_i3_i_i_i213_i_i_i_i) + (u64)(v_10_sroa_0_0_i_i_i209_i_i_i_i));
-    v_3_i_i_i214_i_i_i_i = v_275 < 128u;
-    if (v_3_i_i_i214_i_i_i_i) { p_v_sink64_i_i_i = 2u; goto L_AnyRef_quick_len_exit_i168_i_i_i_i; } else { goto L_bb4_i_i_i215_i_i_i_i; }
-L_bb4_i_i_i215_i_i_i_i:;
-    v_4_i_i_i216_i_i_i_i = v_275 < 256u;
-    if (v_4_i_i_i216_i_i_i_i) { p_v_sink64_i_i_i = 3u; goto L_AnyRef_quick_len_exit_i168_i_i_i_i; } else { goto L_bb6_i_i_i217_i_i_i_i; }
-L_bb6_i_i_i217_i_i_i_i:;
-    v_5_i_i_i218_i_i_i_i = v_275 < 65536u;
-    if (v_5_i_i_i218_i_i_i_i) { p_v_sink64_i_i_i = 4u; goto L_AnyRef_quick_len_exit_i168_i_i_i_i; } else { goto L_bb8_i_i_i219_i_i_i_i; }
-L_bb8_i_i_i219_i_i_i_i:;
-    v_6_i_i_i220_i_i_i_i = v_275 < 16777216u;
-    v_69_i_i_i = v_6_i_i_i220_i_i_i_i ? 5u : 6u;
-    { p_v_sink64_i_i_i = v_69_i_i_i; goto L_AnyRef_quick_len_exit_i168_i_i_i_i; }
-L_AnyRef_quick_len_exit_i168_i_i_i_i:;
-    v_sink64_i_i_i = p_v_sink64_i_i_i;
-    v_276 = (u64)((u64)(v_sink64_i_i_i) + (u64)(v_275));
-    v_31_i_i224_i_i_i_i = v_276 < 128u;
-    v_277 = (u64)((u64)(v_276) + (u64)(2u));
-    v_spec_select19_i_i225_i_i_i_i = v_31_i_i224_i_i_i_i ? v_277 : 4294967296ull;
-    v_278 = (u64)((u64)(v_spec_select19_i_i225_i_i_i_i) + (u64)(v_0_sroa_0_0_i437_i_i_i_i));
-    { p_v_0_sroa_0_0_i170_i_i_i_i = v_278; goto L_bb6_i_i_i_i_i28_i; }
-L_bb6_i_i_i_i_i28_i:;
-    v_0_sroa_0_0_i170_i_i_i_i = p_v_0_sroa_0_0_i170_i_i_i_i;
-    v_279 = v_made_i + 8;
-    v_0_1_i93_i_i_i_i_i_i = get_u64(v_279);
-    v_280 = v_made_i + 24;
-    v_4_1_i86_i_i_i_i_i_i = get_u64(v_280);
-    v_5_i87_i_i_i_i_i_i = v_4_1_i86_i_i_i_i_i_i < 128u;
-    v_281 = (u64)((u64)(v_4_1_i86_i_i_i_i_i_i) + (u64)(2u));
-    v_0_sroa_0_0_i88_i_i_i_i_i_i = v_5_i87_i_i_i_i_i_i ? v_281 : 4294967296ull;
-    v_10_sroa_0_0_i69_i_i_i_i_i_i = v_80 ? 0u : v_0_sroa_0_0_i88_i_i_i_i_i_i;
-    v_0_i100_i_i_i_i_i_i = (u64)((u64)(v_0_1_i93_i_i_i_i_i_i) & (u64)(255u));
-    v_3_i_i70_i_i_i_i_i_i = v_0_i100_i_i_i_i_i_i < 128u;
-    v_0_sroa_0_0_i_i71_i_i_i_v_i_i_i = v_3_i_i70_i_i_i_i_i_i ? 2u : 3u;
-    v_0_sroa_0_0_i_i71_i_i_i_i_i_i = (u64)((u64)(v_0_sroa_0_0_i_i71_i_i_i_v_i_i_i) + (u64)(v_0_i100_i_i_i_i_i_i));
-    v_282 = (u64)((u64)(v_0_sroa_0_0_i_i71_i_i_i_i_i_i) + (u64)(v_10_sroa_0_0_i69_i_i_i_i_i_i));
-    v_3_i36_i_i_i_i_i_i = v_282 < 128u;
-    if (v_3_i36_i_i_i_i_i_i) { p_v_sink65_i_i_i = 2u; goto L_AnyRef_quick_len_exit_i_i_i_i_i; } else { goto L_bb4_i37_i_i_i_i_i_i; }
-L_bb4_i37_i_i_i_i_i_i:;
-    v_4_i38_i_i_i_i_i_i = v_282 < 256u;
-    if (v_4_i38_i_i_i_i_i_i) { p_v_sink65_i_i_i = 3u; goto L_AnyRef_quick_len_exit_i_i_i_i_i; } else { goto L_bb6_i39_i_i_i_i_i_i; }
-L_bb6_i39_i_i_i_i_i_i:;
-    v_5_i40_i_i_i_i_i_i = v_282 < 65536u;
-    if (v_5_i40_i_i_i_i_i_i) { p_v_sink65_i_i_i = 4u; goto L_AnyRef_quick_len_exit_i_i_i_i_i; } else { goto L_bb8_i41_i_i_i_i_i_i; }
-L_bb8_i41_i_i_i_i_i_i:;
-    v_6_i42_i_i_i_i_i_i = v_282 < 16777216u;
-    v_70_i_i_i = v_6_i42_i_i_i_i_i_i ? 5u : 6u;
-    { p_v_sink65_i_i_i = v_70_i_i_i; goto L_AnyRef_quick_len_exit_i_i_i_i_i; }
-L_AnyRef_quick_len_exit_i_i_i_i_i:;
-    v_sink65_i_i_i = p_v_sink65_i_i_i;
-    v_283 = (u64)((u64)(v_sink65_i_i_i) + (u64)(v_282));
-    v_33_i_i_i_i_i_i = v_283 < 128u;
-    v_284 = (u64)((u64)(v_283) + (u64)(2u));
-    v_spec_select_i_i_i_i_i_i = v_33_i_i_i_i_i_i ? v_284 : 4294967296ull;
-    v_285 = (u64)((u64)(v_spec_select_i_i_i_i_i_i) + (u64)(v_0_sroa_0_0_i170_i_i_i_i));
-    { p_v_0_sroa_0_0_i_i_i_i29_i = v_285; goto L_EncodeValue_quick_value_len_exit_i_i_i; }
-L_EncodeValue_quick_value_len_exit_i_i_i:;
-    v_0_sroa_0_0_i_i_i_i29_i = p_v_0_sroa_0_0_i_i_i_i29_i;
-    v_6_i_i_i_i = v_0_sroa_0_0_i_i_i_i29_i < 128u;
-    if (v_6_i_i_i_i) { p_v_0_sroa_0_0_i_i38_i_i_i = v_0_sroa_0_0_i_i_i_i29_i; goto L_bb4_i_i_i48_i; } else { goto L_bb5_i_i_i30_i; }
-L_bb5_i_i_i30_i:;
-    v_7_i_i_i31_i = v_0_sroa_0_0_i_i_i_i29_i < 256u;
-    if (v_7_i_i_i31_i) { goto L_bb6_i_i_i47_i; } else { goto L_bb7_i_i_i32_i; }
-L_bb4_i_i_i48_i:;
-    v_0_sroa_0_0_i_i38_i_i_i = p_v_0_sroa_0_0_i_i38_i_i_i;
-    v_286 = (u64)((u64)(v_0_sroa_0_0_i_i38_i_i_i) + (u64)(2u));
-    { p_v_0_sroa_31_0_in_i_i_ph_i_i = v_286; goto L_bb8_i_thread_i_i; }
-L_bb7_i_i_i32_i:;
-    v_8_i_i_i_i = v_0_sroa_0_0_i_i_i_i29_i < 65536u;
-    if (v_8_i_i_i_i) { goto L_bb8_i_i_i_i; } else { goto L_bb9_i_i_i_i; }
-L_bb6_i_i_i47_i:;
-    v_287 = (u64)((u64)(v_0_sroa_0_0_i_i_i_i29_i) + (u64)(3u));
-    { p_v_0_sroa_31_0_in_i_i_ph_i_i = v_287; goto L_bb8_i_thread_i_i; }
-L_bb9_i_i_i_i:;
-    v_9_i_i_i_i = v_0_sroa_0_0_i_i_i_i29_i < 16777216u;
-    if (v_9_i_i_i_i) { goto L_bb10_i_i_i_i; } else { goto L_bb3_i_i_i_i; }
-L_bb8_i_i_i_i:;
-    v_288 = (u64)((u64)(v_0_sroa_0_0_i_i_i_i29_i) + (u64)(4u));
-    { p_v_0_sroa_31_0_in_i_i_ph_i_i = v_288; goto L_bb8_i_thread_i_i; }
-L_bb10_i_i_i_i:;
-    v_289 = (u64)((u64)(v_0_sroa_0_0_i_i_i_i29_i) + (u64)(5u));
-    { p_v_0_sroa_31_0_in_i_i_ph_i_i = v_289; goto L_bb8_i_thread_i_i; }
-L_bb3_i_i_i_i:;
-    v_290 = (u64)((u64)(v_0_sroa_0_0_i_i_i_i29_i) + (u64)(6u));
-    v_10_i_i_i33_i = v_0_sroa_0_0_i_i_i_i29_i < 4294967290ull;
-    if (v_10_i_i_i33_i) { p_v_0_sroa_31_0_in_i_i_ph_i_i = v_290; goto L_bb8_i_thread_i_i; } else { goto L_bb8_i_i34_i; }
-L_bb8_i_thread_i_i:;
-    v_0_sroa_31_0_in_i_i_ph_i_i = p_v_0_sroa_31_0_in_i_i_ph_i_i;
-    v_0_sroa_31_0_insert_shift_i_i11_i_i = (u64)((u64)(v_0_sroa_31_0_in_i_i_ph_i_i) << (u64)((32u & 63)));
-    { p_v_sroa_09_0_insert_insert60_i_i_i = v_0_sroa_31_0_insert_shift_i_i11_i_i; goto L_EncodeValue_value_len_exit_i_i; }
-L_bb8_i_i34_i:;
-    v_291 = f_any_AnyRef(v_made_i, v_0_i_i);
-    v_trunc18_i_i_i_i = (u1)((v_291) & 1);
-    if (v_trunc18_i_i_i_i) { p_v_0_sroa_0_0_insert_insert_i167_i = v_291; goto L_bb3_i318; } else { p_v_sroa_09_0_insert_insert60_i_i_i = v_291; goto L_EncodeValue_value_len_exit_i_i; }
-L_EncodeValue_value_len_exit_i_i:;
-    v_sroa_09_0_insert_insert60_i_i_i = p_v_sroa_09_0_insert_insert60_i_i_i;
-    v_sroa_57_0_extract_shift_i_i_i_i = (u64)((u64)(v_sroa_09_0_insert_insert60_i_i_i) & (u64)(18446744069414584320ull));
-    v_11_1_i_i_i_i_i = v_sroa_09_0_insert_insert60_i_i_i > 18446744026464911359ull;
-    v_292 = (u64)((u64)(v_sroa_57_0_extract_shift_i_i_i_i) + (u64)(47244642048ull));
-    v_0_sroa_0_0_insert_insert_i_i_i_i_i = v_11_1_i_i_i_i_i ? 1793u : v_292;
-    v_sroa_4_0_extract_shift14_i_i_i_i = (u64)((u64)(v_0_sroa_0_0_insert_insert_i_i_i_i_i) & (u64)(18446744069414586112ull));
-    v_trunc_i_i = (u1)((v_0_sroa_0_0_insert_insert_i_i_i_i_i) & 1);
-    if (v_trunc_i_i) { p_v_0_sroa_0_0_insert_insert_i167_i = v_sroa_4_0_extract_shift14_i_i_i_i; goto L_bb3_i318; } else { goto L_bb6_i35_i; }
-L_bb6_i35_i:;
-    v_sroa_5_0_extract_shift_i36_i = (u64)((u64)(v_0_sroa_0_0_insert_insert_i_i_i_i_i) >> (u64)((32u & 63)));
-    v_10_i_i_i298 = v_0_sroa_0_0_insert_insert_i_i_i_i_i < 549755813888ull;
-    if (v_10_i_i_i298) { p_v_sink_i7_i_i = 2u; goto L_Encode_encoded_len_exit_i; } else { goto L_bb4_i_i37_i; }
-L_bb4_i_i37_i:;
-    v_11_i_i38_i = v_0_sroa_0_0_insert_insert_i_i_i_i_i < 1099511627776ull;
-    if (v_11_i_i38_i) { p_v_sink_i7_i_i = 3u; goto L_Encode_encoded_len_exit_i; } else { goto L_bb6_i_i39_i; }
-L_bb6_i_i39_i:;
-    v_12_i_i40_i = v_0_sroa_0_0_insert_insert_i_i_i_i_i < 281474976710656ull;
-    if (v_12_i_i40_i) { p_v_sink_i7_i_i = 4u; goto L_Encode_encoded_len_exit_i; } else { goto L_bb8_i5_i_i; }
-L_bb8_i5_i_i:;
-    v_13_i_i41_i = v_0_sroa_0_0_insert_insert_i_i_i_i_i < 72057594037927936ull;
-    v_i6_i_i = v_13_i_i41_i ? 5u : 6u;
-    { p_v_sink_i7_i_i = v_i6_i_i; goto L_Encode_encoded_len_exit_i; }
-L_Encode_encoded_len_exit_thread_i:;
-    v_0_sroa_31_0_in_i_ph_i = p_v_0_sroa_31_0_in_i_ph_i;
-    v_0_sroa_31_0_insert_shift_i151_i = (u64)((u64)(v_0_sroa_31_0_in_i_ph_i) << (u64)((32u & 63)));
-    { p_v_0_sroa_0_0_insert_insert_i155_i = v_0_sroa_31_0_insert_shift_i151_i; goto L_bb4_i299; }
-L_Encode_encoded_len_exit_i:;
-    v_sink_i7_i_i = p_v_sink_i7_i_i;
-    v_293 = (u64)((u64)(v_sink_i7_i_i) + (u64)(v_sroa_5_0_extract_shift_i36_i));
-    v_14_i_i42_i = v_293 < 4294967296ull;
-    v_294 = (u64)((u64)(v_293) << (u64)((32u & 63)));
-    v_295 = (u64)((u64)(v_294) | (u64)(1792u));
-    v_0_sroa_0_0_insert_insert_i_i_i = v_14_i_i42_i ? v_295 : 1793u;
-    v_trunc_i = (u1)((v_0_sroa_0_0_insert_insert_i_i_i) & 1);
-    if (v_trunc_i) { p_v_0_sroa_0_0_insert_insert_i167_i = v_0_sroa_0_0_insert_insert_i_i_i; goto L_bb3_i318; } else { p_v_0_sroa_0_0_insert_insert_i155_i = v_0_sroa_0_0_insert_insert_i_i_i; goto L_bb4_i299; }
-L_bb4_i299:;
-    v_0_sroa_0_0_insert_insert_i155_i = p_v_0_sroa_0_0_insert_insert_i155_i;
-    v_sroa_5_0_extract_shift_i = (u64)((u64)(v_0_sroa_0_0_insert_insert_i155_i) >> (u64)((32u & 63)));
-    v_4_i_i = v_sroa_5_0_extract_shift_i > v_out_1;
-    if (v_4_i_i) { p_v_323 = 15u; goto L_any_AnyRef_exit_i; } else { goto L_bb7_i50_i; }
-L_bb7_i50_i:;
-    put_P(v_writer_i_i288, v_out_0);
-    v_296 = v_writer_i_i288 + 8;
-    put_u64(v_296, v_sroa_5_0_extract_shift_i);
-    v_297 = v_writer_i_i288 + 16;
-    put_u64(v_297, v_sroa_5_0_extract_shift_i);
-    f_EncodeValue_prepend_value(v_made_i, v_0_i_i, v_writer_i_i288);
-    v_15_1_i_i_i = get_u64(v_296);
-    v_14_i_i52_i = get_u64(v_297);
-    v_7_i_i53_i = (u64)((u64)(v_15_1_i_i_i) - (u64)(v_14_i_i52_i));
-    v_16_i_i_i300 = (u32)(v_7_i_i53_i);
-    v_4_i_i_i_i = v_16_i_i_i300 < 128u;
-    if (v_4_i_i_i_i) { goto L_bb1_i_i_i_i; } else { goto L_bb2_i_i_i55_i; }
-L_bb2_i_i_i55_i:;
-    v_9_i_i_i56_i = v_16_i_i_i300 < 256u;
-    if (v_9_i_i_i56_i) { goto L_bb3_i_i_i69_i; } else { goto L_bb4_i_i_i57_i; }
-L_bb1_i_i_i_i:;
-    v_8_i_i_i70_i = (u16)(v_7_i_i53_i);
-    v_48_0_i_i_i_i = get_P(v_writer_i_i288);
-    v_start1_i_i_i_i_i = (u64)((u64)(v_14_i_i52_i) + (u64)(18446744073709551614ull));
-    v_8_not_i_i_i_i_i = v_14_i_i52_i > v_15_1_i_i_i;
-    if (v_8_not_i_i_i_i_i) { goto L_bb4_i_i_i_i72_i; } else { goto L_bb2_i_i_i_i_i; }
-L_bb4_i_i_i_i72_i:;
-    TRAP();
-    TRAP();
-L_bb2_i_i_i_i_i:;
-    v_15_not_i_i_i_i_i = v_14_i_i52_i < 2u;
-    if (v_15_not_i_i_i_i_i) { goto L_bb7_i_i_i_i71_i; } else { goto L_copy_from_slice_pkcs1_c_exit_i_i; }
-L_bb7_i_i_i_i71_i:;
-    TRAP();
-    TRAP();
-L_copy_from_slice_pkcs1_c_exit_i_i:;
-    v_298 = v_48_0_i_i_i_i + (int64_t)(v_start1_i_i_i_i_i);
-    v_7_i_i_sroa_0_sroa_4_0_insert_shift_i_i = (u16)((u32)(v_8_i_i_i70_i) << (u32)((8u & 31)));
-    v_7_i_i_sroa_0_sroa_0_0_insert_insert_i_i = (u16)((u32)(v_7_i_i_sroa_0_sroa_4_0_insert_shift_i_i) | (u32)(48u));
-    put_u16(v_298, v_7_i_i_sroa_0_sroa_0_0_insert_insert_i_i);
-    { p_v_48_0_i_i_i = v_48_0_i_i_i_i; p_v_11_i27_i_i = v_start1_i_i_i_i_i; goto L_bb8_i61_i; }
-L_bb4_i_i_i57_i:;
-    v_14_i_i_i58_i = v_16_i_i_i300 < 65536u;
-    if (v_14_i_i_i58_i) { goto L_bb5_i_i_i67_i; } else { goto L_bb6_i_i_i59_i; }
-L_bb3_i_i_i69_i:;
-    v_13_i_i_i_i = (u8)(v_7_i_i53_i);
-    v_51_0_i_i_i_i = get_P(v_writer_i_i288);
-    v_start1_i11_i_i_i_i = (u64)((u64)(v_14_i_i52_i) + (u64)(18446744073709551613ull));
-    v_8_not_i12_i_i_i_i = v_14_i_i52_i > v_15_1_i_i_i;
-    if (v_8_not_i12_i_i_i_i) { goto L_bb4_i20_i_i_i_i; } else { goto L_bb2_i13_i_i_i_i; }
-L_bb4_i20_i_i_i_i:;
-    TRAP();
-    TRAP();
-L_bb2_i13_i_i_i_i:;
-    v_15_not_i15_i_i_i_i = v_14_i_i52_i < 3u;
-    if (v_15_not_i15_i_i_i_i) { goto L_bb7_i19_i_i_i_i; } else { goto L_copy_from_slice_pkcs1_c_exit138_i_i; }
-L_bb7_i19_i_i_i_i:;
-    TRAP();
-    TRAP();
-L_copy_from_slice_pkcs1_c_exit138_i_i:;
-    v_299 = v_51_0_i_i_i_i + (int64_t)(v_start1_i11_i_i_i_i);
-    put_u8(v_299, 48u);
-    v_12_i_i_sroa_4_0_sroa_idx_i_i = v_299 + 1;
-    put_u8(v_12_i_i_sroa_4_0_sroa_idx_i_i, 129u);
-    v_12_i_i_sroa_5_0_sroa_idx_i_i = v_299 + 2;
-    put_u8(v_12_i_i_sroa_5_0_sroa_idx_i_i, v_13_i_i_i_i);
-    { p_v_48_0_i_i_i = v_51_0_i_i_i_i; p_v_11_i27_i_i = v_start1_i11_i_i_i_i; goto L_bb8_i61_i; }
-L_bb6_i_i_i59_i:;
-    v_22_i_i_i_i = v_16_i_i_i300 < 16777216u;
-    if (v_22_i_i_i_i) { goto L_bb7_i_i_i65_i; } else { goto L_bb8_i_i_i60_i; }
-L_bb5_i_i_i67_i:;
-    v_54_0_i_i_i_i = get_P(v_writer_i_i288);
-    v_start1_i26_i_i_i_i = (u64)((u64)(v_14_i_i52_i) + (u64)(18446744073709551612ull));
-    v_8_not_i27_i_i_i_i = v_14_i_i52_i > v_15_1_i_i_i;
-    if (v_8_not_i27_i_i_i_i) { goto L_bb4_i35_i_i_i_i; } else { goto L_bb2_i28_i_i_i_i; }
-L_bb4_i35_i_i_i_i:;
-    TRAP();
-    TRAP();
-L_bb2_i28_i_i_i_i:;
-    v_15_not_i30_i_i_i_i = v_14_i_i52_i < 4u;
-    if (v_15_not_i30_i_i_i_i) { goto L_bb7_i34_i_i_i_i; } else { goto L_copy_from_slice_pkcs1_c_exit141_i_i; }
-L_bb7_i34_i_i_i_i:;
-    TRAP();
-    TRAP();
-L_copy_from_slice_pkcs1_c_exit141_i_i:;
-    v_300 = v_54_0_i_i_i_i + (int64_t)(v_start1_i26_i_i_i_i);
-    v_301 = (u32)((u32)(v_16_i_i_i300) | (u32)(813826048u));
-    v_17_i_i_sroa_0_sroa_0_0_insert_insert_i_i = TURNED(32, v_301);
-    put_u32(v_300, v_17_i_i_sroa_0_sroa_0_0_insert_insert_i_i);
-    { p_v_48_0_i_i_i = v_54_0_i_i_i_i; p_v_11_i27_i_i = v_start1_i26_i_i_i_i; goto L_bb8_i61_i; }
-L_bb8_i_i_i60_i:;
-    v_371_i_i_i_i = (u64)((u64)(v_7_i_i53_i) >> (u64)((24u & 63)));
-    v_36_i_i_i_i = (u8)(v_371_i_i_i_i);
-    v_402_i_i_i_i = (u64)((u64)(v_7_i_i53_i) >> (u64)((16u & 63)));
-    v_38_i_i_i_i = (u8)(v_402_i_i_i_i);
-    v_433_i_i_i_i = (u64)((u64)(v_7_i_i53_i) >> (u64)((8u & 63)));
-    v_41_i_i_i_i = (u8)(v_433_i_i_i_i);
-    v_44_i_i_i_i = (u8)(v_7_i_i53_i);
-    v_60_0_i_i_i_i = get_P(v_writer_i_i288);
-    v_start1_i56_i_i_i_i = (u64)((u64)(v_14_i_i52_i) + (u64)(18446744073709551610ull));
-    v_8_not_i57_i_i_i_i = v_14_i_i52_i > v_15_1_i_i_i;
-    if (v_8_not_i57_i_i_i_i) { goto L_bb4_i65_i_i_i_i; } else { goto L_bb2_i58_i_i_i_i; }
-L_bb4_i65_i_i_i_i:;
-    TRAP();
-    TRAP();
-L_bb2_i58_i_i_i_i:;
-    v_15_not_i60_i_i_i_i = v_14_i_i52_i < 6u;
-    if (v_15_not_i60_i_i_i_i) { goto L_bb7_i64_i_i_i_i; } else { goto L_copy_from_slice_pkcs1_c_exit144_i_i; }
-L_bb7_i64_i_i_i_i:;
-    TRAP();
-    TRAP();
-L_copy_from_slice_pkcs1_c_exit144_i_i:;
-    v_302 = v_60_0_i_i_i_i + (int64_t)(v_start1_i56_i_i_i_i);
-    put_u8(v_302, 48u);
-    v_35_i_i_sroa_4_0_sroa_idx_i_i = v_302 + 1;
-    put_u8(v_35_i_i_sroa_4_0_sroa_idx_i_i, 132u);
-    v_35_i_i_sroa_5_0_sroa_idx_i_i = v_302 + 2;
-    put_u8(v_35_i_i_sroa_5_0_sroa_idx_i_i, v_36_i_i_i_i);
-    v_35_i_i_sroa_6_0_sroa_idx_i_i = v_302 + 3;
-    put_u8(v_35_i_i_sroa_6_0_sroa_idx_i_i, v_38_i_i_i_i);
-    v_35_i_i_sroa_7_0_sroa_idx_i_i = v_302 + 4;
-    put_u8(v_35_i_i_sroa_7_0_sroa_idx_i_i, v_41_i_i_i_i);
-    v_35_i_i_sroa_8_0_sroa_idx_i_i = v_302 + 5;
-    put_u8(v_35_i_i_sroa_8_0_sroa_idx_i_i, v_44_i_i_i_i);
-    { p_v_48_0_i_i_i = v_60_0_i_i_i_i; p_v_11_i27_i_i = v_start1_i56_i_i_i_i; goto L_bb8_i61_i; }
-L_bb7_i_i_i65_i:;
-    v_274_i_i_i_i = (u64)((u64)(v_7_i_i53_i) >> (u64)((16u & 63)));
-    v_26_i_i_i_i = (u8)(v_274_i_i_i_i);
-    v_305_i_i_i_i = (u64)((u64)(v_7_i_i53_i) >> (u64)((8u & 63)));
-    v_28_i_i_i_i = (u8)(v_305_i_i_i_i);
-    v_31_i_i_i66_i = (u8)(v_7_i_i53_i);
-    v_57_0_i_i_i_i = get_P(v_writer_i_i288);
-    v_start1_i41_i_i_i_i = (u64)((u64)(v_14_i_i52_i) + (u64)(18446744073709551611ull));
-    v_8_not_i42_i_i_i_i = v_14_i_i52_i > v_15_1_i_i_i;
-    if (v_8_not_i42_i_i_i_i) { goto L_bb4_i50_i_i_i_i; } else { goto L_bb2_i43_i_i_i_i; }
-L_bb4_i50_i_i_i_i:;
-    TRAP();
-    TRAP();
-L_bb2_i43_i_i_i_i:;
-    v_15_not_i45_i_i_i_i = v_14_i_i52_i < 5u;
-    if (v_15_not_i45_i_i_i_i) { goto L_bb7_i49_i_i_i_i; } else { goto L_copy_from_slice_pkcs1_c_exit147_i_i; }
-L_bb7_i49_i_i_i_i:;
-    TRAP();
-    TRAP();
-L_copy_from_slice_pkcs1_c_exit147_i_i:;
-    v_303 = v_57_0_i_i_i_i + (int64_t)(v_start1_i41_i_i_i_i);
-    put_u8(v_303, 48u);
-    v_25_i_i_sroa_4_0_sroa_idx_i_i = v_303 + 1;
-    put_u8(v_25_i_i_sroa_4_0_sroa_idx_i_i, 131u);
-    v_25_i_i_sroa_5_0_sroa_idx_i_i = v_303 + 2;
-    put_u8(v_25_i_i_sroa_5_0_sroa_idx_i_i, v_26_i_i_i_i);
-    v_25_i_i_sroa_6_0_sroa_idx_i_i = v_303 + 3;
-    put_u8(v_25_i_i_sroa_6_0_sroa_idx_i_i, v_28_i_i_i_i);
-    v_25_i_i_sroa_7_0_sroa_idx_i_i = v_303 + 4;
-    put_u8(v_25_i_i_sroa_7_0_sroa_idx_i_i, v_31_i_i_i66_i);
-    { p_v_48_0_i_i_i = v_57_0_i_i_i_i; p_v_11_i27_i_i = v_start1_i41_i_i_i_i; goto L_bb8_i61_i; }
-L_bb8_i61_i:;
-    v_48_0_i_i_i = p_v_48_0_i_i_i;
-    v_11_i27_i_i = p_v_11_i27_i_i;
-    v_before_neg_i28_i_i = (u64)((u64)(v_11_i27_i_i) - (u64)(v_15_1_i_i_i));
-    v_8_not_i_i_i62_i = v_11_i27_i_i > v_15_1_i_i_i;
-    if (v_8_not_i_i_i62_i) { goto L_bb4_i_i152_i_i; } else { goto L_bb2_i_i150_i_i; }
-L_bb4_i_i152_i_i:;
-    TRAP();
-    TRAP();
-L_bb2_i_i150_i_i:;
-    v_15_not_i_i_i63_i = v_11_i27_i_i < 9u;
-    if (v_15_not_i_i_i63_i) { goto L_bb7_i_i151_i_i; } else { goto L_EncodeValue_prepend_value_exit_i_i; }
-L_bb7_i_i151_i_i:;
-    TRAP();
-    TRAP();
-L_EncodeValue_prepend_value_exit_i_i:;
-    v_start1_i_i_i64_i = (u64)((u64)(v_11_i27_i_i) + (u64)(18446744073709551607ull));
-    v_304 = v_48_0_i_i_i + (int64_t)(v_start1_i_i_i64_i);
-    copy(v_304, AT(f_alloc_bc720b20c67523d2f61b658cd0e8ce6e), 9u);
-    v_7_i31_i_i301 = (u64)((u64)(v_15_1_i_i_i) - (u64)(v_start1_i_i_i64_i));
-    v_6_i32_i_i = (u64)((u64)(v_7_i31_i_i301) + (u64)(v_before_neg_i28_i_i));
-    v_16_i33_i_i = (u32)(v_6_i32_i_i);
-    v_4_i_i35_i_i = v_16_i33_i_i < 128u;
-    if (v_4_i_i35_i_i) { goto L_bb1_i_i118_i_i; } else { goto L_bb2_i_i36_i_i; }
-L_bb2_i_i36_i_i:;
-    v_9_i_i37_i_i = v_16_i33_i_i < 256u;
-    if (v_9_i_i37_i_i) { goto L_bb3_i_i102_i_i; } else { goto L_bb4_i_i38_i_i; }
-L_bb1_i_i118_i_i:;
-    v_15_not_i_i_i127_i_i = v_start1_i_i_i64_i < 2u;
-    if (v_15_not_i_i_i127_i_i) { goto L_bb7_i_i_i132_i_i; } else { goto L_copy_from_slice_pkcs1_c_exit155_i_i; }
-L_bb7_i_i_i132_i_i:;
-    TRAP();
-    TRAP();
-L_copy_from_slice_pkcs1_c_exit155_i_i:;
-    v_start1_i_i_i123_i_i = (u64)((u64)(v_11_i27_i_i) + (u64)(18446744073709551605ull));
-    v_8_i_i119_i_i = (u16)(v_6_i32_i_i);
-    v_305 = v_48_0_i_i_i + (int64_t)(v_start1_i_i_i123_i_i);
-    v_7_i_i25_sroa_0_sroa_4_0_insert_shift_i_i = (u16)((u32)(v_8_i_i119_i_i) << (u32)((8u & 31)));
-    v_7_i_i25_sroa_0_sroa_0_0_insert_insert_i_i = (u16)((u32)(v_7_i_i25_sroa_0_sroa_4_0_insert_shift_i_i) | (u32)(6u));
-    put_u16(v_305, v_7_i_i25_sroa_0_sroa_0_0_insert_insert_i_i);
-    { p_v_start1_i_i_i123_sink_i_i = v_start1_i_i_i123_i_i; goto L_EncodeValue_prepend_value_exit_i; }
-L_bb4_i_i38_i_i:;
-    v_14_i_i39_i_i = v_16_i33_i_i < 65536u;
-    if (v_14_i_i39_i_i) { goto L_bb5_i_i84_i_i; } else { goto L_bb6_i_i40_i_i; }
-L_bb3_i_i102_i_i:;
-    v_15_not_i15_i_i111_i_i = v_start1_i_i_i64_i < 3u;
-    if (v_15_not_i15_i_i111_i_i) { goto L_bb7_i19_i_i116_i_i; } else { goto L_copy_from_slice_pkcs1_c_exit158_i_i; }
-L_bb7_i19_i_i116_i_i:;
-    TRAP();
-    TRAP();
-L_copy_from_slice_pkcs1_c_exit158_i_i:;
-    v_start1_i11_i_i107_i_i = (u64)((u64)(v_11_i27_i_i) + (u64)(18446744073709551604ull));
-    v_13_i_i103_i_i = (u8)(v_6_i32_i_i);
-    v_306 = v_48_0_i_i_i + (int64_t)(v_start1_i11_i_i107_i_i);
-    put_u8(v_306, 6u);
-    v_12_i_i24_sroa_4_0_sroa_idx_i_i = v_306 + 1;
-    put_u8(v_12_i_i24_sroa_4_0_sroa_idx_i_i, 129u);
-    v_12_i_i24_sroa_5_0_sroa_idx_i_i = v_306 + 2;
-    put_u8(v_12_i_i24_sroa_5_0_sroa_idx_i_i, v_13_i_i103_i_i);
-    { p_v_start1_i_i_i123_sink_i_i = v_start1_i11_i_i107_i_i; goto L_EncodeValue_prepend_value_exit_i; }
-L_bb6_i_i40_i_i:;
-    v_22_i_i41_i_i = v_16_i33_i_i < 16777216u;
-    if (v_22_i_i41_i_i) { goto L_bb7_i_i64_i_i; } else { goto L_bb8_i_i42_i_i; }
-L_bb5_i_i84_i_i:;
-    v_15_not_i30_i_i95_i_i = v_start1_i_i_i64_i < 4u;
-    if (v_15_not_i30_i_i95_i_i) { goto L_bb7_i34_i_i100_i_i; } else { goto L_copy_from_slice_pkcs1_c_exit161_i_i; }
-L_bb7_i34_i_i100_i_i:;
-    TRAP();
-    TRAP();
-L_copy_from_slice_pkcs1_c_exit161_i_i:;
-    v_start1_i26_i_i91_i_i = (u64)((u64)(v_11_i27_i_i) + (u64)(18446744073709551603ull));
-    v_307 = v_48_0_i_i_i + (int64_t)(v_start1_i26_i_i91_i_i);
-    v_308 = (u32)((u32)(v_16_i33_i_i) | (u32)(109182976u));
-    v_17_i_i23_sroa_0_sroa_0_0_insert_insert_i_i = TURNED(32, v_308);
-    put_u32(v_307, v_17_i_i23_sroa_0_sroa_0_0_insert_insert_i_i);
-    { p_v_start1_i_i_i123_sink_i_i = v_start1_i26_i_i91_i_i; goto L_EncodeValue_prepend_value_exit_i; }
-L_bb8_i_i42_i_i:;
-    v_15_not_i60_i_i57_i_i = v_start1_i_i_i64_i < 6u;
-    if (v_15_not_i60_i_i57_i_i) { goto L_bb7_i64_i_i62_i_i; } else { goto L_copy_from_slice_pkcs1_c_exit164_i_i; }
-L_bb7_i64_i_i62_i_i:;
-    TRAP();
-    TRAP();
-L_copy_from_slice_pkcs1_c_exit164_i_i:;
-    v_start1_i56_i_i53_i_i = (u64)((u64)(v_11_i27_i_i) + (u64)(18446744073709551601ull));
-    v_44_i_i49_i_i = (u8)(v_6_i32_i_i);
-    v_433_i_i47_i_i = (u64)((u64)(v_6_i32_i_i) >> (u64)((8u & 63)));
-    v_41_i_i48_i_i = (u8)(v_433_i_i47_i_i);
-    v_402_i_i45_i_i = (u64)((u64)(v_6_i32_i_i) >> (u64)((16u & 63)));
-    v_38_i_i46_i_i = (u8)(v_402_i_i45_i_i);
-    v_371_i_i43_i_i = (u64)((u64)(v_6_i32_i_i) >> (u64)((24u & 63)));
-    v_36_i_i44_i_i = (u8)(v_371_i_i43_i_i);
-    v_309 = v_48_0_i_i_i + (int64_t)(v_start1_i56_i_i53_i_i);
-    put_u8(v_309, 6u);
-    v_35_i_i21_sroa_4_0_sroa_idx_i_i = v_309 + 1;
-    put_u8(v_35_i_i21_sroa_4_0_sroa_idx_i_i, 132u);
-    v_35_i_i21_sroa_5_0_sroa_idx_i_i = v_309 + 2;
-    put_u8(v_35_i_i21_sroa_5_0_sroa_idx_i_i, v_36_i_i44_i_i);
-    v_35_i_i21_sroa_6_0_sroa_idx_i_i = v_309 + 3;
-    put_u8(v_35_i_i21_sroa_6_0_sroa_idx_i_i, v_38_i_i46_i_i);
-    v_35_i_i21_sroa_7_0_sroa_idx_i_i = v_309 + 4;
-    put_u8(v_35_i_i21_sroa_7_0_sroa_idx_i_i, v_41_i_i48_i_i);
-    v_35_i_i21_sroa_8_0_sroa_idx_i_i = v_309 + 5;
-    put_u8(v_35_i_i21_sroa_8_0_sroa_idx_i_i, v_44_i_i49_i_i);
-    { p_v_start1_i_i_i123_sink_i_i = v_start1_i56_i_i53_i_i; goto L_EncodeValue_prepend_value_exit_i; }
-L_bb7_i_i64_i_i:;
-    v_15_not_i45_i_i77_i_i = v_start1_i_i_i64_i < 5u;
-    if (v_15_not_i45_i_i77_i_i) { goto L_bb7_i49_i_i82_i_i; } else { goto L_copy_from_slice_pkcs1_c_exit167_i_i; }
-L_bb7_i49_i_i82_i_i:;
-    TRAP();
-    TRAP();
-L_copy_from_slice_pkcs1_c_exit167_i_i:;
-    v_start1_i41_i_i73_i_i = (u64)((u64)(v_11_i27_i_i) + (u64)(18446744073709551602ull));
-    v_31_i_i69_i_i = (u8)(v_6_i32_i_i);
-    v_305_i_i67_i_i = (u64)((u64)(v_6_i32_i_i) >> (u64)((8u & 63)));
-    v_28_i_i68_i_i = (u8)(v_305_i_i67_i_i);
-    v_274_i_i65_i_i = (u64)((u64)(v_6_i32_i_i) >> (u64)((16u & 63)));
-    v_26_i_i66_i_i = (u8)(v_274_i_i65_i_i);
-    v_310 = v_48_0_i_i_i + (int64_t)(v_start1_i41_i_i73_i_i);
-    put_u8(v_310, 6u);
-    v_25_i_i22_sroa_4_0_sroa_idx_i_i = v_310 + 1;
-    put_u8(v_25_i_i22_sroa_4_0_sroa_idx_i_i, 131u);
-    v_25_i_i22_sroa_5_0_sroa_idx_i_i = v_310 + 2;
-    put_u8(v_25_i_i22_sroa_5_0_sroa_idx_i_i, v_26_i_i66_i_i);
-    v_25_i_i22_sroa_6_0_sroa_idx_i_i = v_310 + 3;
-    put_u8(v_25_i_i22_sroa_6_0_sroa_idx_i_i, v_28_i_i68_i_i);
-    v_25_i_i22_sroa_7_0_sroa_idx_i_i = v_310 + 4;
-    put_u8(v_25_i_i22_sroa_7_0_sroa_idx_i_i, v_31_i_i69_i_i);
-    { p_v_start1_i_i_i123_sink_i_i = v_start1_i41_i_i73_i_i; goto L_EncodeValue_prepend_value_exit_i; }
-L_EncodeValue_prepend_value_exit_i:;
-    v_start1_i_i_i123_sink_i_i = p_v_start1_i_i_i123_sink_i_i;
-    v_7_i5_i = (u64)((u64)(v_15_1_i_i_i) - (u64)(v_start1_i_i_i123_sink_i_i));
-    v_16_i_i302 = (u32)(v_7_i5_i);
-    v_4_i_i_i = v_16_i_i302 < 128u;
-    if (v_4_i_i_i) { goto L_bb1_i_i_i; } else { goto L_bb2_i_i_i303; }
-L_bb2_i_i_i303:;
-    v_9_i_i_i = v_16_i_i302 < 256u;
-    if (v_9_i_i_i) { goto L_bb3_i_i_i317; } else { goto L_bb4_i_i_i304; }
-L_bb1_i_i_i:;
-    v_8_i_i_i = (u16)(v_7_i5_i);
-    v_8_not_i_i_i_i = v_start1_i_i_i123_sink_i_i > v_15_1_i_i_i;
-    if (v_8_not_i_i_i_i) { goto L_bb4_i_i_i_i; } else { goto L_bb2_i_i_i_i; }
-L_bb4_i_i_i_i:;
-    TRAP();
-    TRAP();
-L_bb2_i_i_i_i:;
-    v_15_not_i_i_i_i = v_start1_i_i_i123_sink_i_i < 2u;
-    if (v_15_not_i_i_i_i) { goto L_bb7_i_i_i_i; } else { goto L_copy_from_slice_pkcs1_c_exit_i; }
-L_bb7_i_i_i_i:;
-    TRAP();
-    TRAP();
-L_copy_from_slice_pkcs1_c_exit_i:;
-    v_311 = (P)((u64)v_48_0_i_i_i + (u64)(v_start1_i_i_i123_sink_i_i));
-    v_312 = (P)((u64)v_311 + (u64)(-2));
-    v_7_i_i_sroa_0_sroa_4_0_insert_shift_i = (u16)((u32)(v_8_i_i_i) << (u32)((8u & 31)));
-    v_7_i_i_sroa_0_sroa_0_0_insert_insert_i = (u16)((u32)(v_7_i_i_sroa_0_sroa_4_0_insert_shift_i) | (u32)(48u));
-    put_u16(v_312, v_7_i_i_sroa_0_sroa_0_0_insert_insert_i);
-    { goto L_322; }
-L_bb4_i_i_i304:;
-    v_14_i_i_i305 = v_16_i_i302 < 65536u;
-    if (v_14_i_i_i305) { goto L_bb5_i_i_i316; } else { goto L_bb6_i_i_i306; }
-L_bb3_i_i_i317:;
-    v_13_i_i_i = (u8)(v_7_i5_i);
-    v_8_not_i12_i_i_i = v_start1_i_i_i123_sink_i_i > v_15_1_i_i_i;
-    if (v_8_not_i12_i_i_i) { goto L_bb4_i20_i_i_i; } else { goto L_bb2_i13_i_i_i; }
-L_bb4_i20_i_i_i:;
-    TRAP();
-    TRAP();
-L_bb2_i13_i_i_i:;
-    v_15_not_i15_i_i_i = v_start1_i_i_i123_sink_i_i < 3u;
-    if (v_15_not_i15_i_i_i) { goto L_bb7_i19_i_i_i; } else { goto L_copy_from_slice_pkcs1_c_exit77_i; }
-L_bb7_i19_i_i_i:;
-    TRAP();
-    TRAP();
-L_copy_from_slice_pkcs1_c_exit77_i:;
-    v_313 = (P)((u64)v_48_0_i_i_i + (u64)(v_start1_i_i_i123_sink_i_i));
-    v_314 = (P)((u64)v_313 + (u64)(-3));
-    put_u8(v_314, 48u);
-    v_12_i_i_sroa_4_0_sroa_idx_i = (P)((u64)v_313 + (u64)(-2));
-    put_u8(v_12_i_i_sroa_4_0_sroa_idx_i, 129u);
-    v_12_i_i_sroa_5_0_sroa_idx_i = (P)((u64)v_313 + (u64)(-1));
-    put_u8(v_12_i_i_sroa_5_0_sroa_idx_i, v_13_i_i_i);
-    { goto L_322; }
-L_bb6_i_i_i306:;
-    v_22_i_i_i307 = v_16_i_i302 < 16777216u;
-    if (v_22_i_i_i307) { goto L_bb7_i_i_i312; } else { goto L_bb8_i_i_i; }
-L_bb5_i_i_i316:;
-    v_8_not_i27_i_i_i = v_start1_i_i_i123_sink_i_i > v_15_1_i_i_i;
-    if (v_8_not_i27_i_i_i) { goto L_bb4_i35_i_i_i; } else { goto L_bb2_i28_i_i_i; }
-L_bb4_i35_i_i_i:;
-    TRAP();
-    TRAP();
-L_bb2_i28_i_i_i:;
-    v_15_not_i30_i_i_i = v_start1_i_i_i123_sink_i_i < 4u;
-    if (v_15_not_i30_i_i_i) { goto L_bb7_i34_i_i_i; } else { goto L_copy_from_slice_pkcs1_c_exit81_i; }
-L_bb7_i34_i_i_i:;
-    TRAP();
-    TRAP();
-L_copy_from_slice_pkcs1_c_exit81_i:;
-    v_315 = (P)((u64)v_48_0_i_i_i + (u64)(v_start1_i_i_i123_sink_i_i));
-    v_316 = (P)((u64)v_315 + (u64)(-4));
-    v_317 = (u32)((u32)(v_16_i_i302) | (u32)(813826048u));
-    v_17_i_i_sroa_0_sroa_0_0_insert_insert_i = TURNED(32, v_317);
-    put_u32(v_316, v_17_i_i_sroa_0_sroa_0_0_insert_insert_i);
-    { goto L_322; }
-L_bb8_i_i_i:;
-    v_371_i_i_i = (u64)((u64)(v_7_i5_i) >> (u64)((24u & 63)));
-    v_36_i_i_i308 = (u8)(v_371_i_i_i);
-    v_402_i_i_i = (u64)((u64)(v_7_i5_i) >> (u64)((16u & 63)));
-    v_38_i_i_i309 = (u8)(v_402_i_i_i);
-    v_433_i_i_i = (u64)((u64)(v_7_i5_i) >> (u64)((8u & 63)));
-    v_41_i_i_i = (u8)(v_433_i_i_i);
-    v_44_i_i_i = (u8)(v_7_i5_i);
-    v_8_not_i57_i_i_i = v_start1_i_i_i123_sink_i_i > v_15_1_i_i_i;
-    if (v_8_not_i57_i_i_i) { goto L_bb4_i65_i_i_i; } else { goto L_bb2_i58_i_i_i; }
-L_bb4_i65_i_i_i:;
-    TRAP();
-    TRAP();
-L_bb2_i58_i_i_i:;
-    v_15_not_i60_i_i_i = v_start1_i_i_i123_sink_i_i < 6u;
-    if (v_15_not_i60_i_i_i) { goto L_bb7_i64_i_i_i; } else { goto L_copy_from_slice_pkcs1_c_exit85_i; }
-L_bb7_i64_i_i_i:;
-    TRAP();
-    TRAP();
-L_copy_from_slice_pkcs1_c_exit85_i:;
-    v_318 = (P)((u64)v_48_0_i_i_i + (u64)(v_start1_i_i_i123_sink_i_i));
-    v_319 = (P)((u64)v_318 + (u64)(-6));
-    put_u8(v_319, 48u);
-    v_35_i_i_sroa_4_0_sroa_idx_i = (P)((u64)v_318 + (u64)(-5));
-    put_u8(v_35_i_i_sroa_4_0_sroa_idx_i, 132u);
-    v_35_i_i_sroa_5_0_sroa_idx_i = (P)((u64)v_318 + (u64)(-4));
-    put_u8(v_35_i_i_sroa_5_0_sroa_idx_i, v_36_i_i_i308);
-    v_35_i_i_sroa_6_0_sroa_idx_i = (P)((u64)v_318 + (u64)(-3));
-    put_u8(v_35_i_i_sroa_6_0_sroa_idx_i, v_38_i_i_i309);
-    v_35_i_i_sroa_7_0_sroa_idx_i = (P)((u64)v_318 + (u64)(-2));
-    put_u8(v_35_i_i_sroa_7_0_sroa_idx_i, v_41_i_i_i);
-    v_35_i_i_sroa_8_0_sroa_idx_i = (P)((u64)v_318 + (u64)(-1));
-    put_u8(v_35_i_i_sroa_8_0_sroa_idx_i, v_44_i_i_i);
-    { goto L_322; }
-L_bb7_i_i_i312:;
-    v_274_i_i_i = (u64)((u64)(v_7_i5_i) >> (u64)((16u & 63)));
-    v_26_i_i_i313 = (u8)(v_274_i_i_i);
-    v_305_i_i_i = (u64)((u64)(v_7_i5_i) >> (u64)((8u & 63)));
-    v_28_i_i_i314 = (u8)(v_305_i_i_i);
-    v_31_i_i_i315 = (u8)(v_7_i5_i);
-    v_8_not_i42_i_i_i = v_start1_i_i_i123_sink_i_i > v_15_1_i_i_i;
-    if (v_8_not_i42_i_i_i) { goto L_bb4_i50_i_i_i; } else { goto L_bb2_i43_i_i_i; }
-L_bb4_i50_i_i_i:;
-    TRAP();
-    TRAP();
-L_bb2_i43_i_i_i:;
-    v_15_not_i45_i_i_i = v_start1_i_i_i123_sink_i_i < 5u;
-    if (v_15_not_i45_i_i_i) { goto L_bb7_i49_i_i_i; } else { goto L_copy_from_slice_pkcs1_c_exit89_i; }
-L_bb7_i49_i_i_i:;
-    TRAP();
-    TRAP();
-L_copy_from_slice_pkcs1_c_exit89_i:;
-    v_320 = (P)((u64)v_48_0_i_i_i + (u64)(v_start1_i_i_i123_sink_i_i));
-    v_321 = (P)((u64)v_320 + (u64)(-5));
-    put_u8(v_321, 48u);
-    v_25_i_i_sroa_4_0_sroa_idx_i = (P)((u64)v_320 + (u64)(-4));
-    put_u8(v_25_i_i_sroa_4_0_sroa_idx_i, 131u);
-    v_25_i_i_sroa_5_0_sroa_idx_i = (P)((u64)v_320 + (u64)(-3));
-    put_u8(v_25_i_i_sroa_5_0_sroa_idx_i, v_26_i_i_i313);
-    v_25_i_i_sroa_6_0_sroa_idx_i = (P)((u64)v_320 + (u64)(-2));
-    put_u8(v_25_i_i_sroa_6_0_sroa_idx_i, v_28_i_i_i314);
-    v_25_i_i_sroa_7_0_sroa_idx_i = (P)((u64)v_320 + (u64)(-1));
-    put_u8(v_25_i_i_sroa_7_0_sroa_idx_i, v_31_i_i_i315);
-    { goto L_322; }
-L_322:;
-    { p_v_323 = 0u; goto L_any_AnyRef_exit_i; }
-L_any_AnyRef_exit_i:;
-    v_323 = p_v_323;
-    put_u64(v_len, v_sroa_5_0_extract_shift_i);
-    { p_v_0_sroa_0_1_i311 = v_323; goto L_any_AnyRef_exit; }
-L_bb3_i318:;
-    v_0_sroa_0_0_insert_insert_i167_i = p_v_0_sroa_0_0_insert_insert_i167_i;
-    v_sroa_4_0_extract_shift_i319 = (u64)((u64)(v_0_sroa_0_0_insert_insert_i167_i) >> (u64)((8u & 63)));
-    v_error_sroa_0_0_extract_trunc_i = (u8)(v_sroa_4_0_extract_shift_i319);
-    switch (v_error_sroa_0_0_extract_trunc_i) {
-    case 0u: { p_v_0_sroa_0_1_i311 = 1u; goto L_any_AnyRef_exit; }
-    case 1u: { goto L_bb17_i_i; }
-    case 2u: { goto L_bb16_i_i322; }
-    case 3u: { goto L_bb15_i_i; }
-    case 4u: { goto L_bb14_i_i; }
-    case 5u: { goto L_bb13_i100_i; }
-    case 6u: { goto L_bb12_i_i321; }
-    case 7u: { goto L_bb11_i99_i; }
-    case 8u: { goto L_bb10_i98_i; }
-    case 9u: { goto L_bb9_i97_i; }
-    case 10u: { goto L_bb8_i96_i; }
-    case 11u: { goto L_bb7_i95_i; }
-    case 12u: { goto L_bb6_i94_i; }
-    case 13u: { goto L_bb5_i93_i; }
-    case 14u: { goto L_bb4_i92_i; }
-    case 15u: { goto L_bb3_i91_i; }
-    case 16u: { goto L_bb2_i_i320; }
-    default: { goto L_default_unreachable_i_i; }
-    }
-L_default_unreachable_i_i:;
-    TRAP();
-L_bb17_i_i:;
-    { p_v_0_sroa_0_1_i311 = 2u; goto L_any_AnyRef_exit; }
-L_bb16_i_i322:;
-    { p_v_0_sroa_0_1_i311 = 3u; goto L_any_AnyRef_exit; }
-L_bb15_i_i:;
-    { p_v_0_sroa_0_1_i311 = 4u; goto L_any_AnyRef_exit; }
-L_bb14_i_i:;
-    { p_v_0_sroa_0_1_i311 = 5u; goto L_any_AnyRef_exit; }
-L_bb13_i100_i:;
-    { p_v_0_sroa_0_1_i311 = 6u; goto L_any_AnyRef_exit; }
-L_bb12_i_i321:;
-    { p_v_0_sroa_0_1_i311 = 7u; goto L_any_AnyRef_exit; }
-L_bb11_i99_i:;
-    { p_v_0_sroa_0_1_i311 = 8u; goto L_any_AnyRef_exit; }
-L_bb10_i98_i:;
-    { p_v_0_sroa_0_1_i311 = 9u; goto L_any_AnyRef_exit; }
-L_bb9_i97_i:;
-    { p_v_0_sroa_0_1_i311 = 10u; goto L_any_AnyRef_exit; }
-L_bb8_i96_i:;
-    { p_v_0_sroa_0_1_i311 = 11u; goto L_any_AnyRef_exit; }
-L_bb7_i95_i:;
-    { p_v_0_sroa_0_1_i311 = 12u; goto L_any_AnyRef_exit; }
-L_bb6_i94_i:;
-    { p_v_0_sroa_0_1_i311 = 13u; goto L_any_AnyRef_exit; }
-L_bb5_i93_i:;
-    { p_v_0_sroa_0_1_i311 = 14u; goto L_any_AnyRef_exit; }
-L_bb4_i92_i:;
-    { p_v_0_sroa_0_1_i311 = 15u; goto L_any_AnyRef_exit; }
-L_bb3_i91_i:;
-    { p_v_0_sroa_0_1_i311 = 16u; goto L_any_AnyRef_exit; }
-L_bb2_i_i320:;
-    { p_v_0_sroa_0_1_i311 = 17u; goto L_any_AnyRef_exit; }
-L_any_AnyRef_exit:;
-    v_0_sroa_0_1_i311 = p_v_0_sroa_0_1_i311;
-    { p_v_0_sroa_0_0_i3 = v_0_sroa_0_1_i311; goto L_oaep_algorithm_write_fields_exit; }
-L_bb3_i4:;
-    v_324 = v_4_i + 8;
-    v_failure_i_sroa_0_0_copyload = get_u8(v_324);
-    v_325 = (u8)((u32)(v_failure_i_sroa_0_0_copyload) + (u32)(239u));
-    v_326 = (u64)v_325;
-    v_327 = v_325 < 3u;
-    v_328 = (u64)((u64)(v_326) + (u64)(1u));
-    v_2_i = v_327 ? v_328 : 0u;
-    switch (v_2_i) {
-    case 0u: { goto L_bb5_i328; }
-    case 1u: { p_v_0_sroa_0_0_i3 = 18u; goto L_oaep_algorithm_write_fields_exit; }
-    case 2u: { goto L_bb3_i327; }
-    case 3u: { goto L_bb2_i324; }
-    default: { goto L_bb1_i345; }
-    }
-L_bb1_i345:;
-    TRAP();
-L_bb5_i328:;
-    switch (v_failure_i_sroa_0_0_copyload) {
-    case 0u: { p_v_0_sroa_0_0_i3 = 1u; goto L_oaep_algorithm_write_fields_exit; }
-    case 1u: { goto L_bb17_i_i343; }
-    case 2u: { goto L_bb16_i_i342; }
-    case 3u: { goto L_bb15_i_i341; }
-    case 4u: { goto L_bb14_i_i340; }
-    case 5u: { goto L_bb13_i_i339; }
-    case 6u: { goto L_bb12_i_i338; }
-    case 7u: { goto L_bb11_i_i; }
-    case 8u: { goto L_bb10_i_i337; }
-    case 9u: { goto L_bb9_i_i336; }
-    case 10u: { goto L_bb8_i_i335; }
-    case 11u: { goto L_bb7_i_i334; }
-    case 12u: { goto L_bb6_i_i333; }
-    case 13u: { goto L_bb5_i_i332; }
-    case 14u: { goto L_bb4_i_i331; }
-    case 15u: { goto L_bb3_i_i330; }
-    case 16u: { goto L_bb2_i_i329; }
-    default: { goto L_default_unreachable_i_i344; }
-    }
-L_default_unreachable_i_i344:;
-    TRAP();
-L_bb17_i_i343:;
-    { p_v_0_sroa_0_0_i3 = 2u; goto L_oaep_algorithm_write_fields_exit; }
-L_bb16_i_i342:;
-    { p_v_0_sroa_0_0_i3 = 3u; goto L_oaep_algorithm_write_fields_exit; }
-L_bb15_i_i341:;
-    { p_v_0_sroa_0_0_i3 = 4u; goto L_oaep_algorithm_write_fields_exit; }
-L_bb14_i_i340:;
-    { p_v_0_sroa_0_0_i3 = 5u; goto L_oaep_algorithm_write_fields_exit; }
-L_bb13_i_i339:;
-    { p_v_0_sroa_0_0_i3 = 6u; goto L_oaep_algorithm_write_fields_exit; }
-L_bb12_i_i338:;
-    { p_v_0_sroa_0_0_i3 = 7u; goto L_oaep_algorithm_write_fields_exit; }
-L_bb11_i_i:;
-    { p_v_0_sroa_0_0_i3 = 8u; goto L_oaep_algorithm_write_fields_exit; }
-L_bb10_i_i337:;
-    { p_v_0_sroa_0_0_i3 = 9u; goto L_oaep_algorithm_write_fields_exit; }
-L_bb9_i_i336:;
-    { p_v_0_sroa_0_0_i3 = 10u; goto L_oaep_algorithm_write_fields_exit; }
-L_bb8_i_i335:;
-    { p_v_0_sroa_0_0_i3 = 11u; goto L_oaep_algorithm_write_fields_exit; }
-L_bb7_i_i334:;
-    { p_v_0_sroa_0_0_i3 = 12u; goto L_oaep_algorithm_write_fields_exit; }
-L_bb6_i_i333:;
-    { p_v_0_sroa_0_0_i3 = 13u; goto L_oaep_algorithm_write_fields_exit; }
-L_bb5_i_i332:;
-    { p_v_0_sroa_0_0_i3 = 14u; goto L_oaep_algorithm_write_fields_exit; }
-L_bb4_i_i331:;
-    { p_v_0_sroa_0_0_i3 = 15u; goto L_oaep_algorithm_write_fields_exit; }
-L_bb3_i_i330:;
-    { p_v_0_sroa_0_0_i3 = 16u; goto L_oaep_algorithm_write_fields_exit; }
-L_bb2_i_i329:;
-    { p_v_0_sroa_0_0_i3 = 17u; goto L_oaep_algorithm_write_fields_exit; }
-L_bb3_i327:;
-    { p_v_0_sroa_0_0_i3 = 19u; goto L_oaep_algorithm_write_fields_exit; }
-L_bb2_i324:;
-    { p_v_0_sroa_0_0_i3 = 20u; goto L_oaep_algorithm_write_fields_exit; }
-L_oaep_algorithm_write_fields_exit:;
-    v_0_sroa_0_0_i3 = p_v_0_sroa_0_0_i3;
-    { p_v_0_sroa_0_0 = v_0_sroa_0_0_i3; goto L_bb5; }
-L_bb5:;
-    v_0_sroa_0_0 = p_v_0_sroa_0_0;
-    return v_0_sroa_0_0;
-L_bb8:;
-    v_start1_i_i102_i_sink = p_v_start1_i_i102_i_sink;
-    v_59_i98_i_sink_in_in = p_v_59_i98_i_sink_in_in;
-    v_0_sroa_5_0_i = p_v_0_sroa_5_0_i;
-    v_59_i98_i_sink_in = (u8)(v_59_i98_i_sink_in_in);
-    v_59_i98_i_sink = (u8)((u32)(v_59_i98_i_sink_in) + (u32)(13u));
-    v_329 = v_out_0 + (int64_t)(v_start1_i_i102_i_sink);
-    put_u8(v_329, 48u);
-    v_58_i33_i_sroa_4_0_sroa_idx = v_329 + 1;
-    put_u8(v_58_i33_i_sroa_4_0_sroa_idx, v_59_i98_i_sink);
-    v_58_i33_i_sroa_5_0_sroa_idx = v_329 + 2;
-    put_u8(v_58_i33_i_sroa_5_0_sroa_idx, 6u);
-    v_58_i33_i_sroa_6_0_sroa_idx = v_329 + 3;
-    put_u8(v_58_i33_i_sroa_6_0_sroa_idx, 9u);
-    v_58_i33_i_sroa_7_0_sroa_idx = v_329 + 4;
-    put_u8(v_58_i33_i_sroa_7_0_sroa_idx, 42u);
-    v_58_i33_i_sroa_8_0_sroa_idx = v_329 + 5;
-    put_u8(v_58_i33_i_sroa_8_0_sroa_idx, 134u);
-    v_58_i33_i_sroa_9_0_sroa_idx = v_329 + 6;
-    put_u8(v_58_i33_i_sroa_9_0_sroa_idx, 72u);
-    v_58_i33_i_sroa_10_0_sroa_idx = v_329 + 7;
-    put_u8(v_58_i33_i_sroa_10_0_sroa_idx, 134u);
-    v_58_i33_i_sroa_11_0_sroa_idx = v_329 + 8;
-    put_u8(v_58_i33_i_sroa_11_0_sroa_idx, 247u);
-    v_58_i33_i_sroa_12_0_sroa_idx = v_329 + 9;
-    put_u8(v_58_i33_i_sroa_12_0_sroa_idx, 13u);
-    v_58_i33_i_sroa_13_0_sroa_idx = v_329 + 10;
-    put_u8(v_58_i33_i_sroa_13_0_sroa_idx, 1u);
-    v_58_i33_i_sroa_14_0_sroa_idx = v_329 + 11;
-    put_u8(v_58_i33_i_sroa_14_0_sroa_idx, 1u);
-    v_58_i33_i_sroa_15_0_sroa_idx = v_329 + 12;
-    put_u8(v_58_i33_i_sroa_15_0_sroa_idx, 7u);
-    put_u64(v_len, v_0_sroa_5_0_i);
-    { p_v_0_sroa_0_0 = 0u; goto L_bb5; }
-L_bb7:;
-    v_0_sroa_5_0_i_ph = p_v_0_sroa_5_0_i_ph;
-    put_u64(v_len, v_0_sroa_5_0_i_ph);
-    { p_v_0_sroa_0_0 = 15u; goto L_bb5; }
-}
 static u32 proved_oaep_algorithm_encode(P v_params, P v_out, u64 v_out_len, P v_len) {
     u8 p_v_0_sroa_5_0_i34_i_i;
     u32 p_v_0_sroa_0_0_i35_i_i;
@@ -22240,7 +20685,7 @@ L_bb7_i_i_i:;
     TRAP();
     TRAP();
 L_bb3:;
-    v_106 = f_oaep_algorithm_write_others(v_params, v_out, v_out_len, v_len);
+    v_106 = f_oaep_write_others(v_params, 1u, v_out, v_out_len, v_len);
     { p_v_0_sroa_0_0 = v_106; goto L_bb5; }
 L_bb5:;
     v_0_sroa_0_0 = p_v_0_sroa_0_0;
@@ -25362,909 +23807,6 @@ L_bb6:;
 L_bb7:;
     v_0_sroa_0_1 = p_v_0_sroa_0_1;
     return v_0_sroa_0_1;
-}
-static void f_pss_from_c_pss(P v_0, P v_params) {
-    u64 p_v_iter_sroa_0_012_i;
-    u64 p_v_4_i3_i_lcssa;
-    P p_v_octets_0_tr_i;
-    u64 p_v_octets_1_tr_i;
-    u64 p_v_sink10_i;
-    u64 p_v_sink_i;
-    u64 p_v_parameters_sroa_6_sroa_5_0_i;
-    u64 p_v_parameters_sroa_6_sroa_6_0_i;
-    u8 p_v_parameters_sroa_6_sroa_0_sroa_0_0_i;
-    P p_v_parameters_sroa_0_0_i;
-    u16 p_v_parameters_sroa_6_sroa_0_sroa_5_0_i;
-    u64 p_v_iter_sroa_0_012_i55;
-    u64 p_v_4_i3_i65_lcssa;
-    P p_v_octets_0_tr_i72;
-    u64 p_v_octets_1_tr_i73;
-    u64 p_v_sink10_i82;
-    u64 p_v_sink_i83;
-    u64 p_v_iter_sroa_0_012_i131;
-    u64 p_v_4_i3_i141_lcssa;
-    P p_v_octets_0_tr_i148;
-    u64 p_v_octets_1_tr_i149;
-    u64 p_v_sink10_i158;
-    u64 p_v_sink_i159;
-    u64 p_v_parameters_sroa_6_sroa_5_0_i_i;
-    u64 p_v_parameters_sroa_6_sroa_6_0_i_i;
-    u8 p_v_parameters_sroa_6_sroa_0_sroa_0_0_i_i;
-    P p_v_parameters_sroa_0_0_i_i;
-    u16 p_v_parameters_sroa_6_sroa_0_sroa_5_0_i_i;
-    u8 p_v_9_i_sroa_7_sroa_0_sroa_0_1_ph;
-    u8 p_v_9_i_sroa_7_sroa_0_sroa_9_1_ph;
-    u8 p_v_3_sroa_7_sroa_0_sroa_9_1_ph;
-    u8 p_v_3_sroa_7_sroa_0_sroa_0_1_ph;
-    P p_v_parameters_sroa_6_i_sroa_6_0;
-    u8 p_v_parameters_sroa_6_i_sroa_7_0;
-    u16 p_v_parameters_sroa_6_i_sroa_8_0;
-    u64 p_v_parameters_sroa_6_i_sroa_9_0;
-    u64 p_v_parameters_sroa_6_i_sroa_10_0;
-    u32 p_v_parameters_sroa_6_i_sroa_0_sroa_0_0;
-    P p_v_parameters_sroa_0_0_i7;
-    u32 p_v_8_sroa_7_sroa_0_0_ph;
-    P v_18_0_i;
-    P v_0__2;
-    u64 v_18_1_i;
-    u64 v_1;
-    u1 v_or_cond_i23;
-    P v_2;
-    u8 v_11_i27;
-    u1 v_10_i28;
-    u1 v_911_not_i;
-    u8 v_5_peel_i;
-    u1 v_3;
-    u1 v_exitcond_peel_not_i;
-    u64 v_iter_sroa_0_012_i;
-    u64 v_0_i_i;
-    P v_4;
-    u8 v_5_i;
-    u1 v_5;
-    u64 v_4_i3_i;
-    u1 v_6_i4_i;
-    u64 v_4_i3_i_lcssa;
-    P v_6;
-    u8 v_3_i7_i;
-    u1 v_7;
-    u1 v_exitcond_not_i;
-    P v_octets_0_tr_i;
-    u64 v_octets_1_tr_i;
-    u1 v_3_i37;
-    u1 v_5_i39;
-    u8 v_27_i44;
-    u1 v_26_i45;
-    P v_8;
-    u8 v_29_i;
-    u1 v_28_i46;
-    u1 v_25_i;
-    P v_9;
-    u8 v_31_i;
-    u1 v_30_i;
-    u1 v_24_i;
-    P v_10;
-    u8 v_33_i;
-    u1 v_32_i;
-    u1 v_23_i;
-    P v_11;
-    u8 v_35_i47;
-    u1 v_34_i;
-    u1 v_22_i;
-    P v_12;
-    u8 v_37_i;
-    u1 v_36_i;
-    u1 v_21_i;
-    P v_13;
-    u8 v_39_i;
-    u1 v_38_i;
-    u1 v_20_i;
-    P v_14;
-    u8 v_41_i48;
-    u1 v_40_i;
-    u1 v_eight_i;
-    u1 v_9_not_i;
-    u8 v_51_i;
-    u1 v_50_i;
-    P v_15;
-    u8 v_53_i;
-    u1 v_52_i;
-    u1 v_49_i;
-    P v_16;
-    u8 v_55_i;
-    u1 v_54_i;
-    u1 v_48_i;
-    P v_17;
-    u8 v_57_i;
-    u1 v_56_i;
-    u1 v_four_i;
-    u8 v_60_i;
-    u1 v_18;
-    u64 v_sink10_i;
-    u64 v_sink_i;
-    u64 v_later_1_i;
-    P v_later_0_i;
-    P v_19;
-    u8 v_20;
-    u1 v_7_i;
-    P v_21;
-    u8 v_10_i;
-    u8 v_28_i;
-    u1 v_22;
-    u8 v_23;
-    u1 v_24;
-    u1 v_or_cond3_i;
-    P v_25;
-    u64 v_19_1_i;
-    u1 v_35_i;
-    P v_26;
-    P v_19_0_i;
-    u64 v_41_i;
-    u8 v_39_sroa_4_sroa_0_0_extract_trunc_i;
-    u64 v_39_sroa_4_sroa_4_0_extract_shift_i;
-    u16 v_39_sroa_4_sroa_4_0_extract_trunc_i;
-    u64 v_39_sroa_4_sroa_5_0_extract_shift_i;
-    u64 v_39_sroa_4_sroa_5_0_extract_trunc_i;
-    u64 v_parameters_sroa_6_sroa_5_0_i;
-    u64 v_parameters_sroa_6_sroa_6_0_i;
-    u8 v_parameters_sroa_6_sroa_0_sroa_0_0_i;
-    P v_parameters_sroa_0_0_i;
-    u16 v_parameters_sroa_6_sroa_0_sroa_5_0_i;
-    u32 v_27;
-    P v_9__2;
-    P v_15_0_i;
-    P v_28;
-    u64 v_15_1_i;
-    u64 v_29;
-    u1 v_or_cond_i13;
-    P v_30;
-    u8 v_11_i17;
-    u1 v_10_i18;
-    u1 v_911_not_i49;
-    u8 v_5_peel_i51;
-    u1 v_31;
-    u1 v_exitcond_peel_not_i53;
-    u64 v_iter_sroa_0_012_i55;
-    u64 v_0_i_i56;
-    P v_32;
-    u8 v_5_i57;
-    u1 v_33;
-    u64 v_4_i3_i65;
-    u1 v_6_i4_i66;
-    u64 v_4_i3_i65_lcssa;
-    P v_34;
-    u8 v_3_i7_i69;
-    u1 v_35;
-    u1 v_exitcond_not_i59;
-    P v_octets_0_tr_i72;
-    u64 v_octets_1_tr_i73;
-    u1 v_3_i74;
-    u1 v_5_i76;
-    u8 v_27_i101;
-    u1 v_26_i102;
-    P v_36;
-    u8 v_29_i103;
-    u1 v_28_i104;
-    u1 v_25_i105;
-    P v_37;
-    u8 v_31_i106;
-    u1 v_30_i107;
-    u1 v_24_i108;
-    P v_38;
-    u8 v_33_i109;
-    u1 v_32_i110;
-    u1 v_23_i111;
-    P v_39;
-    u8 v_35_i112;
-    u1 v_34_i113;
-    u1 v_22_i114;
-    P v_40;
-    u8 v_37_i115;
-    u1 v_36_i116;
-    u1 v_21_i117;
-    P v_41;
-    u8 v_39_i118;
-    u1 v_38_i119;
-    u1 v_20_i120;
-    P v_42;
-    u8 v_41_i121;
-    u1 v_40_i122;
-    u1 v_eight_i123;
-    u1 v_9_not_i78;
-    u8 v_51_i89;
-    u1 v_50_i90;
-    P v_43;
-    u8 v_53_i91;
-    u1 v_52_i92;
-    u1 v_49_i93;
-    P v_44;
-    u8 v_55_i94;
-    u1 v_54_i95;
-    u1 v_48_i96;
-    P v_45;
-    u8 v_57_i97;
-    u1 v_56_i98;
-    u1 v_four_i99;
-    u8 v_60_i80;
-    u1 v_46;
-    u64 v_sink10_i82;
-    u64 v_sink_i83;
-    u64 v_later_1_i84;
-    P v_later_0_i85;
-    P v_47;
-    u8 v_48;
-    u1 v_7_i6;
-    P v_10_i8;
-    P v_18_0_i_i;
-    P v_49;
-    u64 v_18_1_i_i;
-    u64 v_50;
-    u1 v_or_cond_i;
-    P v_51;
-    u8 v_11_i;
-    u1 v_10_i10;
-    u1 v_911_not_i125;
-    u8 v_5_peel_i127;
-    u1 v_52;
-    u1 v_exitcond_peel_not_i129;
-    u64 v_iter_sroa_0_012_i131;
-    u64 v_0_i_i132;
-    P v_53;
-    u8 v_5_i133;
-    u1 v_54;
-    u64 v_4_i3_i141;
-    u1 v_6_i4_i142;
-    u64 v_4_i3_i141_lcssa;
-    P v_55;
-    u8 v_3_i7_i145;
-    u1 v_56;
-    u1 v_exitcond_not_i135;
-    P v_octets_0_tr_i148;
-    u64 v_octets_1_tr_i149;
-    u1 v_3_i150;
-    u1 v_5_i152;
-    u8 v_27_i177;
-    u1 v_26_i178;
-    P v_57;
-    u8 v_29_i179;
-    u1 v_28_i180;
-    u1 v_25_i181;
-    P v_58;
-    u8 v_31_i182;
-    u1 v_30_i183;
-    u1 v_24_i184;
-    P v_59;
-    u8 v_33_i185;
-    u1 v_32_i186;
-    u1 v_23_i187;
-    P v_60;
-    u8 v_35_i188;
-    u1 v_34_i189;
-    u1 v_22_i190;
-    P v_61;
-    u8 v_37_i191;
-    u1 v_36_i192;
-    u1 v_21_i193;
-    P v_62;
-    u8 v_39_i194;
-    u1 v_38_i195;
-    u1 v_20_i196;
-    P v_63;
-    u8 v_41_i197;
-    u1 v_40_i198;
-    u1 v_eight_i199;
-    u1 v_9_not_i154;
-    u8 v_51_i165;
-    u1 v_50_i166;
-    P v_64;
-    u8 v_53_i167;
-    u1 v_52_i168;
-    u1 v_49_i169;
-    P v_65;
-    u8 v_55_i170;
-    u1 v_54_i171;
-    u1 v_48_i172;
-    P v_66;
-    u8 v_57_i173;
-    u1 v_56_i174;
-    u1 v_four_i175;
-    u8 v_60_i156;
-    u1 v_67;
-    u64 v_sink10_i158;
-    u64 v_sink_i159;
-    u64 v_later_1_i160;
-    P v_later_0_i161;
-    P v_68;
-    u8 v_69;
-    u1 v_7_i_i;
-    P v_70;
-    u8 v_10_i_i;
-    u8 v_28_i_i;
-    u1 v_71;
-    u8 v_72;
-    u1 v_73;
-    u1 v_or_cond3_i_i;
-    P v_74;
-    u64 v_19_1_i_i;
-    u1 v_35_i_i;
-    P v_75;
-    P v_19_0_i_i;
-    u64 v_41_i_i;
-    u8 v_39_sroa_4_sroa_0_0_extract_trunc_i_i;
-    u64 v_39_sroa_4_sroa_4_0_extract_shift_i_i;
-    u16 v_39_sroa_4_sroa_4_0_extract_trunc_i_i;
-    u64 v_39_sroa_4_sroa_5_0_extract_shift_i_i;
-    u64 v_39_sroa_4_sroa_5_0_extract_trunc_i_i;
-    u64 v_parameters_sroa_6_sroa_5_0_i_i;
-    u64 v_parameters_sroa_6_sroa_6_0_i_i;
-    u8 v_parameters_sroa_6_sroa_0_sroa_0_0_i_i;
-    P v_parameters_sroa_0_0_i_i;
-    u16 v_parameters_sroa_6_sroa_0_sroa_5_0_i_i;
-    u32 v_76;
-    u8 v_9_i_sroa_7_sroa_0_sroa_0_1_ph;
-    u8 v_9_i_sroa_7_sroa_0_sroa_9_1_ph;
-    u32 v_9_i_sroa_7_sroa_0_sroa_9_0_insert_ext223;
-    u32 v_9_i_sroa_7_sroa_0_sroa_9_0_insert_shift224;
-    u32 v_9_i_sroa_7_sroa_0_sroa_0_0_insert_ext220;
-    u32 v_9_i_sroa_7_sroa_0_sroa_0_0_insert_insert222;
-    u8 v_3_sroa_7_sroa_0_sroa_9_1_ph;
-    u8 v_3_sroa_7_sroa_0_sroa_0_1_ph;
-    u32 v_3_sroa_7_sroa_0_sroa_9_0_insert_ext;
-    u32 v_3_sroa_7_sroa_0_sroa_9_0_insert_shift;
-    u32 v_3_sroa_7_sroa_0_sroa_0_0_insert_ext;
-    u32 v_3_sroa_7_sroa_0_sroa_0_0_insert_insert;
-    P v_77;
-    P v_parameters_sroa_6_i_sroa_6_0;
-    u8 v_parameters_sroa_6_i_sroa_7_0;
-    u16 v_parameters_sroa_6_i_sroa_8_0;
-    u64 v_parameters_sroa_6_i_sroa_9_0;
-    u64 v_parameters_sroa_6_i_sroa_10_0;
-    u32 v_parameters_sroa_6_i_sroa_0_sroa_0_0;
-    P v_parameters_sroa_0_0_i7;
-    P v_78;
-    u8 v_12__2;
-    u1 v_79;
-    u32 v_8_sroa_7_sroa_0_0_ph;
-    P v_80;
-    u32 v_8_sroa_7_sroa_0_0_extract_trunc;
-    P v_81;
-    u8 v_17__2;
-    P v_16_sroa_4_0_0_sroa_idx;
-    P v_16_sroa_5_0_0_sroa_idx;
-    P v_16_sroa_5_sroa_4_0_16_sroa_5_0_0_sroa_idx_sroa_idx;
-    P v_16_sroa_5_sroa_5_0_16_sroa_5_0_0_sroa_idx_sroa_idx;
-    P v_16_sroa_5_sroa_6_0_16_sroa_5_0_0_sroa_idx_sroa_idx;
-    P v_16_sroa_5_sroa_7_0_16_sroa_5_0_0_sroa_idx_sroa_idx;
-    P v_16_sroa_5_sroa_8_0_16_sroa_5_0_0_sroa_idx_sroa_idx;
-    P v_16_sroa_6_0_0_sroa_idx;
-    P v_16_sroa_7_0_0_sroa_idx;
-    P v_16_sroa_8_0_0_sroa_idx;
-    P v_16_sroa_8_sroa_4_0_16_sroa_8_0_0_sroa_idx_sroa_idx;
-    P v_16_sroa_8_sroa_5_0_16_sroa_8_0_0_sroa_idx_sroa_idx;
-    P v_16_sroa_8_sroa_5_sroa_4_0_16_sroa_8_sroa_5_0_16_sr;
-    P v_16_sroa_8_sroa_5_sroa_5_0_16_sroa_8_sroa_5_0_16_sr;
-    P v_16_sroa_8_sroa_5_sroa_6_0_16_sroa_8_sroa_5_0_16_sr;
-    P v_16_sroa_8_sroa_5_sroa_7_0_16_sroa_8_sroa_5_0_16_sr;
-    P v_16_sroa_8_sroa_5_sroa_8_0_16_sroa_8_sroa_5_0_16_sr;
-    P v_16_sroa_8_sroa_5_sroa_9_0_16_sroa_8_sroa_5_0_16_sr;
-    P v_16_sroa_9_0_0_sroa_idx;
-    P v_82;
-    P v_14_sroa_4_0_sroa_idx;
-    v_18_0_i = get_P(v_params);
-    v_0__2 = v_params + 8;
-    v_18_1_i = get_u64(v_0__2);
-    v_1 = (u64)((u64)(v_18_1_i) + (u64)(18446744073709551615ull));
-    v_or_cond_i23 = v_1 < 39u;
-    if (v_or_cond_i23) { goto L_bb9_i25; } else { p_v_3_sroa_7_sroa_0_sroa_9_1_ph = 0u; p_v_3_sroa_7_sroa_0_sroa_0_1_ph = 5u; goto L_bb9; }
-L_bb9_i25:;
-    v_2 = v_18_0_i + (int64_t)(v_1);
-    v_11_i27 = get_u8(v_2);
-    v_10_i28 = (u8)(v_11_i27 ^ ((u8)1 << 7)) > (u8)(255u ^ ((u8)1 << 7));
-    if (v_10_i28) { p_v_octets_0_tr_i = v_18_0_i; p_v_octets_1_tr_i = v_1; goto L_tailrecurse_i; } else { goto L_bb9_preheader_i; }
-L_bb5_i29:;
-    v_911_not_i = v_18_1_i == 0u;
-    if (v_911_not_i) { goto L_bb8_i; } else { goto L_bb9_preheader_i; }
-L_bb9_preheader_i:;
-    v_5_peel_i = get_u8(v_18_0_i);
-    v_3 = v_5_peel_i == 128u;
-    if (v_3) { p_v_3_sroa_7_sroa_0_sroa_9_1_ph = 0u; p_v_3_sroa_7_sroa_0_sroa_0_1_ph = 5u; goto L_bb9; } else { goto L_bb7_peel_i; }
-L_bb7_peel_i:;
-    v_exitcond_peel_not_i = v_18_1_i == 1u;
-    if (v_exitcond_peel_not_i) { goto L_object_identifier_is_identifier_exit32; } else { p_v_iter_sroa_0_012_i = 1u; goto L_bb9_i33; }
-L_bb9_i33:;
-    v_iter_sroa_0_012_i = p_v_iter_sroa_0_012_i;
-    v_0_i_i = (u64)((u64)(v_iter_sroa_0_012_i) + (u64)(1u));
-    v_4 = v_18_0_i + (int64_t)(v_iter_sroa_0_012_i);
-    v_5_i = get_u8(v_4);
-    v_5 = v_5_i == 128u;
-    if (v_5) { goto L_bb2_i2_i; } else { goto L_bb7_i; }
-L_bb2_i2_i:;
-    v_4_i3_i = (u64)((u64)(v_iter_sroa_0_012_i) + (u64)(18446744073709551615ull));
-    v_6_i4_i = v_4_i3_i < v_18_1_i;
-    if (v_6_i4_i) { goto L_object_identifier_is_start_exit9_i; } else { p_v_4_i3_i_lcssa = v_4_i3_i; goto L_panic_i5_i; }
-L_panic_i5_i:;
-    v_4_i3_i_lcssa = p_v_4_i3_i_lcssa;
-    TRAP();
-    TRAP();
-L_object_identifier_is_start_exit9_i:;
-    v_6 = v_18_0_i + (int64_t)(v_4_i3_i);
-    v_3_i7_i = get_u8(v_6);
-    v_7 = (u8)(v_3_i7_i ^ ((u8)1 << 7)) > (u8)(255u ^ ((u8)1 << 7));
-    if (v_7) { p_v_3_sroa_7_sroa_0_sroa_9_1_ph = 0u; p_v_3_sroa_7_sroa_0_sroa_0_1_ph = 5u; goto L_bb9; } else { goto L_bb7_i; }
-L_bb7_i:;
-    v_exitcond_not_i = v_0_i_i == v_18_1_i;
-    if (v_exitcond_not_i) { goto L_object_identifier_is_identifier_exit32; } else { p_v_iter_sroa_0_012_i = v_0_i_i; goto L_bb9_i33; }
-L_tailrecurse_i:;
-    v_octets_0_tr_i = p_v_octets_0_tr_i;
-    v_octets_1_tr_i = p_v_octets_1_tr_i;
-    v_3_i37 = v_octets_1_tr_i > 7u;
-    if (v_3_i37) { goto L_bb6_i; } else { goto L_bb1_i38; }
-L_bb1_i38:;
-    v_5_i39 = v_octets_1_tr_i > 3u;
-    if (v_5_i39) { goto L_bb5_i43; } else { goto L_bb2_i40; }
-L_bb6_i:;
-    v_27_i44 = get_u8(v_octets_0_tr_i);
-    v_26_i45 = v_27_i44 != 128u;
-    v_8 = v_octets_0_tr_i + 1;
-    v_29_i = get_u8(v_8);
-    v_28_i46 = v_29_i != 128u;
-    v_25_i = (u1)(((u32)(v_26_i45) & (u32)(v_28_i46)) & 1);
-    v_9 = v_octets_0_tr_i + 2;
-    v_31_i = get_u8(v_9);
-    v_30_i = v_31_i != 128u;
-    v_24_i = (u1)(((u32)(v_25_i) & (u32)(v_30_i)) & 1);
-    v_10 = v_octets_0_tr_i + 3;
-    v_33_i = get_u8(v_10);
-    v_32_i = v_33_i != 128u;
-    v_23_i = (u1)(((u32)(v_24_i) & (u32)(v_32_i)) & 1);
-    v_11 = v_octets_0_tr_i + 4;
-    v_35_i47 = get_u8(v_11);
-    v_34_i = v_35_i47 != 128u;
-    v_22_i = (u1)(((u32)(v_23_i) & (u32)(v_34_i)) & 1);
-    v_12 = v_octets_0_tr_i + 5;
-    v_37_i = get_u8(v_12);
-    v_36_i = v_37_i != 128u;
-    v_21_i = (u1)(((u32)(v_22_i) & (u32)(v_36_i)) & 1);
-    v_13 = v_octets_0_tr_i + 6;
-    v_39_i = get_u8(v_13);
-    v_38_i = v_39_i != 128u;
-    v_20_i = (u1)(((u32)(v_21_i) & (u32)(v_38_i)) & 1);
-    v_14 = v_octets_0_tr_i + 7;
-    v_41_i48 = get_u8(v_14);
-    v_40_i = v_41_i48 != 128u;
-    v_eight_i = (u1)(((u32)(v_20_i) & (u32)(v_40_i)) & 1);
-    if (v_eight_i) { p_v_sink10_i = 18446744073709551608ull; p_v_sink_i = 8u; goto L_tailrecurse_backedge_i; } else { goto L_bb5_i29; }
-L_bb2_i40:;
-    v_9_not_i = v_octets_1_tr_i == 0u;
-    if (v_9_not_i) { goto L_bb8_i; } else { goto L_bb4_i41; }
-L_bb5_i43:;
-    v_51_i = get_u8(v_octets_0_tr_i);
-    v_50_i = v_51_i != 128u;
-    v_15 = v_octets_0_tr_i + 1;
-    v_53_i = get_u8(v_15);
-    v_52_i = v_53_i != 128u;
-    v_49_i = (u1)(((u32)(v_50_i) & (u32)(v_52_i)) & 1);
-    v_16 = v_octets_0_tr_i + 2;
-    v_55_i = get_u8(v_16);
-    v_54_i = v_55_i != 128u;
-    v_48_i = (u1)(((u32)(v_49_i) & (u32)(v_54_i)) & 1);
-    v_17 = v_octets_0_tr_i + 3;
-    v_57_i = get_u8(v_17);
-    v_56_i = v_57_i != 128u;
-    v_four_i = (u1)(((u32)(v_48_i) & (u32)(v_56_i)) & 1);
-    if (v_four_i) { p_v_sink10_i = 18446744073709551612ull; p_v_sink_i = 4u; goto L_tailrecurse_backedge_i; } else { goto L_bb5_i29; }
-L_bb4_i41:;
-    v_60_i = get_u8(v_octets_0_tr_i);
-    v_18 = v_60_i == 128u;
-    if (v_18) { goto L_bb5_i29; } else { p_v_sink10_i = 18446744073709551615ull; p_v_sink_i = 1u; goto L_tailrecurse_backedge_i; }
-L_tailrecurse_backedge_i:;
-    v_sink10_i = p_v_sink10_i;
-    v_sink_i = p_v_sink_i;
-    v_later_1_i = (u64)((u64)(v_sink10_i) + (u64)(v_octets_1_tr_i));
-    v_later_0_i = v_octets_0_tr_i + (int64_t)(v_sink_i);
-    { p_v_octets_0_tr_i = v_later_0_i; p_v_octets_1_tr_i = v_later_1_i; goto L_tailrecurse_i; }
-L_object_identifier_is_identifier_exit32:;
-    if (v_10_i28) { goto L_bb8_i; } else { p_v_3_sroa_7_sroa_0_sroa_9_1_ph = 0u; p_v_3_sroa_7_sroa_0_sroa_0_1_ph = 5u; goto L_bb9; }
-L_bb8_i:;
-    v_19 = v_params + 16;
-    v_20 = get_u8(v_19);
-    v_7_i = (u1)((v_20) & 1);
-    if (v_7_i) { goto L_bb1_i; } else { p_v_parameters_sroa_6_sroa_5_0_i = 0u; p_v_parameters_sroa_6_sroa_6_0_i = 0u; p_v_parameters_sroa_6_sroa_0_sroa_0_0_i = 0u; p_v_parameters_sroa_0_0_i = (P)0; p_v_parameters_sroa_6_sroa_0_sroa_5_0_i = 0u; goto L_bb10; }
-L_bb1_i:;
-    v_21 = v_params + 17;
-    v_10_i = get_u8(v_21);
-    v_28_i = (u8)((u32)(v_10_i) & (u32)(31u));
-    v_22 = v_28_i == 31u;
-    v_23 = (u8)((u32)(v_10_i) & (u32)(223u));
-    v_24 = v_23 == 0u;
-    v_or_cond3_i = (u1)(((u32)(v_22) | (u32)(v_24)) & 1);
-    if (v_or_cond3_i) { p_v_3_sroa_7_sroa_0_sroa_9_1_ph = v_10_i; p_v_3_sroa_7_sroa_0_sroa_0_1_ph = 11u; goto L_bb9; } else { goto L_bb14_i; }
-L_bb14_i:;
-    v_25 = v_params + 32;
-    v_19_1_i = get_u64(v_25);
-    v_35_i = v_19_1_i > 4294967295ull;
-    if (v_35_i) { p_v_3_sroa_7_sroa_0_sroa_9_1_ph = v_10_i; p_v_3_sroa_7_sroa_0_sroa_0_1_ph = 7u; goto L_bb9; } else { goto L_bb16_i; }
-L_bb16_i:;
-    v_26 = v_params + 24;
-    v_19_0_i = get_P(v_26);
-    v_41_i = (u64)v_10_i;
-    v_39_sroa_4_sroa_0_0_extract_trunc_i = (u8)(v_19_1_i);
-    v_39_sroa_4_sroa_4_0_extract_shift_i = (u64)((u64)(v_19_1_i) >> (u64)((8u & 63)));
-    v_39_sroa_4_sroa_4_0_extract_trunc_i = (u16)(v_39_sroa_4_sroa_4_0_extract_shift_i);
-    v_39_sroa_4_sroa_5_0_extract_shift_i = (u64)((u64)(v_19_1_i) >> (u64)((24u & 63)));
-    v_39_sroa_4_sroa_5_0_extract_trunc_i = (u64)((v_39_sroa_4_sroa_5_0_extract_shift_i) & (((u64)1 << 40) - 1));
-    { p_v_parameters_sroa_6_sroa_5_0_i = v_39_sroa_4_sroa_5_0_extract_trunc_i; p_v_parameters_sroa_6_sroa_6_0_i = v_41_i; p_v_parameters_sroa_6_sroa_0_sroa_0_0_i = v_39_sroa_4_sroa_0_0_extract_trunc_i; p_v_parameters_sroa_0_0_i = v_19_0_i; p_v_parameters_sroa_6_sroa_0_sroa_5_0_i = v_39_sroa_4_sroa_4_0_extract_trunc_i; goto L_bb10; }
-L_bb10:;
-    v_parameters_sroa_6_sroa_5_0_i = p_v_parameters_sroa_6_sroa_5_0_i;
-    v_parameters_sroa_6_sroa_6_0_i = p_v_parameters_sroa_6_sroa_6_0_i;
-    v_parameters_sroa_6_sroa_0_sroa_0_0_i = p_v_parameters_sroa_6_sroa_0_sroa_0_0_i;
-    v_parameters_sroa_0_0_i = p_v_parameters_sroa_0_0_i;
-    v_parameters_sroa_6_sroa_0_sroa_5_0_i = p_v_parameters_sroa_6_sroa_0_sroa_5_0_i;
-    v_27 = (u32)((v_18_1_i) & (((u32)1 << 24) - 1));
-    v_9__2 = v_params + 40;
-    v_15_0_i = get_P(v_9__2);
-    v_28 = v_params + 48;
-    v_15_1_i = get_u64(v_28);
-    v_29 = (u64)((u64)(v_15_1_i) + (u64)(18446744073709551615ull));
-    v_or_cond_i13 = v_29 < 39u;
-    if (v_or_cond_i13) { goto L_bb9_i15; } else { p_v_8_sroa_7_sroa_0_0_ph = 5u; goto L_bb11; }
-L_bb9_i15:;
-    v_30 = v_15_0_i + (int64_t)(v_29);
-    v_11_i17 = get_u8(v_30);
-    v_10_i18 = (u8)(v_11_i17 ^ ((u8)1 << 7)) > (u8)(255u ^ ((u8)1 << 7));
-    if (v_10_i18) { p_v_octets_0_tr_i72 = v_15_0_i; p_v_octets_1_tr_i73 = v_29; goto L_tailrecurse_i71; } else { goto L_bb9_preheader_i50; }
-L_bb5_i19:;
-    v_911_not_i49 = v_15_1_i == 0u;
-    if (v_911_not_i49) { goto L_bb9_i5; } else { goto L_bb9_preheader_i50; }
-L_bb9_preheader_i50:;
-    v_5_peel_i51 = get_u8(v_15_0_i);
-    v_31 = v_5_peel_i51 == 128u;
-    if (v_31) { p_v_8_sroa_7_sroa_0_0_ph = 5u; goto L_bb11; } else { goto L_bb7_peel_i52; }
-L_bb7_peel_i52:;
-    v_exitcond_peel_not_i53 = v_15_1_i == 1u;
-    if (v_exitcond_peel_not_i53) { goto L_object_identifier_is_identifier_exit22; } else { p_v_iter_sroa_0_012_i55 = 1u; goto L_bb9_i54; }
-L_bb9_i54:;
-    v_iter_sroa_0_012_i55 = p_v_iter_sroa_0_012_i55;
-    v_0_i_i56 = (u64)((u64)(v_iter_sroa_0_012_i55) + (u64)(1u));
-    v_32 = v_15_0_i + (int64_t)(v_iter_sroa_0_012_i55);
-    v_5_i57 = get_u8(v_32);
-    v_33 = v_5_i57 == 128u;
-    if (v_33) { goto L_bb2_i2_i64; } else { goto L_bb7_i58; }
-L_bb2_i2_i64:;
-    v_4_i3_i65 = (u64)((u64)(v_iter_sroa_0_012_i55) + (u64)(18446744073709551615ull));
-    v_6_i4_i66 = v_4_i3_i65 < v_15_1_i;
-    if (v_6_i4_i66) { goto L_object_identifier_is_start_exit9_i68; } else { p_v_4_i3_i65_lcssa = v_4_i3_i65; goto L_panic_i5_i67; }
-L_panic_i5_i67:;
-    v_4_i3_i65_lcssa = p_v_4_i3_i65_lcssa;
-    TRAP();
-    TRAP();
-L_object_identifier_is_start_exit9_i68:;
-    v_34 = v_15_0_i + (int64_t)(v_4_i3_i65);
-    v_3_i7_i69 = get_u8(v_34);
-    v_35 = (u8)(v_3_i7_i69 ^ ((u8)1 << 7)) > (u8)(255u ^ ((u8)1 << 7));
-    if (v_35) { p_v_8_sroa_7_sroa_0_0_ph = 5u; goto L_bb11; } else { goto L_bb7_i58; }
-L_bb7_i58:;
-    v_exitcond_not_i59 = v_0_i_i56 == v_15_1_i;
-    if (v_exitcond_not_i59) { goto L_object_identifier_is_identifier_exit22; } else { p_v_iter_sroa_0_012_i55 = v_0_i_i56; goto L_bb9_i54; }
-L_tailrecurse_i71:;
-    v_octets_0_tr_i72 = p_v_octets_0_tr_i72;
-    v_octets_1_tr_i73 = p_v_octets_1_tr_i73;
-    v_3_i74 = v_octets_1_tr_i73 > 7u;
-    if (v_3_i74) { goto L_bb6_i100; } else { goto L_bb1_i75; }
-L_bb1_i75:;
-    v_5_i76 = v_octets_1_tr_i73 > 3u;
-    if (v_5_i76) { goto L_bb5_i88; } else { goto L_bb2_i77; }
-L_bb6_i100:;
-    v_27_i101 = get_u8(v_octets_0_tr_i72);
-    v_26_i102 = v_27_i101 != 128u;
-    v_36 = v_octets_0_tr_i72 + 1;
-    v_29_i103 = get_u8(v_36);
-    v_28_i104 = v_29_i103 != 128u;
-    v_25_i105 = (u1)(((u32)(v_26_i102) & (u32)(v_28_i104)) & 1);
-    v_37 = v_octets_0_tr_i72 + 2;
-    v_31_i106 = get_u8(v_37);
-    v_30_i107 = v_31_i106 != 128u;
-    v_24_i108 = (u1)(((u32)(v_25_i105) & (u32)(v_30_i107)) & 1);
-    v_38 = v_octets_0_tr_i72 + 3;
-    v_33_i109 = get_u8(v_38);
-    v_32_i110 = v_33_i109 != 128u;
-    v_23_i111 = (u1)(((u32)(v_24_i108) & (u32)(v_32_i110)) & 1);
-    v_39 = v_octets_0_tr_i72 + 4;
-    v_35_i112 = get_u8(v_39);
-    v_34_i113 = v_35_i112 != 128u;
-    v_22_i114 = (u1)(((u32)(v_23_i111) & (u32)(v_34_i113)) & 1);
-    v_40 = v_octets_0_tr_i72 + 5;
-    v_37_i115 = get_u8(v_40);
-    v_36_i116 = v_37_i115 != 128u;
-    v_21_i117 = (u1)(((u32)(v_22_i114) & (u32)(v_36_i116)) & 1);
-    v_41 = v_octets_0_tr_i72 + 6;
-    v_39_i118 = get_u8(v_41);
-    v_38_i119 = v_39_i118 != 128u;
-    v_20_i120 = (u1)(((u32)(v_21_i117) & (u32)(v_38_i119)) & 1);
-    v_42 = v_octets_0_tr_i72 + 7;
-    v_41_i121 = get_u8(v_42);
-    v_40_i122 = v_41_i121 != 128u;
-    v_eight_i123 = (u1)(((u32)(v_20_i120) & (u32)(v_40_i122)) & 1);
-    if (v_eight_i123) { p_v_sink10_i82 = 18446744073709551608ull; p_v_sink_i83 = 8u; goto L_tailrecurse_backedge_i81; } else { goto L_bb5_i19; }
-L_bb2_i77:;
-    v_9_not_i78 = v_octets_1_tr_i73 == 0u;
-    if (v_9_not_i78) { goto L_bb9_i5; } else { goto L_bb4_i79; }
-L_bb5_i88:;
-    v_51_i89 = get_u8(v_octets_0_tr_i72);
-    v_50_i90 = v_51_i89 != 128u;
-    v_43 = v_octets_0_tr_i72 + 1;
-    v_53_i91 = get_u8(v_43);
-    v_52_i92 = v_53_i91 != 128u;
-    v_49_i93 = (u1)(((u32)(v_50_i90) & (u32)(v_52_i92)) & 1);
-    v_44 = v_octets_0_tr_i72 + 2;
-    v_55_i94 = get_u8(v_44);
-    v_54_i95 = v_55_i94 != 128u;
-    v_48_i96 = (u1)(((u32)(v_49_i93) & (u32)(v_54_i95)) & 1);
-    v_45 = v_octets_0_tr_i72 + 3;
-    v_57_i97 = get_u8(v_45);
-    v_56_i98 = v_57_i97 != 128u;
-    v_four_i99 = (u1)(((u32)(v_48_i96) & (u32)(v_56_i98)) & 1);
-    if (v_four_i99) { p_v_sink10_i82 = 18446744073709551612ull; p_v_sink_i83 = 4u; goto L_tailrecurse_backedge_i81; } else { goto L_bb5_i19; }
-L_bb4_i79:;
-    v_60_i80 = get_u8(v_octets_0_tr_i72);
-    v_46 = v_60_i80 == 128u;
-    if (v_46) { goto L_bb5_i19; } else { p_v_sink10_i82 = 18446744073709551615ull; p_v_sink_i83 = 1u; goto L_tailrecurse_backedge_i81; }
-L_tailrecurse_backedge_i81:;
-    v_sink10_i82 = p_v_sink10_i82;
-    v_sink_i83 = p_v_sink_i83;
-    v_later_1_i84 = (u64)((u64)(v_sink10_i82) + (u64)(v_octets_1_tr_i73));
-    v_later_0_i85 = v_octets_0_tr_i72 + (int64_t)(v_sink_i83);
-    { p_v_octets_0_tr_i72 = v_later_0_i85; p_v_octets_1_tr_i73 = v_later_1_i84; goto L_tailrecurse_i71; }
-L_object_identifier_is_identifier_exit22:;
-    if (v_10_i18) { goto L_bb9_i5; } else { p_v_8_sroa_7_sroa_0_0_ph = 5u; goto L_bb11; }
-L_bb9_i5:;
-    v_47 = v_params + 56;
-    v_48 = get_u8(v_47);
-    v_7_i6 = (u1)((v_48) & 1);
-    if (v_7_i6) { goto L_bb2_i; } else { p_v_parameters_sroa_6_i_sroa_6_0 = (P)0; p_v_parameters_sroa_6_i_sroa_7_0 = 0u; p_v_parameters_sroa_6_i_sroa_8_0 = 0u; p_v_parameters_sroa_6_i_sroa_9_0 = 0u; p_v_parameters_sroa_6_i_sroa_10_0 = 0u; p_v_parameters_sroa_6_i_sroa_0_sroa_0_0 = 0u; p_v_parameters_sroa_0_0_i7 = (P)0; goto L_bb12; }
-L_bb2_i:;
-    v_10_i8 = v_params + 64;
-    v_18_0_i_i = get_P(v_10_i8);
-    v_49 = v_params + 72;
-    v_18_1_i_i = get_u64(v_49);
-    v_50 = (u64)((u64)(v_18_1_i_i) + (u64)(18446744073709551615ull));
-    v_or_cond_i = v_50 < 39u;
-    if (v_or_cond_i) { goto L_bb9_i9; } else { p_v_9_i_sroa_7_sroa_0_sroa_0_1_ph = 5u; p_v_9_i_sroa_7_sroa_0_sroa_9_1_ph = 0u; goto L_bb11_i; }
-L_bb9_i9:;
-    v_51 = v_18_0_i_i + (int64_t)(v_50);
-    v_11_i = get_u8(v_51);
-    v_10_i10 = (u8)(v_11_i ^ ((u8)1 << 7)) > (u8)(255u ^ ((u8)1 << 7));
-    if (v_10_i10) { p_v_octets_0_tr_i148 = v_18_0_i_i; p_v_octets_1_tr_i149 = v_50; goto L_tailrecurse_i147; } else { goto L_bb9_preheader_i126; }
-L_bb5_i11:;
-    v_911_not_i125 = v_18_1_i_i == 0u;
-    if (v_911_not_i125) { goto L_bb8_i_i; } else { goto L_bb9_preheader_i126; }
-L_bb9_preheader_i126:;
-    v_5_peel_i127 = get_u8(v_18_0_i_i);
-    v_52 = v_5_peel_i127 == 128u;
-    if (v_52) { p_v_9_i_sroa_7_sroa_0_sroa_0_1_ph = 5u; p_v_9_i_sroa_7_sroa_0_sroa_9_1_ph = 0u; goto L_bb11_i; } else { goto L_bb7_peel_i128; }
-L_bb7_peel_i128:;
-    v_exitcond_peel_not_i129 = v_18_1_i_i == 1u;
-    if (v_exitcond_peel_not_i129) { goto L_object_identifier_is_identifier_exit; } else { p_v_iter_sroa_0_012_i131 = 1u; goto L_bb9_i130; }
-L_bb9_i130:;
-    v_iter_sroa_0_012_i131 = p_v_iter_sroa_0_012_i131;
-    v_0_i_i132 = (u64)((u64)(v_iter_sroa_0_012_i131) + (u64)(1u));
-    v_53 = v_18_0_i_i + (int64_t)(v_iter_sroa_0_012_i131);
-    v_5_i133 = get_u8(v_53);
-    v_54 = v_5_i133 == 128u;
-    if (v_54) { goto L_bb2_i2_i140; } else { goto L_bb7_i134; }
-L_bb2_i2_i140:;
-    v_4_i3_i141 = (u64)((u64)(v_iter_sroa_0_012_i131) + (u64)(18446744073709551615ull));
-    v_6_i4_i142 = v_4_i3_i141 < v_18_1_i_i;
-    if (v_6_i4_i142) { goto L_object_identifier_is_start_exit9_i144; } else { p_v_4_i3_i141_lcssa = v_4_i3_i141; goto L_panic_i5_i143; }
-L_panic_i5_i143:;
-    v_4_i3_i141_lcssa = p_v_4_i3_i141_lcssa;
-    TRAP();
-    TRAP();
-L_object_identifier_is_start_exit9_i144:;
-    v_55 = v_18_0_i_i + (int64_t)(v_4_i3_i141);
-    v_3_i7_i145 = get_u8(v_55);
-    v_56 = (u8)(v_3_i7_i145 ^ ((u8)1 << 7)) > (u8)(255u ^ ((u8)1 << 7));
-    if (v_56) { p_v_9_i_sroa_7_sroa_0_sroa_0_1_ph = 5u; p_v_9_i_sroa_7_sroa_0_sroa_9_1_ph = 0u; goto L_bb11_i; } else { goto L_bb7_i134; }
-L_bb7_i134:;
-    v_exitcond_not_i135 = v_0_i_i132 == v_18_1_i_i;
-    if (v_exitcond_not_i135) { goto L_object_identifier_is_identifier_exit; } else { p_v_iter_sroa_0_012_i131 = v_0_i_i132; goto L_bb9_i130; }
-L_tailrecurse_i147:;
-    v_octets_0_tr_i148 = p_v_octets_0_tr_i148;
-    v_octets_1_tr_i149 = p_v_octets_1_tr_i149;
-    v_3_i150 = v_octets_1_tr_i149 > 7u;
-    if (v_3_i150) { goto L_bb6_i176; } else { goto L_bb1_i151; }
-L_bb1_i151:;
-    v_5_i152 = v_octets_1_tr_i149 > 3u;
-    if (v_5_i152) { goto L_bb5_i164; } else { goto L_bb2_i153; }
-L_bb6_i176:;
-    v_27_i177 = get_u8(v_octets_0_tr_i148);
-    v_26_i178 = v_27_i177 != 128u;
-    v_57 = v_octets_0_tr_i148 + 1;
-    v_29_i179 = get_u8(v_57);
-    v_28_i180 = v_29_i179 != 128u;
-    v_25_i181 = (u1)(((u32)(v_26_i178) & (u32)(v_28_i180)) & 1);
-    v_58 = v_octets_0_tr_i148 + 2;
-    v_31_i182 = get_u8(v_58);
-    v_30_i183 = v_31_i182 != 128u;
-    v_24_i184 = (u1)(((u32)(v_25_i181) & (u32)(v_30_i183)) & 1);
-    v_59 = v_octets_0_tr_i148 + 3;
-    v_33_i185 = get_u8(v_59);
-    v_32_i186 = v_33_i185 != 128u;
-    v_23_i187 = (u1)(((u32)(v_24_i184) & (u32)(v_32_i186)) & 1);
-    v_60 = v_octets_0_tr_i148 + 4;
-    v_35_i188 = get_u8(v_60);
-    v_34_i189 = v_35_i188 != 128u;
-    v_22_i190 = (u1)(((u32)(v_23_i187) & (u32)(v_34_i189)) & 1);
-    v_61 = v_octets_0_tr_i148 + 5;
-    v_37_i191 = get_u8(v_61);
-    v_36_i192 = v_37_i191 != 128u;
-    v_21_i193 = (u1)(((u32)(v_22_i190) & (u32)(v_36_i192)) & 1);
-    v_62 = v_octets_0_tr_i148 + 6;
-    v_39_i194 = get_u8(v_62);
-    v_38_i195 = v_39_i194 != 128u;
-    v_20_i196 = (u1)(((u32)(v_21_i193) & (u32)(v_38_i195)) & 1);
-    v_63 = v_octets_0_tr_i148 + 7;
-    v_41_i197 = get_u8(v_63);
-    v_40_i198 = v_41_i197 != 128u;
-    v_eight_i199 = (u1)(((u32)(v_20_i196) & (u32)(v_40_i198)) & 1);
-    if (v_eight_i199) { p_v_sink10_i158 = 18446744073709551608ull; p_v_sink_i159 = 8u; goto L_tailrecurse_backedge_i157; } else { goto L_bb5_i11; }
-L_bb2_i153:;
-    v_9_not_i154 = v_octets_1_tr_i149 == 0u;
-    if (v_9_not_i154) { goto L_bb8_i_i; } else { goto L_bb4_i155; }
-L_bb5_i164:;
-    v_51_i165 = get_u8(v_octets_0_tr_i148);
-    v_50_i166 = v_51_i165 != 128u;
-    v_64 = v_octets_0_tr_i148 + 1;
-    v_53_i167 = get_u8(v_64);
-    v_52_i168 = v_53_i167 != 128u;
-    v_49_i169 = (u1)(((u32)(v_50_i166) & (u32)(v_52_i168)) & 1);
-    v_65 = v_octets_0_tr_i148 + 2;
-    v_55_i170 = get_u8(v_65);
-    v_54_i171 = v_55_i170 != 128u;
-    v_48_i172 = (u1)(((u32)(v_49_i169) & (u32)(v_54_i171)) & 1);
-    v_66 = v_octets_0_tr_i148 + 3;
-    v_57_i173 = get_u8(v_66);
-    v_56_i174 = v_57_i173 != 128u;
-    v_four_i175 = (u1)(((u32)(v_48_i172) & (u32)(v_56_i174)) & 1);
-    if (v_four_i175) { p_v_sink10_i158 = 18446744073709551612ull; p_v_sink_i159 = 4u; goto L_tailrecurse_backedge_i157; } else { goto L_bb5_i11; }
-L_bb4_i155:;
-    v_60_i156 = get_u8(v_octets_0_tr_i148);
-    v_67 = v_60_i156 == 128u;
-    if (v_67) { goto L_bb5_i11; } else { p_v_sink10_i158 = 18446744073709551615ull; p_v_sink_i159 = 1u; goto L_tailrecurse_backedge_i157; }
-L_tailrecurse_backedge_i157:;
-    v_sink10_i158 = p_v_sink10_i158;
-    v_sink_i159 = p_v_sink_i159;
-    v_later_1_i160 = (u64)((u64)(v_sink10_i158) + (u64)(v_octets_1_tr_i149));
-    v_later_0_i161 = v_octets_0_tr_i148 + (int64_t)(v_sink_i159);
-    { p_v_octets_0_tr_i148 = v_later_0_i161; p_v_octets_1_tr_i149 = v_later_1_i160; goto L_tailrecurse_i147; }
-L_object_identifier_is_identifier_exit:;
-    if (v_10_i10) { goto L_bb8_i_i; } else { p_v_9_i_sroa_7_sroa_0_sroa_0_1_ph = 5u; p_v_9_i_sroa_7_sroa_0_sroa_9_1_ph = 0u; goto L_bb11_i; }
-L_bb8_i_i:;
-    v_68 = v_params + 80;
-    v_69 = get_u8(v_68);
-    v_7_i_i = (u1)((v_69) & 1);
-    if (v_7_i_i) { goto L_bb1_i_i; } else { p_v_parameters_sroa_6_sroa_5_0_i_i = 0u; p_v_parameters_sroa_6_sroa_6_0_i_i = 0u; p_v_parameters_sroa_6_sroa_0_sroa_0_0_i_i = 0u; p_v_parameters_sroa_0_0_i_i = (P)0; p_v_parameters_sroa_6_sroa_0_sroa_5_0_i_i = 0u; goto L_bb12_i; }
-L_bb1_i_i:;
-    v_70 = v_params + 81;
-    v_10_i_i = get_u8(v_70);
-    v_28_i_i = (u8)((u32)(v_10_i_i) & (u32)(31u));
-    v_71 = v_28_i_i == 31u;
-    v_72 = (u8)((u32)(v_10_i_i) & (u32)(223u));
-    v_73 = v_72 == 0u;
-    v_or_cond3_i_i = (u1)(((u32)(v_71) | (u32)(v_73)) & 1);
-    if (v_or_cond3_i_i) { p_v_9_i_sroa_7_sroa_0_sroa_0_1_ph = 11u; p_v_9_i_sroa_7_sroa_0_sroa_9_1_ph = v_10_i_i; goto L_bb11_i; } else { goto L_bb14_i_i; }
-L_bb14_i_i:;
-    v_74 = v_params + 96;
-    v_19_1_i_i = get_u64(v_74);
-    v_35_i_i = v_19_1_i_i > 4294967295ull;
-    if (v_35_i_i) { p_v_9_i_sroa_7_sroa_0_sroa_0_1_ph = 7u; p_v_9_i_sroa_7_sroa_0_sroa_9_1_ph = v_10_i_i; goto L_bb11_i; } else { goto L_bb16_i_i; }
-L_bb16_i_i:;
-    v_75 = v_params + 88;
-    v_19_0_i_i = get_P(v_75);
-    v_41_i_i = (u64)v_10_i_i;
-    v_39_sroa_4_sroa_0_0_extract_trunc_i_i = (u8)(v_19_1_i_i);
-    v_39_sroa_4_sroa_4_0_extract_shift_i_i = (u64)((u64)(v_19_1_i_i) >> (u64)((8u & 63)));
-    v_39_sroa_4_sroa_4_0_extract_trunc_i_i = (u16)(v_39_sroa_4_sroa_4_0_extract_shift_i_i);
-    v_39_sroa_4_sroa_5_0_extract_shift_i_i = (u64)((u64)(v_19_1_i_i) >> (u64)((24u & 63)));
-    v_39_sroa_4_sroa_5_0_extract_trunc_i_i = (u64)((v_39_sroa_4_sroa_5_0_extract_shift_i_i) & (((u64)1 << 40) - 1));
-    { p_v_parameters_sroa_6_sroa_5_0_i_i = v_39_sroa_4_sroa_5_0_extract_trunc_i_i; p_v_parameters_sroa_6_sroa_6_0_i_i = v_41_i_i; p_v_parameters_sroa_6_sroa_0_sroa_0_0_i_i = v_39_sroa_4_sroa_0_0_extract_trunc_i_i; p_v_parameters_sroa_0_0_i_i = v_19_0_i_i; p_v_parameters_sroa_6_sroa_0_sroa_5_0_i_i = v_39_sroa_4_sroa_4_0_extract_trunc_i_i; goto L_bb12_i; }
-L_bb12_i:;
-    v_parameters_sroa_6_sroa_5_0_i_i = p_v_parameters_sroa_6_sroa_5_0_i_i;
-    v_parameters_sroa_6_sroa_6_0_i_i = p_v_parameters_sroa_6_sroa_6_0_i_i;
-    v_parameters_sroa_6_sroa_0_sroa_0_0_i_i = p_v_parameters_sroa_6_sroa_0_sroa_0_0_i_i;
-    v_parameters_sroa_0_0_i_i = p_v_parameters_sroa_0_0_i_i;
-    v_parameters_sroa_6_sroa_0_sroa_5_0_i_i = p_v_parameters_sroa_6_sroa_0_sroa_5_0_i_i;
-    v_76 = (u32)((v_18_1_i_i) & (((u32)1 << 24) - 1));
-    { p_v_parameters_sroa_6_i_sroa_6_0 = v_parameters_sroa_0_0_i_i; p_v_parameters_sroa_6_i_sroa_7_0 = v_parameters_sroa_6_sroa_0_sroa_0_0_i_i; p_v_parameters_sroa_6_i_sroa_8_0 = v_parameters_sroa_6_sroa_0_sroa_5_0_i_i; p_v_parameters_sroa_6_i_sroa_9_0 = v_parameters_sroa_6_sroa_5_0_i_i; p_v_parameters_sroa_6_i_sroa_10_0 = v_parameters_sroa_6_sroa_6_0_i_i; p_v_parameters_sroa_6_i_sroa_0_sroa_0_0 = v_76; p_v_parameters_sroa_0_0_i7 = v_18_0_i_i; goto L_bb12; }
-L_bb11_i:;
-    v_9_i_sroa_7_sroa_0_sroa_0_1_ph = p_v_9_i_sroa_7_sroa_0_sroa_0_1_ph;
-    v_9_i_sroa_7_sroa_0_sroa_9_1_ph = p_v_9_i_sroa_7_sroa_0_sroa_9_1_ph;
-    v_9_i_sroa_7_sroa_0_sroa_9_0_insert_ext223 = (u32)v_9_i_sroa_7_sroa_0_sroa_9_1_ph;
-    v_9_i_sroa_7_sroa_0_sroa_9_0_insert_shift224 = (u32)(((u32)(v_9_i_sroa_7_sroa_0_sroa_9_0_insert_ext223) << (u32)((8u & 31))) & (((u32)1 << 24) - 1));
-    v_9_i_sroa_7_sroa_0_sroa_0_0_insert_ext220 = (u32)v_9_i_sroa_7_sroa_0_sroa_0_1_ph;
-    v_9_i_sroa_7_sroa_0_sroa_0_0_insert_insert222 = (u32)(((u32)(v_9_i_sroa_7_sroa_0_sroa_9_0_insert_shift224) | (u32)(v_9_i_sroa_7_sroa_0_sroa_0_0_insert_ext220)) & (((u32)1 << 24) - 1));
-    { p_v_8_sroa_7_sroa_0_0_ph = v_9_i_sroa_7_sroa_0_sroa_0_0_insert_insert222; goto L_bb11; }
-L_bb9:;
-    v_3_sroa_7_sroa_0_sroa_9_1_ph = p_v_3_sroa_7_sroa_0_sroa_9_1_ph;
-    v_3_sroa_7_sroa_0_sroa_0_1_ph = p_v_3_sroa_7_sroa_0_sroa_0_1_ph;
-    v_3_sroa_7_sroa_0_sroa_9_0_insert_ext = (u32)v_3_sroa_7_sroa_0_sroa_9_1_ph;
-    v_3_sroa_7_sroa_0_sroa_9_0_insert_shift = (u32)(((u32)(v_3_sroa_7_sroa_0_sroa_9_0_insert_ext) << (u32)((8u & 31))) & (((u32)1 << 24) - 1));
-    v_3_sroa_7_sroa_0_sroa_0_0_insert_ext = (u32)v_3_sroa_7_sroa_0_sroa_0_1_ph;
-    v_3_sroa_7_sroa_0_sroa_0_0_insert_insert = (u32)(((u32)(v_3_sroa_7_sroa_0_sroa_9_0_insert_shift) | (u32)(v_3_sroa_7_sroa_0_sroa_0_0_insert_ext)) & (((u32)1 << 24) - 1));
-    v_77 = v_0 + 8;
-    put_24(v_77, v_3_sroa_7_sroa_0_sroa_0_0_insert_insert);
-    put_P(v_0, (P)0);
-    { goto L_bb8; }
-L_bb12:;
-    v_parameters_sroa_6_i_sroa_6_0 = p_v_parameters_sroa_6_i_sroa_6_0;
-    v_parameters_sroa_6_i_sroa_7_0 = p_v_parameters_sroa_6_i_sroa_7_0;
-    v_parameters_sroa_6_i_sroa_8_0 = p_v_parameters_sroa_6_i_sroa_8_0;
-    v_parameters_sroa_6_i_sroa_9_0 = p_v_parameters_sroa_6_i_sroa_9_0;
-    v_parameters_sroa_6_i_sroa_10_0 = p_v_parameters_sroa_6_i_sroa_10_0;
-    v_parameters_sroa_6_i_sroa_0_sroa_0_0 = p_v_parameters_sroa_6_i_sroa_0_sroa_0_0;
-    v_parameters_sroa_0_0_i7 = p_v_parameters_sroa_0_0_i7;
-    v_78 = v_params + 105;
-    v_12__2 = get_u8(v_78);
-    v_79 = v_12__2 == 1u;
-    if (v_79) { goto L_bb5; } else { goto L_bb4; }
-L_bb11:;
-    v_8_sroa_7_sroa_0_0_ph = p_v_8_sroa_7_sroa_0_0_ph;
-    v_80 = v_0 + 8;
-    put_24(v_80, v_8_sroa_7_sroa_0_0_ph);
-    put_P(v_0, (P)0);
-    { goto L_bb8; }
-L_bb5:;
-    v_8_sroa_7_sroa_0_0_extract_trunc = (u32)((v_15_1_i) & (((u32)1 << 24) - 1));
-    v_81 = v_params + 104;
-    v_17__2 = get_u8(v_81);
-    put_P(v_0, v_18_0_i);
-    v_16_sroa_4_0_0_sroa_idx = v_0 + 8;
-    put_24(v_16_sroa_4_0_0_sroa_idx, v_27);
-    v_16_sroa_5_0_0_sroa_idx = v_0 + 11;
-    put_40(v_16_sroa_5_0_0_sroa_idx, 0u);
-    v_16_sroa_5_sroa_4_0_16_sroa_5_0_0_sroa_idx_sroa_idx = v_0 + 16;
-    put_P(v_16_sroa_5_sroa_4_0_16_sroa_5_0_0_sroa_idx_sroa_idx, v_parameters_sroa_0_0_i);
-    v_16_sroa_5_sroa_5_0_16_sroa_5_0_0_sroa_idx_sroa_idx = v_0 + 24;
-    put_u8(v_16_sroa_5_sroa_5_0_16_sroa_5_0_0_sroa_idx_sroa_idx, v_parameters_sroa_6_sroa_0_sroa_0_0_i);
-    v_16_sroa_5_sroa_6_0_16_sroa_5_0_0_sroa_idx_sroa_idx = v_0 + 25;
-    put_u16(v_16_sroa_5_sroa_6_0_16_sroa_5_0_0_sroa_idx_sroa_idx, v_parameters_sroa_6_sroa_0_sroa_5_0_i);
-    v_16_sroa_5_sroa_7_0_16_sroa_5_0_0_sroa_idx_sroa_idx = v_0 + 27;
-    put_40(v_16_sroa_5_sroa_7_0_16_sroa_5_0_0_sroa_idx_sroa_idx, v_parameters_sroa_6_sroa_5_0_i);
-    v_16_sroa_5_sroa_8_0_16_sroa_5_0_0_sroa_idx_sroa_idx = v_0 + 32;
-    put_u64(v_16_sroa_5_sroa_8_0_16_sroa_5_0_0_sroa_idx_sroa_idx, v_parameters_sroa_6_sroa_6_0_i);
-    v_16_sroa_6_0_0_sroa_idx = v_0 + 40;
-    put_P(v_16_sroa_6_0_0_sroa_idx, v_15_0_i);
-    v_16_sroa_7_0_0_sroa_idx = v_0 + 48;
-    put_24(v_16_sroa_7_0_0_sroa_idx, v_8_sroa_7_sroa_0_0_extract_trunc);
-    v_16_sroa_8_0_0_sroa_idx = v_0 + 51;
-    put_40(v_16_sroa_8_0_0_sroa_idx, 0u);
-    v_16_sroa_8_sroa_4_0_16_sroa_8_0_0_sroa_idx_sroa_idx = v_0 + 56;
-    put_P(v_16_sroa_8_sroa_4_0_16_sroa_8_0_0_sroa_idx_sroa_idx, v_parameters_sroa_0_0_i7);
-    v_16_sroa_8_sroa_5_0_16_sroa_8_0_0_sroa_idx_sroa_idx = v_0 + 64;
-    put_24(v_16_sroa_8_sroa_5_0_16_sroa_8_0_0_sroa_idx_sroa_idx, v_parameters_sroa_6_i_sroa_0_sroa_0_0);
-    v_16_sroa_8_sroa_5_sroa_4_0_16_sroa_8_sroa_5_0_16_sr = v_0 + 67;
-    put_40(v_16_sroa_8_sroa_5_sroa_4_0_16_sroa_8_sroa_5_0_16_sr, 0u);
-    v_16_sroa_8_sroa_5_sroa_5_0_16_sroa_8_sroa_5_0_16_sr = v_0 + 72;
-    put_P(v_16_sroa_8_sroa_5_sroa_5_0_16_sroa_8_sroa_5_0_16_sr, v_parameters_sroa_6_i_sroa_6_0);
-    v_16_sroa_8_sroa_5_sroa_6_0_16_sroa_8_sroa_5_0_16_sr = v_0 + 80;
-    put_u8(v_16_sroa_8_sroa_5_sroa_6_0_16_sroa_8_sroa_5_0_16_sr, v_parameters_sroa_6_i_sroa_7_0);
-    v_16_sroa_8_sroa_5_sroa_7_0_16_sroa_8_sroa_5_0_16_sr = v_0 + 81;
-    put_u16(v_16_sroa_8_sroa_5_sroa_7_0_16_sroa_8_sroa_5_0_16_sr, v_parameters_sroa_6_i_sroa_8_0);
-    v_16_sroa_8_sroa_5_sroa_8_0_16_sroa_8_sroa_5_0_16_sr = v_0 + 83;
-    put_40(v_16_sroa_8_sroa_5_sroa_8_0_16_sroa_8_sroa_5_0_16_sr, v_parameters_sroa_6_i_sroa_9_0);
-    v_16_sroa_8_sroa_5_sroa_9_0_16_sroa_8_sroa_5_0_16_sr = v_0 + 88;
-    put_u64(v_16_sroa_8_sroa_5_sroa_9_0_16_sroa_8_sroa_5_0_16_sr, v_parameters_sroa_6_i_sroa_10_0);
-    v_16_sroa_9_0_0_sroa_idx = v_0 + 96;
-    put_u8(v_16_sroa_9_0_0_sroa_idx, v_17__2);
-    { goto L_bb8; }
-L_bb4:;
-    v_82 = v_0 + 8;
-    put_u8(v_82, 13u);
-    v_14_sroa_4_0_sroa_idx = v_0 + 9;
-    put_u8(v_14_sroa_4_0_sroa_idx, 2u);
-    put_P(v_0, (P)0);
-    { goto L_bb8; }
-L_bb8:;
-    return;
 }
 static ONCE u32 proved_pss_params_decode(P v_encoding, u64 v_encoding_len, P v_params) {
     ALIGNED(8) unsigned char m_v_7_i69_i[96] = {0};
@@ -29431,25 +26973,57 @@ L_bb7:;
     v_0_sroa_0_0 = p_v_0_sroa_0_0;
     return v_0_sroa_0_0;
 }
-static u32 f_pss_write_others(P v_params, P v_out_0, u64 v_out_1, P v_len) {
+static u32 f_pss_write_others(P v_params, u1 v_place_0, P v_out_0, u64 v_out_1, P v_len) {
+    ALIGNED(8) unsigned char m_v_writer_i_i476[24] = {0};
     ALIGNED(8) unsigned char m_v_writer_i_i_i[24] = {0};
-    ALIGNED(8) unsigned char m_v_17[104] = {0};
-    ALIGNED(8) unsigned char m_v_15[104] = {0};
+    ALIGNED(8) unsigned char m_v_made_i[104] = {0};
     u32 p_v_0_sroa_5_sroa_0_0_i_i;
     u32 p_v_0_sroa_0_0_i_i;
-    u64 p_v_writer_i_i_sroa_12_0;
-    u64 p_v_writer_i_i_sroa_12_1;
-    u64 p_v_writer_i127_i_sroa_12_0;
-    u64 p_v_writer_i127_i_sroa_12_1;
-    u64 p_v_writer_i29_i_sroa_12_0;
-    u64 p_v_writer_i29_i_sroa_12_1;
-    u64 p_v_0_sroa_5_0_i;
-    u64 p_v_0_sroa_5_0_i_ph;
-    u32 p_v_0_sroa_0_0;
-    u1 p_v_0_sroa_0_0_shrunk_i_i_i;
-    u1 p_v_0_sroa_0_0_i178;
-    u64 p_v_10_sroa_0_0_i_i_i76_i_i_i;
+    u64 p_v_writer_i_i_sroa_14_0;
+    u64 p_v_writer_i_i_sroa_14_1;
+    u64 p_v_writer_i127_i_sroa_14_0;
+    u64 p_v_writer_i127_i_sroa_14_1;
+    u64 p_v_writer_i29_i_sroa_14_0;
+    u64 p_v_writer_i29_i_sroa_14_1;
+    u64 p_v_iter_sroa_0_012_i_i;
+    u64 p_v_4_i3_i_i_lcssa;
+    P p_v_octets_0_tr_i_i;
+    u64 p_v_octets_1_tr_i_i;
+    u64 p_v_sink10_i_i;
     u64 p_v_sink_i_i;
+    u64 p_v_parameters_sroa_6_sroa_5_0_i_i;
+    u64 p_v_parameters_sroa_6_sroa_6_0_i_i;
+    u8 p_v_parameters_sroa_6_sroa_0_sroa_0_0_i_i;
+    P p_v_parameters_sroa_0_0_i_i;
+    u16 p_v_parameters_sroa_6_sroa_0_sroa_5_0_i_i;
+    u64 p_v_iter_sroa_0_012_i55_i;
+    u64 p_v_4_i3_i65_i_lcssa;
+    P p_v_octets_0_tr_i72_i;
+    u64 p_v_octets_1_tr_i73_i;
+    u64 p_v_sink10_i82_i;
+    u64 p_v_sink_i83_i;
+    u64 p_v_iter_sroa_0_012_i131_i;
+    u64 p_v_4_i3_i141_i_lcssa;
+    P p_v_octets_0_tr_i148_i;
+    u64 p_v_octets_1_tr_i149_i;
+    u64 p_v_sink10_i158_i;
+    u64 p_v_sink_i159_i;
+    u64 p_v_parameters_sroa_6_sroa_5_0_i_i_i;
+    u64 p_v_parameters_sroa_6_sroa_6_0_i_i_i;
+    u8 p_v_parameters_sroa_6_sroa_0_sroa_0_0_i_i_i;
+    P p_v_parameters_sroa_0_0_i_i_i;
+    u16 p_v_parameters_sroa_6_sroa_0_sroa_5_0_i_i_i;
+    P p_v_141;
+    u8 p_v_parameters_sroa_6_i_sroa_7_0_i;
+    u16 p_v_parameters_sroa_6_i_sroa_8_0_i;
+    u64 p_v_parameters_sroa_6_i_sroa_9_0_i;
+    u64 p_v_8_sroa_4_0_copyload_i_i646;
+    u32 p_v_parameters_sroa_6_i_sroa_0_sroa_0_0_i;
+    P p_v_142;
+    u1 p_v_0_sroa_0_0_shrunk_i_i_i229;
+    u1 p_v_0_sroa_0_0_i606;
+    u64 p_v_10_sroa_0_0_i_i_i76_i_i_i;
+    u64 p_v_sink_i_i246;
     u64 p_v_10_sroa_0_0_i_i_i209_i_i_i;
     u64 p_v_sink51_i_i;
     u64 p_v_0_sroa_0_0_i170_i_i_i;
@@ -29458,43 +27032,80 @@ static u32 f_pss_write_others(P v_params, P v_out_0, u64 v_out_1, P v_len) {
     u64 p_v_0_sroa_0_0_i705_i_sink_i_i;
     u64 p_v_0_sroa_0_0_i_i33_i_i;
     u64 p_v_0_sroa_31_0_in_i50_i_i;
-    u32 p_v_185;
-    u32 p_v_0_sroa_0_1_i227_i;
-    u32 p_v_0_sroa_0_1;
+    u32 p_v_241;
+    u1 p_v_0_sroa_0_0_shrunk_i_i_i;
+    u64 p_v_10_sroa_0_0_i_i_i76_i_i;
+    u64 p_v_sink_i;
+    u64 p_v_10_sroa_0_0_i_i_i209_i_i;
+    u64 p_v_sink174_i;
+    u64 p_v_0_sroa_0_0_i170_i_i;
+    u64 p_v_sink175_i;
+    u64 p_v_sink178_i;
+    u64 p_v_0_sroa_0_0_i705_i_sink_i;
+    u64 p_v_296;
+    u64 p_v_10_sroa_0_0_i_i763769;
+    u64 p_v_10_sroa_0_0_i_i_ph773776;
+    u64 p_v_10_sroa_0_0_i_i_ph_ph780783;
+    u64 p_v_10_sroa_0_0_i_i_i76_i_i_i_i;
+    u64 p_v_sink_i_i_i;
+    u64 p_v_10_sroa_0_0_i_i_i209_i_i_i_i;
+    u64 p_v_sink66_i_i_i;
+    u64 p_v_0_sroa_0_0_i170_i_i_i_i;
+    u64 p_v_sink67_i_i_i;
+    u64 p_v_sink70_i_i_i;
+    u64 p_v_0_sroa_0_0_i705_i_sink_i_i_i;
+    u64 p_v_0_sroa_0_0_i_i53_i_i_i;
+    u64 p_v_0_sroa_31_0_in_i_i_ph_i_i;
+    u64 p_v_sroa_09_0_insert_insert65_i_i_i;
+    u64 p_v_0_sroa_31_0_in_i_ph_i;
+    u64 p_v_sink_i7_i_i;
+    u64 p_v_0_sroa_0_0_insert_insert_i161_i;
+    P p_v_48_0_i_i_i;
+    u64 p_v_11_i27_i_i;
+    u64 p_v_start1_i_i_i123_sink_i_i;
+    u32 p_v_374;
+    u64 p_v_0_sroa_0_0_insert_insert_i173_i;
+    u32 p_v_0_sroa_0_0_i3;
+    u64 p_v_start1_i_i_i_sink;
+    u64 p_v_59_i_i_sink_in_in;
+    u64 p_v_0_sroa_5_0_i_ph_ph;
+    u64 p_v_0_sroa_5_0_i_ph;
+    u64 p_v_0_sroa_5_0_i;
+    u32 p_v_0_sroa_0_0;
+    P v_writer_i_i476;
     P v_writer_i_i_i;
-    P v_17;
-    P v_15;
+    P v_made_i;
     P v_0;
-    u8 v_7;
+    u8 v_8;
     u1 v_1;
-    P v_10;
+    P v_11;
     P v_2;
     u8 v_3;
     u1 v_6_i;
     P v_4;
     u8 v_5;
     u1 v_6;
-    P v_7__2;
-    u8 v_8;
+    P v_7;
+    u8 v_8__2;
     u1 v_9;
     u1 v_not;
-    u1 v_10__2;
-    P v_11_0;
-    P v_11;
-    u64 v_11_1;
-    P v_12;
+    u1 v_10;
     P v_12_0;
-    P v_13;
+    P v_11__2;
     u64 v_12_1;
+    P v_12;
+    P v_13_0;
+    P v_13;
+    u64 v_13_1;
     P v_14;
-    u8 v_13__2;
-    P v_14_0;
-    P v_15__2;
-    u64 v_14_1;
+    u8 v_14__2;
+    P v_15_0;
+    P v_15;
+    u64 v_15_1;
     u1 v_16;
     u8 v_21_i_i_i;
     u1 v_20_i_i_i;
-    P v_17__2;
+    P v_17;
     u8 v_23_i_i_i;
     u1 v_22_i_i_i;
     u1 v_19_i_i_i;
@@ -29561,7 +27172,7 @@ static u32 f_pss_write_others(P v_params, P v_out_0, u64 v_out_1, P v_len) {
     u8 v_38_i61_i_i;
     u1 v_37_i62_i_i;
     u1 v_35;
-    u1 v_or_cond228;
+    u1 v_or_cond739;
     u8 v_22_i10_i_i;
     u1 v_21_i11_i_i;
     P v_36;
@@ -29618,13 +27229,15 @@ static u32 f_pss_write_others(P v_params, P v_out_0, u64 v_out_1, P v_len) {
     u64 v_spec_select_i33_i;
     u64 v_28_sroa_0_0_i36_i;
     u64 v_10_i37_i;
+    u64 v_spec_select12_i40_i;
     u64 v_spec_select_i_i;
     u64 v_28_sroa_0_0_i_i;
     u64 v_10_i_i;
+    u64 v_spec_select12_i_i;
     u64 v_len_i_i;
     u1 v_16_i_i;
-    u64 v_start1_i5_i;
     u1 v_15_not_i9_i;
+    u64 v_start1_i5_i;
     P v_51;
     P v_9_i_sroa_4_0_sroa_idx;
     P v_9_i_sroa_5_0_sroa_idx;
@@ -29653,32 +27266,37 @@ static u32 f_pss_write_others(P v_params, P v_out_0, u64 v_out_1, P v_len) {
     P v_9_i_sroa_28_0_sroa_idx;
     P v_9_i_sroa_29_0_sroa_idx;
     P v_9_i_sroa_30_0_sroa_idx;
-    u64 v_writer_i_i_sroa_12_0;
-    u1 v_15_not_i9_i65;
-    u64 v_start1_i5_i61;
+    u64 v_writer_i_i_sroa_14_0;
+    u64 v_start1_i5_i66;
+    u1 v_8_not_i6_i67;
+    u1 v_15_not_i9_i70;
     P v_52;
-    P v_9_i56_sroa_4_0_sroa_idx;
-    P v_9_i56_sroa_5_0_sroa_idx;
-    P v_9_i56_sroa_6_0_sroa_idx;
-    P v_9_i56_sroa_7_0_sroa_idx;
-    P v_9_i56_sroa_8_0_sroa_idx;
-    P v_9_i56_sroa_9_0_sroa_idx;
-    P v_9_i56_sroa_10_0_sroa_idx;
-    P v_9_i56_sroa_11_0_sroa_idx;
-    P v_9_i56_sroa_12_0_sroa_idx;
-    P v_9_i56_sroa_13_0_sroa_idx;
-    P v_9_i56_sroa_14_0_sroa_idx;
-    P v_9_i56_sroa_15_0_sroa_idx;
-    P v_9_i56_sroa_16_0_sroa_idx;
-    P v_9_i56_sroa_17_0_sroa_idx;
-    u64 v_writer_i_i_sroa_12_1;
-    u16 v_23_i_i;
+    P v_9_i61_sroa_4_0_sroa_idx;
+    P v_9_i61_sroa_5_0_sroa_idx;
+    P v_9_i61_sroa_6_0_sroa_idx;
+    P v_9_i61_sroa_7_0_sroa_idx;
+    P v_9_i61_sroa_8_0_sroa_idx;
+    P v_9_i61_sroa_9_0_sroa_idx;
+    P v_9_i61_sroa_10_0_sroa_idx;
+    P v_9_i61_sroa_11_0_sroa_idx;
+    P v_9_i61_sroa_12_0_sroa_idx;
+    P v_9_i61_sroa_13_0_sroa_idx;
+    P v_9_i61_sroa_14_0_sroa_idx;
+    P v_9_i61_sroa_15_0_sroa_idx;
+    P v_9_i61_sroa_16_0_sroa_idx;
+    P v_9_i61_sroa_17_0_sroa_idx;
+    u64 v_writer_i_i_sroa_14_1;
+    u64 v_start1_i17_i_i;
     u1 v_8_not_i18_i_i;
     u1 v_15_not_i21_i_i;
     P v_53;
-    P v_54;
+    u16 v_54;
     u16 v_22_i_i_sroa_0_sroa_4_0_insert_shift;
     u16 v_22_i_i_sroa_0_sroa_0_0_insert_insert;
+    u1 v_8_not_i_i_i;
+    u64 v_start1_i_i_i;
+    u1 v_15_not_i_i_i;
+    u64 v_9_i136_i;
     u64 v_len_i140_i;
     u1 v_16_i141_i;
     u64 v_start1_i32_i153_i;
@@ -29688,384 +27306,680 @@ static u32 f_pss_write_others(P v_params, P v_out_0, u64 v_out_1, P v_len) {
     P v_salt1_i_sroa_6_0_sroa_idx;
     P v_salt1_i_sroa_7_0_sroa_idx;
     P v_salt1_i_sroa_8_0_sroa_idx;
-    u64 v_start1_i5_i39;
-    u1 v_15_not_i9_i43;
+    u1 v_15_not_i9_i48;
+    u64 v_start1_i5_i44;
     P v_56;
-    P v_9_i34_sroa_4_0_sroa_idx;
-    P v_9_i34_sroa_5_0_sroa_idx;
-    P v_9_i34_sroa_6_0_sroa_idx;
-    P v_9_i34_sroa_7_0_sroa_idx;
-    P v_9_i34_sroa_8_0_sroa_idx;
-    P v_9_i34_sroa_9_0_sroa_idx;
-    P v_9_i34_sroa_10_0_sroa_idx;
-    P v_9_i34_sroa_11_0_sroa_idx;
-    P v_9_i34_sroa_12_0_sroa_idx;
-    P v_9_i34_sroa_13_0_sroa_idx;
-    P v_9_i34_sroa_14_0_sroa_idx;
-    P v_9_i34_sroa_15_0_sroa_idx;
-    P v_9_i34_sroa_16_0_sroa_idx;
-    P v_9_i34_sroa_17_0_sroa_idx;
-    P v_9_i34_sroa_18_0_sroa_idx;
-    P v_9_i34_sroa_19_0_sroa_idx;
-    P v_9_i34_sroa_20_0_sroa_idx;
-    P v_9_i34_sroa_21_0_sroa_idx;
-    P v_9_i34_sroa_22_0_sroa_idx;
-    P v_9_i34_sroa_23_0_sroa_idx;
-    P v_9_i34_sroa_24_0_sroa_idx;
-    P v_9_i34_sroa_25_0_sroa_idx;
-    P v_9_i34_sroa_26_0_sroa_idx;
-    P v_9_i34_sroa_27_0_sroa_idx;
-    P v_9_i34_sroa_28_0_sroa_idx;
-    P v_9_i34_sroa_29_0_sroa_idx;
-    P v_9_i34_sroa_30_0_sroa_idx;
-    u64 v_writer_i127_i_sroa_12_0;
-    u64 v_start1_i5_i104;
-    u1 v_8_not_i6_i105;
-    u1 v_15_not_i9_i108;
+    P v_9_i39_sroa_4_0_sroa_idx;
+    P v_9_i39_sroa_5_0_sroa_idx;
+    P v_9_i39_sroa_6_0_sroa_idx;
+    P v_9_i39_sroa_7_0_sroa_idx;
+    P v_9_i39_sroa_8_0_sroa_idx;
+    P v_9_i39_sroa_9_0_sroa_idx;
+    P v_9_i39_sroa_10_0_sroa_idx;
+    P v_9_i39_sroa_11_0_sroa_idx;
+    P v_9_i39_sroa_12_0_sroa_idx;
+    P v_9_i39_sroa_13_0_sroa_idx;
+    P v_9_i39_sroa_14_0_sroa_idx;
+    P v_9_i39_sroa_15_0_sroa_idx;
+    P v_9_i39_sroa_16_0_sroa_idx;
+    P v_9_i39_sroa_17_0_sroa_idx;
+    P v_9_i39_sroa_18_0_sroa_idx;
+    P v_9_i39_sroa_19_0_sroa_idx;
+    P v_9_i39_sroa_20_0_sroa_idx;
+    P v_9_i39_sroa_21_0_sroa_idx;
+    P v_9_i39_sroa_22_0_sroa_idx;
+    P v_9_i39_sroa_23_0_sroa_idx;
+    P v_9_i39_sroa_24_0_sroa_idx;
+    P v_9_i39_sroa_25_0_sroa_idx;
+    P v_9_i39_sroa_26_0_sroa_idx;
+    P v_9_i39_sroa_27_0_sroa_idx;
+    P v_9_i39_sroa_28_0_sroa_idx;
+    P v_9_i39_sroa_29_0_sroa_idx;
+    P v_9_i39_sroa_30_0_sroa_idx;
+    u64 v_writer_i127_i_sroa_14_0;
+    u64 v_start1_i5_i109;
+    u1 v_8_not_i6_i110;
+    u1 v_15_not_i9_i113;
     P v_57;
-    P v_9_i99_sroa_4_0_sroa_idx;
-    P v_9_i99_sroa_5_0_sroa_idx;
-    P v_9_i99_sroa_6_0_sroa_idx;
-    P v_9_i99_sroa_7_0_sroa_idx;
-    P v_9_i99_sroa_8_0_sroa_idx;
-    P v_9_i99_sroa_9_0_sroa_idx;
-    P v_9_i99_sroa_10_0_sroa_idx;
-    P v_9_i99_sroa_11_0_sroa_idx;
-    P v_9_i99_sroa_12_0_sroa_idx;
-    P v_9_i99_sroa_13_0_sroa_idx;
-    P v_9_i99_sroa_14_0_sroa_idx;
-    P v_9_i99_sroa_15_0_sroa_idx;
-    P v_9_i99_sroa_16_0_sroa_idx;
-    P v_9_i99_sroa_17_0_sroa_idx;
-    u64 v_writer_i127_i_sroa_12_1;
-    u16 v_58;
+    P v_9_i104_sroa_4_0_sroa_idx;
+    P v_9_i104_sroa_5_0_sroa_idx;
+    P v_9_i104_sroa_6_0_sroa_idx;
+    P v_9_i104_sroa_7_0_sroa_idx;
+    P v_9_i104_sroa_8_0_sroa_idx;
+    P v_9_i104_sroa_9_0_sroa_idx;
+    P v_9_i104_sroa_10_0_sroa_idx;
+    P v_9_i104_sroa_11_0_sroa_idx;
+    P v_9_i104_sroa_12_0_sroa_idx;
+    P v_9_i104_sroa_13_0_sroa_idx;
+    P v_9_i104_sroa_14_0_sroa_idx;
+    P v_9_i104_sroa_15_0_sroa_idx;
+    P v_9_i104_sroa_16_0_sroa_idx;
+    P v_9_i104_sroa_17_0_sroa_idx;
+    u64 v_writer_i127_i_sroa_14_1;
+    u64 v_start1_i17_i172_i;
     u1 v_8_not_i18_i173_i;
     u1 v_15_not_i21_i176_i;
-    P v_59;
-    P v_60;
-    u16 v_23_i168_i;
+    P v_58;
+    u16 v_59;
+    u16 v_22_i126_i_sroa_0_sroa_4_0_insert_shift;
     u16 v_22_i126_i_sroa_0_sroa_0_0_insert_insert;
+    u1 v_8_not_i_i191_i;
+    u64 v_start1_i_i190_i;
+    u1 v_15_not_i_i194_i;
+    u64 v_9_i_i;
     u64 v_len_i41_i;
     u1 v_16_i42_i;
     u64 v_start1_i32_i_i;
-    P v_61;
+    P v_60;
     P v_salt_i_sroa_4_0_sroa_idx;
     P v_salt_i_sroa_5_0_sroa_idx;
     P v_salt_i_sroa_6_0_sroa_idx;
     P v_salt_i_sroa_7_0_sroa_idx;
-    u64 v_start1_i5_i17;
-    u1 v_15_not_i9_i21;
+    u1 v_15_not_i9_i26;
+    u64 v_start1_i5_i22;
+    P v_61;
+    P v_9_i17_sroa_4_0_sroa_idx;
+    P v_9_i17_sroa_5_0_sroa_idx;
+    P v_9_i17_sroa_6_0_sroa_idx;
+    P v_9_i17_sroa_7_0_sroa_idx;
+    P v_9_i17_sroa_8_0_sroa_idx;
+    P v_9_i17_sroa_9_0_sroa_idx;
+    P v_9_i17_sroa_10_0_sroa_idx;
+    P v_9_i17_sroa_11_0_sroa_idx;
+    P v_9_i17_sroa_12_0_sroa_idx;
+    P v_9_i17_sroa_13_0_sroa_idx;
+    P v_9_i17_sroa_14_0_sroa_idx;
+    P v_9_i17_sroa_15_0_sroa_idx;
+    P v_9_i17_sroa_16_0_sroa_idx;
+    P v_9_i17_sroa_17_0_sroa_idx;
+    P v_9_i17_sroa_18_0_sroa_idx;
+    P v_9_i17_sroa_19_0_sroa_idx;
+    P v_9_i17_sroa_20_0_sroa_idx;
+    P v_9_i17_sroa_21_0_sroa_idx;
+    P v_9_i17_sroa_22_0_sroa_idx;
+    P v_9_i17_sroa_23_0_sroa_idx;
+    P v_9_i17_sroa_24_0_sroa_idx;
+    P v_9_i17_sroa_25_0_sroa_idx;
+    P v_9_i17_sroa_26_0_sroa_idx;
+    P v_9_i17_sroa_27_0_sroa_idx;
+    P v_9_i17_sroa_28_0_sroa_idx;
+    P v_9_i17_sroa_29_0_sroa_idx;
+    P v_9_i17_sroa_30_0_sroa_idx;
+    u64 v_writer_i29_i_sroa_14_0;
+    u64 v_start1_i5_i87;
+    u1 v_8_not_i6_i88;
+    u1 v_15_not_i9_i91;
     P v_62;
-    P v_9_i12_sroa_4_0_sroa_idx;
-    P v_9_i12_sroa_5_0_sroa_idx;
-    P v_9_i12_sroa_6_0_sroa_idx;
-    P v_9_i12_sroa_7_0_sroa_idx;
-    P v_9_i12_sroa_8_0_sroa_idx;
-    P v_9_i12_sroa_9_0_sroa_idx;
-    P v_9_i12_sroa_10_0_sroa_idx;
-    P v_9_i12_sroa_11_0_sroa_idx;
-    P v_9_i12_sroa_12_0_sroa_idx;
-    P v_9_i12_sroa_13_0_sroa_idx;
-    P v_9_i12_sroa_14_0_sroa_idx;
-    P v_9_i12_sroa_15_0_sroa_idx;
-    P v_9_i12_sroa_16_0_sroa_idx;
-    P v_9_i12_sroa_17_0_sroa_idx;
-    P v_9_i12_sroa_18_0_sroa_idx;
-    P v_9_i12_sroa_19_0_sroa_idx;
-    P v_9_i12_sroa_20_0_sroa_idx;
-    P v_9_i12_sroa_21_0_sroa_idx;
-    P v_9_i12_sroa_22_0_sroa_idx;
-    P v_9_i12_sroa_23_0_sroa_idx;
-    P v_9_i12_sroa_24_0_sroa_idx;
-    P v_9_i12_sroa_25_0_sroa_idx;
-    P v_9_i12_sroa_26_0_sroa_idx;
-    P v_9_i12_sroa_27_0_sroa_idx;
-    P v_9_i12_sroa_28_0_sroa_idx;
-    P v_9_i12_sroa_29_0_sroa_idx;
-    P v_9_i12_sroa_30_0_sroa_idx;
-    u64 v_writer_i29_i_sroa_12_0;
-    u64 v_start1_i5_i82;
-    u1 v_8_not_i6_i83;
-    u1 v_15_not_i9_i86;
-    P v_63;
-    P v_9_i77_sroa_4_0_sroa_idx;
-    P v_9_i77_sroa_5_0_sroa_idx;
-    P v_9_i77_sroa_6_0_sroa_idx;
-    P v_9_i77_sroa_7_0_sroa_idx;
-    P v_9_i77_sroa_8_0_sroa_idx;
-    P v_9_i77_sroa_9_0_sroa_idx;
-    P v_9_i77_sroa_10_0_sroa_idx;
-    P v_9_i77_sroa_11_0_sroa_idx;
-    P v_9_i77_sroa_12_0_sroa_idx;
-    P v_9_i77_sroa_13_0_sroa_idx;
-    P v_9_i77_sroa_14_0_sroa_idx;
-    P v_9_i77_sroa_15_0_sroa_idx;
-    P v_9_i77_sroa_16_0_sroa_idx;
-    P v_9_i77_sroa_17_0_sroa_idx;
-    u64 v_writer_i29_i_sroa_12_1;
-    u16 v_64;
+    P v_9_i82_sroa_4_0_sroa_idx;
+    P v_9_i82_sroa_5_0_sroa_idx;
+    P v_9_i82_sroa_6_0_sroa_idx;
+    P v_9_i82_sroa_7_0_sroa_idx;
+    P v_9_i82_sroa_8_0_sroa_idx;
+    P v_9_i82_sroa_9_0_sroa_idx;
+    P v_9_i82_sroa_10_0_sroa_idx;
+    P v_9_i82_sroa_11_0_sroa_idx;
+    P v_9_i82_sroa_12_0_sroa_idx;
+    P v_9_i82_sroa_13_0_sroa_idx;
+    P v_9_i82_sroa_14_0_sroa_idx;
+    P v_9_i82_sroa_15_0_sroa_idx;
+    P v_9_i82_sroa_16_0_sroa_idx;
+    P v_9_i82_sroa_17_0_sroa_idx;
+    u64 v_writer_i29_i_sroa_14_1;
+    u64 v_start1_i17_i72_i;
     u1 v_8_not_i18_i73_i;
     u1 v_15_not_i21_i76_i;
-    P v_65;
-    P v_66;
-    u16 v_23_i68_i;
+    P v_63;
+    u16 v_64;
+    u16 v_22_i28_i_sroa_0_sroa_4_0_insert_shift;
     u16 v_22_i28_i_sroa_0_sroa_0_0_insert_insert;
+    u1 v_8_not_i_i91_i;
+    u64 v_start1_i_i90_i;
+    u1 v_15_not_i_i94_i;
+    P v_18_0_i_i;
+    P v_65;
+    u64 v_18_1_i_i;
+    u64 v_66;
+    u1 v_or_cond_i23_i;
     P v_67;
+    u8 v_11_i27_i;
+    u1 v_10_i28_i;
+    u1 v_911_not_i_i;
+    u8 v_5_peel_i_i;
     u1 v_68;
-    u64 v_0_sroa_5_0_i;
-    u64 v_0_sroa_5_0_i_ph;
-    u32 v_0_sroa_0_0;
-    P v_6_i46_i;
+    u1 v_exitcond_peel_not_i_i;
+    u64 v_iter_sroa_0_012_i_i;
+    u64 v_0_i_i_i;
     P v_69;
-    u8 v_9_i_i159;
-    P v_70;
+    u8 v_5_i_i;
+    u1 v_70;
+    u64 v_4_i3_i_i;
+    u1 v_6_i4_i_i;
+    u64 v_4_i3_i_i_lcssa;
     P v_71;
+    u8 v_3_i7_i_i;
     u1 v_72;
-    P v_0_0_i_i_i;
+    u1 v_exitcond_not_i_i;
+    P v_octets_0_tr_i_i;
+    u64 v_octets_1_tr_i_i;
+    u1 v_3_i37_i;
+    u1 v_5_i39_i;
+    u8 v_27_i44_i;
+    u1 v_26_i45_i;
     P v_73;
-    u64 v_0_1_i_i_i;
-    u1 v_74;
-    u8 v_75;
-    u1 v_76;
-    P v_77;
-    u8 v_78;
-    u1 v_79;
-    P v_80;
-    u8 v_81;
-    u1 v_82;
-    P v_83;
-    u8 v_84;
-    u1 v_85;
-    P v_86;
-    u8 v_10_i_i162;
-    u1 v_6_i47_i;
-    P v_8_sroa_3_0_sroa_idx_i_i;
-    u64 v_8_sroa_3_0_copyload_i_i;
-    P v_8_sroa_4_0_sroa_idx_i_i;
-    u64 v_8_sroa_4_0_copyload_i_i;
-    u64 v_87;
-    u1 v_88;
-    u1 v_89;
-    u1 v_0_sroa_0_1_i_i;
-    u1 v_0_sroa_0_0_shrunk_i_i_i;
-    u1 v_3_i_i;
-    u8 v_2_i_i;
-    P v_90;
-    P v_91;
-    u1 v_92;
-    P v_0_0_i_i;
-    P v_93;
-    u64 v_0_1_i_i;
-    u1 v_94;
-    u8 v_21_i_i;
-    u1 v_20_i_i;
-    P v_95;
-    u8 v_23_i_i180;
-    u1 v_22_i_i181;
-    u1 v_19_i_i;
-    P v_96;
-    u8 v_25_i_i;
-    u1 v_24_i_i;
-    u1 v_18_i_i;
-    P v_97;
-    u8 v_27_i_i;
-    u1 v_26_i_i;
-    u1 v_17_i_i;
-    P v_98;
     u8 v_29_i_i;
-    u1 v_28_i_i;
-    u1 v_16_i_i182;
-    P v_99;
+    u1 v_28_i46_i;
+    u1 v_25_i_i;
+    P v_74;
     u8 v_31_i_i;
     u1 v_30_i_i;
-    u1 v_15_i_i;
-    P v_100;
+    u1 v_24_i_i;
+    P v_75;
     u8 v_33_i_i;
     u1 v_32_i_i;
-    u1 v_14_i_i;
-    P v_101;
-    u8 v_35_i_i;
+    u1 v_23_i_i209;
+    P v_76;
+    u8 v_35_i47_i;
     u1 v_34_i_i;
-    u1 v_front_i_i;
+    u1 v_22_i_i210;
+    P v_77;
+    u8 v_37_i_i;
+    u1 v_36_i_i;
+    u1 v_21_i_i;
+    P v_78;
+    u8 v_39_i_i;
+    u1 v_38_i_i211;
+    u1 v_20_i_i;
+    P v_79;
+    u8 v_41_i48_i;
+    u1 v_40_i_i;
+    u1 v_eight_i_i;
+    u1 v_9_not_i_i;
+    u8 v_51_i_i;
+    u1 v_50_i_i;
+    P v_80;
+    u8 v_53_i_i208;
+    u1 v_52_i_i;
+    u1 v_49_i_i;
+    P v_81;
+    u8 v_55_i_i;
+    u1 v_54_i_i;
+    u1 v_48_i_i;
+    P v_82;
+    u8 v_57_i_i;
+    u1 v_56_i_i;
+    u1 v_four_i_i;
+    u8 v_60_i_i;
+    u1 v_83;
+    u64 v_sink10_i_i;
+    u64 v_sink_i_i;
+    u64 v_later_1_i_i;
+    P v_later_0_i_i;
+    P v_84;
+    u8 v_85;
+    u1 v_7_i_i;
+    P v_86;
+    u8 v_10_i_i206;
+    u8 v_28_i_i;
+    u1 v_87;
+    u8 v_88;
+    u1 v_89;
+    u1 v_or_cond3_i_i;
+    P v_90;
+    u64 v_19_1_i_i;
+    u1 v_35_i_i;
+    P v_91;
+    P v_19_0_i_i;
+    u64 v_41_i_i;
+    u8 v_39_sroa_4_sroa_0_0_extract_trunc_i_i;
+    u64 v_39_sroa_4_sroa_4_0_extract_shift_i_i;
+    u16 v_39_sroa_4_sroa_4_0_extract_trunc_i_i;
+    u64 v_39_sroa_4_sroa_5_0_extract_shift_i_i;
+    u64 v_39_sroa_4_sroa_5_0_extract_trunc_i_i;
+    u64 v_parameters_sroa_6_sroa_5_0_i_i;
+    u64 v_parameters_sroa_6_sroa_6_0_i_i;
+    u8 v_parameters_sroa_6_sroa_0_sroa_0_0_i_i;
+    P v_parameters_sroa_0_0_i_i;
+    u16 v_parameters_sroa_6_sroa_0_sroa_5_0_i_i;
+    P v_9_i196;
+    P v_15_0_i_i;
+    P v_92;
+    u64 v_15_1_i_i;
+    u64 v_93;
+    u1 v_or_cond_i13_i;
+    P v_94;
+    u8 v_11_i17_i;
+    u1 v_10_i18_i;
+    u1 v_911_not_i49_i;
+    u8 v_5_peel_i51_i;
+    u1 v_95;
+    u1 v_exitcond_peel_not_i53_i;
+    u64 v_iter_sroa_0_012_i55_i;
+    u64 v_0_i_i56_i;
+    P v_96;
+    u8 v_5_i57_i;
+    u1 v_97;
+    u64 v_4_i3_i65_i;
+    u1 v_6_i4_i66_i;
+    u64 v_4_i3_i65_i_lcssa;
+    P v_98;
+    u8 v_3_i7_i69_i;
+    u1 v_99;
+    u1 v_exitcond_not_i59_i;
+    P v_octets_0_tr_i72_i;
+    u64 v_octets_1_tr_i73_i;
+    u1 v_3_i74_i;
+    u1 v_5_i76_i;
+    u8 v_27_i101_i;
+    u1 v_26_i102_i;
+    P v_100;
+    u8 v_29_i103_i;
+    u1 v_28_i104_i;
+    u1 v_25_i105_i;
+    P v_101;
+    u8 v_31_i106_i;
+    u1 v_30_i107_i;
+    u1 v_24_i108_i;
     P v_102;
-    u8 v_36_i_i;
-    u1 v_103;
+    u8 v_33_i109_i;
+    u1 v_32_i110_i;
+    u1 v_23_i111_i;
+    P v_103;
+    u8 v_35_i112_i;
+    u1 v_34_i113_i;
+    u1 v_22_i114_i;
     P v_104;
+    u8 v_37_i115_i;
+    u1 v_36_i116_i;
+    u1 v_21_i117_i;
     P v_105;
-    u1 v_106;
+    u8 v_39_i118_i;
+    u1 v_38_i119_i;
+    u1 v_20_i120_i;
+    P v_106;
+    u8 v_41_i121_i;
+    u1 v_40_i122_i;
+    u1 v_eight_i123_i;
+    u1 v_9_not_i78_i;
+    u8 v_51_i89_i;
+    u1 v_50_i90_i;
     P v_107;
-    u64 v_0_1_i_i_i184;
-    u1 v_108;
-    u1 v_or_cond_i;
-    u8 v_109;
+    u8 v_53_i91_i;
+    u1 v_52_i92_i;
+    u1 v_49_i93_i;
+    P v_108;
+    u8 v_55_i94_i;
+    u1 v_54_i95_i;
+    u1 v_48_i96_i;
+    P v_109;
+    u8 v_57_i97_i;
+    u1 v_56_i98_i;
+    u1 v_four_i99_i;
+    u8 v_60_i80_i;
     u1 v_110;
+    u64 v_sink10_i82_i;
+    u64 v_sink_i83_i;
+    u64 v_later_1_i84_i;
+    P v_later_0_i85_i;
     P v_111;
     u8 v_112;
-    u1 v_113;
-    P v_114;
-    u8 v_115;
+    u1 v_7_i6_i;
+    P v_10_i8_i;
+    P v_18_0_i_i_i;
+    P v_113;
+    u64 v_18_1_i_i_i;
+    u64 v_114;
+    u1 v_or_cond_i_i;
+    P v_115;
+    u8 v_11_i_i;
+    u1 v_10_i10_i;
+    u1 v_911_not_i125_i;
+    u8 v_5_peel_i127_i;
     u1 v_116;
+    u1 v_exitcond_peel_not_i129_i;
+    u64 v_iter_sroa_0_012_i131_i;
+    u64 v_0_i_i132_i;
     P v_117;
-    u8 v_118;
-    u1 v_119;
-    P v_120;
-    u8 v_10_i_i190;
-    u1 v_6_i_i191;
-    P v_8_sroa_3_0_sroa_idx_i_i193;
-    u64 v_8_sroa_3_0_copyload_i_i194;
-    P v_8_sroa_4_0_sroa_idx_i_i195;
-    u64 v_8_sroa_4_0_copyload_i_i196;
-    u64 v_121;
-    u1 v_122;
-    u1 v_123;
-    u1 v_0_sroa_0_1_i_i197;
-    u1 v_0_sroa_0_0_i178;
-    u1 v_3_i4_i;
-    u8 v_2_i5_i;
+    u8 v_5_i133_i;
+    u1 v_118;
+    u64 v_4_i3_i141_i;
+    u1 v_6_i4_i142_i;
+    u64 v_4_i3_i141_i_lcssa;
+    P v_119;
+    u8 v_3_i7_i145_i;
+    u1 v_120;
+    u1 v_exitcond_not_i135_i;
+    P v_octets_0_tr_i148_i;
+    u64 v_octets_1_tr_i149_i;
+    u1 v_3_i150_i;
+    u1 v_5_i152_i;
+    u8 v_27_i177_i;
+    u1 v_26_i178_i;
+    P v_121;
+    u8 v_29_i179_i;
+    u1 v_28_i180_i;
+    u1 v_25_i181_i;
+    P v_122;
+    u8 v_31_i182_i;
+    u1 v_30_i183_i;
+    u1 v_24_i184_i;
+    P v_123;
+    u8 v_33_i185_i;
+    u1 v_32_i186_i;
+    u1 v_23_i187_i;
+    P v_124;
+    u8 v_35_i188_i;
+    u1 v_34_i189_i;
+    u1 v_22_i190_i;
+    P v_125;
+    u8 v_37_i191_i;
+    u1 v_36_i192_i;
+    u1 v_21_i193_i;
+    P v_126;
+    u8 v_39_i194_i;
+    u1 v_38_i195_i;
+    u1 v_20_i196_i;
+    P v_127;
+    u8 v_41_i197_i;
+    u1 v_40_i198_i;
+    u1 v_eight_i199_i;
+    u1 v_9_not_i154_i;
+    u8 v_51_i165_i;
+    u1 v_50_i166_i;
+    P v_128;
+    u8 v_53_i167_i;
+    u1 v_52_i168_i;
+    u1 v_49_i169_i;
+    P v_129;
+    u8 v_55_i170_i;
+    u1 v_54_i171_i;
+    u1 v_48_i172_i;
+    P v_130;
+    u8 v_57_i173_i;
+    u1 v_56_i174_i;
+    u1 v_four_i175_i;
+    u8 v_60_i156_i;
+    u1 v_131;
+    u64 v_sink10_i158_i;
+    u64 v_sink_i159_i;
+    u64 v_later_1_i160_i;
+    P v_later_0_i161_i;
+    P v_132;
+    u8 v_133;
+    u1 v_7_i_i_i200;
+    P v_134;
+    u8 v_10_i_i_i202;
+    u8 v_28_i_i_i203;
+    u1 v_135;
+    u8 v_136;
+    u1 v_137;
+    u1 v_or_cond3_i_i_i;
+    P v_138;
+    u64 v_19_1_i_i_i;
+    u1 v_35_i_i_i204;
+    P v_139;
+    P v_19_0_i_i_i;
+    u64 v_41_i_i_i;
+    u8 v_39_sroa_4_sroa_0_0_extract_trunc_i_i_i;
+    u64 v_39_sroa_4_sroa_4_0_extract_shift_i_i_i;
+    u16 v_39_sroa_4_sroa_4_0_extract_trunc_i_i_i;
+    u64 v_39_sroa_4_sroa_5_0_extract_shift_i_i_i;
+    u64 v_39_sroa_4_sroa_5_0_extract_trunc_i_i_i;
+    u64 v_parameters_sroa_6_sroa_5_0_i_i_i;
+    u64 v_parameters_sroa_6_sroa_6_0_i_i_i;
+    u8 v_parameters_sroa_6_sroa_0_sroa_0_0_i_i_i;
+    P v_parameters_sroa_0_0_i_i_i;
+    u16 v_parameters_sroa_6_sroa_0_sroa_5_0_i_i_i;
+    u32 v_140;
+    P v_141;
+    u8 v_parameters_sroa_6_i_sroa_7_0_i;
+    u16 v_parameters_sroa_6_i_sroa_8_0_i;
+    u64 v_parameters_sroa_6_i_sroa_9_0_i;
+    u64 v_8_sroa_4_0_copyload_i_i646;
+    u32 v_parameters_sroa_6_i_sroa_0_sroa_0_0_i;
+    P v_142;
+    u32 v_8_sroa_7_sroa_0_0_extract_trunc_i;
+    P v_143;
+    u8 v_17_i;
+    P v_5_i_sroa_8_0_made_i_sroa_idx;
+    u32 v_144;
+    P v_5_i_sroa_14_0_made_i_sroa_idx;
+    P v_5_i_sroa_15_0_made_i_sroa_idx;
+    P v_5_i_sroa_16_0_made_i_sroa_idx;
+    P v_5_i_sroa_17_0_made_i_sroa_idx;
+    P v_5_i_sroa_18_0_made_i_sroa_idx;
+    P v_5_i_sroa_19_0_made_i_sroa_idx;
+    P v_5_i_sroa_20_0_made_i_sroa_idx;
+    P v_5_i_sroa_21_0_made_i_sroa_idx;
+    P v_5_i_sroa_22_0_made_i_sroa_idx;
+    P v_5_i_sroa_23_0_made_i_sroa_idx;
+    P v_5_i_sroa_24_0_made_i_sroa_idx;
+    P v_5_i_sroa_25_0_made_i_sroa_idx;
+    P v_5_i_sroa_26_0_made_i_sroa_idx;
+    P v_5_i_sroa_27_0_made_i_sroa_idx;
+    P v_5_i_sroa_28_0_made_i_sroa_idx;
+    P v_5_i_sroa_29_0_made_i_sroa_idx;
+    P v_5_i_sroa_30_0_made_i_sroa_idx;
+    P v_5_i_sroa_31_0_made_i_sroa_idx;
+    u1 v_145;
+    u64 v_0_1_i_i_i;
+    u1 v_146;
+    u1 v_or_cond733;
+    u8 v_147;
+    u1 v_148;
+    P v_149;
+    u8 v_150;
+    u1 v_151;
+    P v_152;
+    u8 v_153;
+    u1 v_154;
+    P v_155;
+    u8 v_156;
+    u1 v_157;
+    P v_158;
+    u8 v_10_i_i252;
+    u1 v_6_i47_i;
+    u64 v_8_sroa_3_0_copyload_i_i;
+    u64 v_159;
+    u1 v_160;
+    u1 v_161;
+    u1 v_0_sroa_0_1_i_i;
+    u1 v_0_sroa_0_0_shrunk_i_i_i229;
+    u1 v_3_i_i230;
+    u8 v_2_i_i231;
+    u1 v_162;
+    u64 v_0_1_i_i604;
+    u1 v_163;
+    u1 v_or_cond735;
+    u8 v_21_i_i608;
+    u1 v_20_i_i609;
+    P v_164;
+    u8 v_23_i_i610;
+    u1 v_22_i_i611;
+    u1 v_19_i_i612;
+    P v_165;
+    u8 v_25_i_i613;
+    u1 v_24_i_i614;
+    u1 v_18_i_i615;
+    P v_166;
+    u8 v_27_i_i616;
+    u1 v_26_i_i617;
+    u1 v_17_i_i618;
+    P v_167;
+    u8 v_29_i_i619;
+    u1 v_28_i_i620;
+    u1 v_16_i_i621;
+    P v_168;
+    u8 v_31_i_i622;
+    u1 v_30_i_i623;
+    u1 v_15_i_i624;
+    P v_169;
+    u8 v_33_i_i625;
+    u1 v_32_i_i626;
+    u1 v_14_i_i627;
+    P v_170;
+    u8 v_35_i_i628;
+    u1 v_34_i_i629;
+    u1 v_front_i_i630;
+    P v_171;
+    u8 v_36_i_i632;
+    u1 v_172;
+    u1 v_173;
+    u64 v_0_1_i_i_i634;
+    u1 v_174;
+    u1 v_or_cond_i;
+    u8 v_175;
+    u1 v_176;
+    P v_177;
+    u8 v_178;
+    u1 v_179;
+    P v_180;
+    u8 v_181;
+    u1 v_182;
+    P v_183;
+    u8 v_184;
+    u1 v_185;
+    P v_186;
+    u8 v_10_i_i640;
+    u1 v_6_i_i641;
+    u64 v_8_sroa_3_0_copyload_i_i644;
+    u64 v_187;
+    u1 v_188;
+    u1 v_189;
+    u1 v_0_sroa_0_1_i_i647;
+    u1 v_0_sroa_0_0_i606;
+    u1 v_3_i4_i232;
+    u8 v_2_i5_i233;
     u1 v_not_i;
-    u8 v_6_i8_i;
-    u8 v_0_i9_i;
-    u8 v_6_i_i;
-    u8 v_0_i_i;
+    u8 v_6_i8_i234;
+    u8 v_0_i9_i235;
+    u8 v_6_i_i236;
+    u8 v_0_i_i237;
     u1 v_29_i_i578_i_i_i;
     u64 v_i_i579_i_i_i;
     u1 v_29_i_i712_i_i_i;
     u64 v_i_i713_i_i_i;
-    u64 v_124;
-    P v_125;
-    u64 v_0_1_i97_i_i49_i_i_i;
-    P v_126;
+    u64 v_190;
+    u1 v_191;
     u64 v_0_1_i95_i_i53_i_i_i;
-    P v_127;
-    P v_128;
-    u1 v_129;
-    P v_130;
+    u1 v_192;
     u64 v_4_1_i89_i_i56_i_i_i;
     u1 v_5_i90_i_i57_i_i_i;
-    u64 v_131;
+    u64 v_193;
     u64 v_0_sroa_0_0_i91_i_i58_i_i_i;
     u64 v_10_sroa_0_0_i59_i_i60_i_i_i;
     u64 v_0_i102_i_i62_i_i_i;
     u1 v_3_i_i61_i_i63_i_i_i;
     u64 v_0_sroa_0_0_i_i62_i_i64_i_v_i_i;
     u64 v_0_sroa_0_0_i_i62_i_i64_i_i_i;
-    u64 v_132;
+    u64 v_194;
     u1 v_3_i_i_i_i65_i_i_i;
     u1 v_4_i_i_i_i67_i_i_i;
-    u64 v_133;
+    u64 v_195;
     u1 v_5_i_i_i_i69_i_i_i;
-    u64 v_134;
+    u64 v_196;
     u1 v_6_i_i_i_i71_i_i_i;
-    u64 v_135;
-    u64 v_136;
-    u64 v_137;
+    u64 v_197;
+    u64 v_198;
+    u64 v_199;
     u64 v_10_sroa_0_0_i_i_i76_i_i_i;
     u64 v_0_i104_i_i78_i_i_i;
     u1 v_3_i2_i_i_i79_i_i_i;
     u64 v_0_sroa_0_0_i3_i_i_i80_i_v_i_i;
     u64 v_0_sroa_0_0_i3_i_i_i80_i_i_i;
-    u64 v_138;
+    u64 v_200;
     u1 v_3_i_i_i81_i_i_i;
     u1 v_4_i_i_i83_i_i_i;
     u1 v_5_i_i_i85_i_i_i;
     u1 v_6_i_i_i87_i_i_i;
     u64 v_i_i;
-    u64 v_sink_i_i;
-    u64 v_139;
+    u64 v_sink_i_i246;
+    u64 v_201;
     u1 v_29_i_i311_i_i_i;
     u64 v_i_i312_i_i_i;
     u1 v_29_i_i444_i_i_i;
     u64 v_i_i445_i_i_i;
-    u64 v_140;
-    P v_141;
-    u64 v_0_1_i97_i_i182_i_i_i;
-    P v_142;
+    u64 v_202;
+    u1 v_203;
     u64 v_0_1_i95_i_i186_i_i_i;
-    P v_143;
-    P v_144;
-    u1 v_145;
-    P v_146;
+    u1 v_204;
     u64 v_4_1_i89_i_i189_i_i_i;
     u1 v_5_i90_i_i190_i_i_i;
-    u64 v_147;
+    u64 v_205;
     u64 v_0_sroa_0_0_i91_i_i191_i_i_i;
     u64 v_10_sroa_0_0_i59_i_i193_i_i_i;
     u64 v_0_i102_i_i195_i_i_i;
     u1 v_3_i_i61_i_i196_i_i_i;
     u64 v_0_sroa_0_0_i_i62_i_i197_i_v_i_i;
     u64 v_0_sroa_0_0_i_i62_i_i197_i_i_i;
-    u64 v_148;
+    u64 v_206;
     u1 v_3_i_i_i_i198_i_i_i;
     u1 v_4_i_i_i_i200_i_i_i;
-    u64 v_149;
+    u64 v_207;
     u1 v_5_i_i_i_i202_i_i_i;
-    u64 v_150;
+    u64 v_208;
     u1 v_6_i_i_i_i204_i_i_i;
-    u64 v_151;
-    u64 v_152;
-    u64 v_153;
+    u64 v_209;
+    u64 v_210;
+    u64 v_211;
     u64 v_10_sroa_0_0_i_i_i209_i_i_i;
     u64 v_0_i104_i_i211_i_i_i;
     u1 v_3_i2_i_i_i212_i_i_i;
     u64 v_0_sroa_0_0_i3_i_i_i213_i_v_i_i;
     u64 v_0_sroa_0_0_i3_i_i_i213_i_i_i;
-    u64 v_154;
+    u64 v_212;
     u1 v_3_i_i_i214_i_i_i;
     u1 v_4_i_i_i216_i_i_i;
     u1 v_5_i_i_i218_i_i_i;
     u1 v_6_i_i_i220_i_i_i;
-    u64 v_56_i_i;
+    u64 v_56_i_i__2;
     u64 v_sink51_i_i;
-    u64 v_155;
+    u64 v_213;
     u1 v_31_i_i224_i_i_i;
-    u64 v_156;
+    u64 v_214;
     u64 v_spec_select19_i_i225_i_i_i;
-    u64 v_157;
+    u64 v_215;
     u64 v_0_sroa_0_0_i170_i_i_i;
-    P v_158;
-    u64 v_0_1_i93_i_i_i_i_i;
-    P v_159;
     u64 v_4_1_i86_i_i_i_i_i;
     u1 v_5_i87_i_i_i_i_i;
-    u64 v_160;
+    u64 v_216;
     u64 v_0_sroa_0_0_i88_i_i_i_i_i;
     u64 v_10_sroa_0_0_i69_i_i_i_i_i;
     u64 v_0_i100_i_i_i_i_i;
     u1 v_3_i_i70_i_i_i_i_i;
     u64 v_0_sroa_0_0_i_i71_i_i_i_v_i_i;
     u64 v_0_sroa_0_0_i_i71_i_i_i_i_i;
-    u64 v_161;
+    u64 v_217;
     u1 v_3_i36_i_i_i_i_i;
     u1 v_4_i38_i_i_i_i_i;
     u1 v_5_i40_i_i_i_i_i;
     u1 v_6_i42_i_i_i_i_i;
-    u64 v_57_i_i;
+    u64 v_57_i_i__2;
     u64 v_sink52_i_i;
-    u64 v_162;
+    u64 v_218;
     u64 v_sink55_i_i;
     u64 v_0_sroa_0_0_i705_i_sink_i_i;
     u1 v_31_i_i91_i_i_i;
-    u64 v_163;
+    u64 v_219;
     u64 v_spec_select19_i_i92_i_i_i;
-    u64 v_164;
+    u64 v_220;
     u1 v_6_i_i_i;
-    u1 v_7_i_i_i;
+    u1 v_7_i_i_i238;
     u64 v_0_sroa_0_0_i_i33_i_i;
-    u64 v_165;
+    u64 v_221;
     u1 v_8_i_i_i;
-    u64 v_166;
+    u64 v_222;
     u1 v_9_i_i_i;
-    u64 v_167;
-    u64 v_168;
-    u64 v_169;
-    u1 v_10_i_i_i;
-    u64 v_170;
+    u64 v_223;
+    u64 v_224;
+    u64 v_225;
+    u1 v_10_i_i_i241;
+    u64 v_226;
     u64 v_sroa_5_0_extract_shift_i_i_i;
     u1 v_trunc_i_i;
     u64 v_0_sroa_31_0_in_i50_i_i;
     u1 v_4_i_i_i;
-    P v_171;
-    P v_172;
+    P v_227;
+    P v_228;
     u64 v_15_1_i_i_i;
     u64 v_14_i_i225_i;
     u64 v_7_i5_i_i;
@@ -30076,8 +27990,8 @@ static u32 f_pss_write_others(P v_params, P v_out_0, u64 v_out_1, P v_len) {
     P v_48_0_i_i_i_i;
     u1 v_8_not_i_i_i_i_i;
     u1 v_15_not_i_i_i_i_i;
-    P v_173;
-    P v_174;
+    P v_229;
+    P v_230;
     u16 v_7_i_i_sroa_0_sroa_4_0_insert_shift_i_i;
     u16 v_7_i_i_sroa_0_sroa_0_0_insert_insert_i_i;
     u1 v_14_i_i_i_i;
@@ -30085,17 +27999,17 @@ static u32 f_pss_write_others(P v_params, P v_out_0, u64 v_out_1, P v_len) {
     P v_51_0_i_i_i_i;
     u1 v_8_not_i12_i_i_i_i;
     u1 v_15_not_i15_i_i_i_i;
-    P v_175;
-    P v_176;
+    P v_231;
+    P v_232;
     P v_12_i_i_sroa_4_0_sroa_idx_i_i;
     P v_12_i_i_sroa_5_0_sroa_idx_i_i;
     u1 v_22_i_i_i_i;
     P v_54_0_i_i_i_i;
     u1 v_8_not_i27_i_i_i_i;
     u1 v_15_not_i30_i_i_i_i;
-    P v_177;
-    P v_178;
-    u32 v_179;
+    P v_233;
+    P v_234;
+    u32 v_235;
     u32 v_17_i_i_sroa_0_sroa_0_0_insert_insert_i_i;
     u64 v_371_i_i_i_i;
     u8 v_36_i_i_i_i;
@@ -30107,8 +28021,8 @@ static u32 f_pss_write_others(P v_params, P v_out_0, u64 v_out_1, P v_len) {
     P v_60_0_i_i_i_i;
     u1 v_8_not_i57_i_i_i_i;
     u1 v_15_not_i60_i_i_i_i;
-    P v_180;
-    P v_181;
+    P v_236;
+    P v_237;
     P v_35_i_i_sroa_4_0_sroa_idx_i_i;
     P v_35_i_i_sroa_5_0_sroa_idx_i_i;
     P v_35_i_i_sroa_6_0_sroa_idx_i_i;
@@ -30122,33 +28036,547 @@ static u32 f_pss_write_others(P v_params, P v_out_0, u64 v_out_1, P v_len) {
     P v_57_0_i_i_i_i;
     u1 v_8_not_i42_i_i_i_i;
     u1 v_15_not_i45_i_i_i_i;
-    P v_182;
-    P v_183;
+    P v_238;
+    P v_239;
     P v_25_i_i_sroa_4_0_sroa_idx_i_i;
     P v_25_i_i_sroa_5_0_sroa_idx_i_i;
     P v_25_i_i_sroa_6_0_sroa_idx_i_i;
     P v_25_i_i_sroa_7_0_sroa_idx_i_i;
-    u32 v_185;
-    u64 v_186;
+    u32 v_241;
+    u64 v_242;
     u8 v_error_sroa_0_0_extract_trunc_i_i;
-    u32 v_0_sroa_0_1_i227_i;
-    P v_187;
-    u8 v_19_sroa_0_0_copyload;
-    u8 v_188;
-    u64 v_189;
-    u1 v_190;
-    u64 v_191;
-    u64 v_2_i;
-    u32 v_0_sroa_0_1;
+    u1 v_243;
+    u64 v_0_1_i_i;
+    u1 v_244;
+    u1 v_or_cond736;
+    u8 v_245;
+    u1 v_246;
+    P v_247;
+    u8 v_248;
+    u1 v_249;
+    P v_250;
+    u8 v_251;
+    u1 v_252;
+    P v_253;
+    u8 v_254;
+    u1 v_255;
+    P v_256;
+    u8 v_10_i262;
+    u1 v_6_i263;
+    u64 v_8_sroa_3_0_copyload_i;
+    u64 v_257;
+    u1 v_258;
+    u1 v_259;
+    u1 v_0_sroa_0_1_i265;
+    u1 v_0_sroa_0_0_shrunk_i_i_i;
+    u1 v_3_i_i;
+    u8 v_2_i_i;
+    u1 v_260;
+    u1 v_3_i4_i;
+    u8 v_2_i5_i;
+    u1 v_not737;
+    u8 v_6_i8_i;
+    u8 v_0_i9_i;
+    u8 v_6_i_i;
+    u8 v_0_i_i;
+    u1 v_29_i_i578_i_i;
+    u64 v_261;
+    u1 v_29_i_i712_i_i;
+    u64 v_i_i713_i_i;
+    u64 v_262;
+    u64 v_0_1_i97_i_i49_i_i;
+    u1 v_263;
+    u64 v_0_1_i95_i_i53_i_i;
+    u1 v_264;
+    u64 v_4_1_i89_i_i56_i_i;
+    u1 v_5_i90_i_i57_i_i;
+    u64 v_265;
+    u64 v_0_sroa_0_0_i91_i_i58_i_i;
+    u64 v_10_sroa_0_0_i59_i_i60_i_i;
+    u64 v_0_i102_i_i62_i_i;
+    u1 v_3_i_i61_i_i63_i_i;
+    u64 v_0_sroa_0_0_i_i62_i_i64_i_v_i;
+    u64 v_0_sroa_0_0_i_i62_i_i64_i_i;
+    u64 v_266;
+    u1 v_3_i_i_i_i65_i_i;
+    u1 v_4_i_i_i_i67_i_i;
+    u64 v_267;
+    u1 v_5_i_i_i_i69_i_i;
+    u64 v_268;
+    u1 v_6_i_i_i_i71_i_i;
+    u64 v_269;
+    u64 v_270;
+    u64 v_271;
+    u64 v_10_sroa_0_0_i_i_i76_i_i;
+    u64 v_0_i104_i_i78_i_i;
+    u1 v_3_i2_i_i_i79_i_i;
+    u64 v_0_sroa_0_0_i3_i_i_i80_i_v_i;
+    u64 v_0_sroa_0_0_i3_i_i_i80_i_i;
+    u64 v_272;
+    u1 v_3_i_i_i81_i_i;
+    u1 v_4_i_i_i83_i_i;
+    u1 v_5_i_i_i85_i_i;
+    u1 v_6_i_i_i87_i_i;
+    u64 v_i;
+    u64 v_sink_i;
+    u64 v_273;
+    u1 v_29_i_i311_i_i;
+    u64 v_i_i312_i_i;
+    u1 v_29_i_i444_i_i;
+    u64 v_i_i445_i_i;
+    u64 v_274;
+    u64 v_0_1_i97_i_i182_i_i;
+    u1 v_275;
+    u64 v_0_1_i95_i_i186_i_i;
+    u1 v_276;
+    u64 v_4_1_i89_i_i189_i_i;
+    u1 v_5_i90_i_i190_i_i;
+    u64 v_277;
+    u64 v_0_sroa_0_0_i91_i_i191_i_i;
+    u64 v_10_sroa_0_0_i59_i_i193_i_i;
+    u64 v_0_i102_i_i195_i_i;
+    u1 v_3_i_i61_i_i196_i_i;
+    u64 v_0_sroa_0_0_i_i62_i_i197_i_v_i;
+    u64 v_0_sroa_0_0_i_i62_i_i197_i_i;
+    u64 v_278;
+    u1 v_3_i_i_i_i198_i_i;
+    u1 v_4_i_i_i_i200_i_i;
+    u64 v_279;
+    u1 v_5_i_i_i_i202_i_i;
+    u64 v_280;
+    u1 v_6_i_i_i_i204_i_i;
+    u64 v_281;
+    u64 v_282;
+    u64 v_283;
+    u64 v_10_sroa_0_0_i_i_i209_i_i;
+    u64 v_0_i104_i_i211_i_i;
+    u1 v_3_i2_i_i_i212_i_i;
+    u64 v_0_sroa_0_0_i3_i_i_i213_i_v_i;
+    u64 v_0_sroa_0_0_i3_i_i_i213_i_i;
+    u64 v_284;
+    u1 v_3_i_i_i214_i_i;
+    u1 v_4_i_i_i216_i_i;
+    u1 v_5_i_i_i218_i_i;
+    u1 v_6_i_i_i220_i_i;
+    u64 v_179_i;
+    u64 v_sink174_i;
+    u64 v_285;
+    u1 v_31_i_i224_i_i;
+    u64 v_286;
+    u64 v_spec_select19_i_i225_i_i;
+    u64 v_287;
+    u64 v_0_sroa_0_0_i170_i_i;
+    u1 v_288;
+    u64 v_4_1_i86_i_i_i_i;
+    u1 v_5_i87_i_i_i_i;
+    u64 v_289;
+    u64 v_0_sroa_0_0_i88_i_i_i_i;
+    u64 v_10_sroa_0_0_i69_i_i_i_i;
+    u64 v_0_i100_i_i_i_i;
+    u1 v_3_i_i70_i_i_i_i;
+    u64 v_0_sroa_0_0_i_i71_i_i_i_v_i;
+    u64 v_0_sroa_0_0_i_i71_i_i_i_i;
+    u64 v_290;
+    u1 v_3_i36_i_i_i_i;
+    u1 v_4_i38_i_i_i_i;
+    u1 v_5_i40_i_i_i_i;
+    u1 v_6_i42_i_i_i_i;
+    u64 v_180_i;
+    u64 v_sink175_i;
+    u64 v_291;
+    u64 v_sink178_i;
+    u64 v_0_sroa_0_0_i705_i_sink_i;
+    u1 v_31_i_i91_i_i;
+    u64 v_292;
+    u64 v_spec_select19_i_i92_i_i;
+    u64 v_293;
+    u1 v_3_i_i_i;
+    u1 v_4_i_i10_i;
+    u1 v_5_i_i_i;
+    u1 v_6_i_i_i481;
+    u64 v_294;
+    u1 v_6_i_i484;
+    u64 v_295;
+    u1 v_7_i_i485;
+    u64 v_296;
+    u64 v_297;
+    u64 v_298;
+    u1 v_8_i_i487;
+    u64 v_10_sroa_0_0_i_i763769;
+    u64 v_299;
+    u64 v_300;
+    u1 v_9_i_i489;
+    u64 v_301;
+    u64 v_10_sroa_0_0_i_i_ph773776;
+    u64 v_302;
+    u64 v_10_sroa_0_0_i_i_ph_ph780783;
+    u64 v_303;
+    u64 v_304;
+    u1 v_10_i_i491;
+    u1 v_29_i_i578_i_i_i_i;
+    u64 v_i_i579_i_i_i_i;
+    u1 v_29_i_i712_i_i_i_i;
+    u64 v_i_i713_i_i_i_i;
+    u64 v_305;
+    u64 v_0_1_i97_i_i49_i_i_i_i;
+    u1 v_306;
+    u64 v_0_1_i95_i_i53_i_i_i_i;
+    u1 v_307;
+    u64 v_4_1_i89_i_i56_i_i_i_i;
+    u1 v_5_i90_i_i57_i_i_i_i;
+    u64 v_308;
+    u64 v_0_sroa_0_0_i91_i_i58_i_i_i_i;
+    u64 v_10_sroa_0_0_i59_i_i60_i_i_i_i;
+    u64 v_0_i102_i_i62_i_i_i_i;
+    u1 v_3_i_i61_i_i63_i_i_i_i;
+    u64 v_0_sroa_0_0_i_i62_i_i64_i_v_i_i_i;
+    u64 v_0_sroa_0_0_i_i62_i_i64_i_i_i_i;
+    u64 v_309;
+    u1 v_3_i_i_i_i65_i_i_i_i;
+    u1 v_4_i_i_i_i67_i_i_i_i;
+    u64 v_310;
+    u1 v_5_i_i_i_i69_i_i_i_i;
+    u64 v_311;
+    u1 v_6_i_i_i_i71_i_i_i_i;
+    u64 v_312;
+    u64 v_313;
+    u64 v_314;
+    u64 v_10_sroa_0_0_i_i_i76_i_i_i_i;
+    u64 v_0_i104_i_i78_i_i_i_i;
+    u1 v_3_i2_i_i_i79_i_i_i_i;
+    u64 v_0_sroa_0_0_i3_i_i_i80_i_v_i_i_i;
+    u64 v_0_sroa_0_0_i3_i_i_i80_i_i_i_i;
+    u64 v_315;
+    u1 v_3_i_i_i81_i_i_i_i;
+    u1 v_4_i_i_i83_i_i_i_i;
+    u1 v_5_i_i_i85_i_i_i_i;
+    u1 v_6_i_i_i87_i_i_i_i;
+    u64 v_i_i_i;
+    u64 v_sink_i_i_i;
+    u64 v_316;
+    u1 v_29_i_i311_i_i_i_i;
+    u64 v_i_i312_i_i_i_i;
+    u1 v_29_i_i444_i_i_i_i;
+    u64 v_i_i445_i_i_i_i;
+    u64 v_317;
+    u64 v_0_1_i97_i_i182_i_i_i_i;
+    u1 v_318;
+    u64 v_0_1_i95_i_i186_i_i_i_i;
+    u1 v_319;
+    u64 v_4_1_i89_i_i189_i_i_i_i;
+    u1 v_5_i90_i_i190_i_i_i_i;
+    u64 v_320;
+    u64 v_0_sroa_0_0_i91_i_i191_i_i_i_i;
+    u64 v_10_sroa_0_0_i59_i_i193_i_i_i_i;
+    u64 v_0_i102_i_i195_i_i_i_i;
+    u1 v_3_i_i61_i_i196_i_i_i_i;
+    u64 v_0_sroa_0_0_i_i62_i_i197_i_v_i_i_i;
+    u64 v_0_sroa_0_0_i_i62_i_i197_i_i_i_i;
+    u64 v_321;
+    u1 v_3_i_i_i_i198_i_i_i_i;
+    u1 v_4_i_i_i_i200_i_i_i_i;
+    u64 v_322;
+    u1 v_5_i_i_i_i202_i_i_i_i;
+    u64 v_323;
+    u1 v_6_i_i_i_i204_i_i_i_i;
+    u64 v_324;
+    u64 v_325;
+    u64 v_326;
+    u64 v_10_sroa_0_0_i_i_i209_i_i_i_i;
+    u64 v_0_i104_i_i211_i_i_i_i;
+    u1 v_3_i2_i_i_i212_i_i_i_i;
+    u64 v_0_sroa_0_0_i3_i_i_i213_i_v_i_i_i;
+    u64 v_0_sroa_0_0_i3_i_i_i213_i_i_i_i;
+    u64 v_327;
+    u1 v_3_i_i_i214_i_i_i_i;
+    u1 v_4_i_i_i216_i_i_i_i;
+    u1 v_5_i_i_i218_i_i_i_i;
+    u1 v_6_i_i_i220_i_i_i_i;
+    u64 v_71_i_i_i;
+    u64 v_sink66_i_i_i;
+    u64 v_328;
+    u1 v_31_i_i224_i_i_i_i;
+    u64 v_329;
+    u64 v_spec_select19_i_i225_i_i_i_i;
+    u64 v_330;
+    u64 v_0_sroa_0_0_i170_i_i_i_i;
+    u1 v_331;
+    u64 v_4_1_i86_i_i_i_i_i_i;
+    u1 v_5_i87_i_i_i_i_i_i;
+    u64 v_332;
+    u64 v_0_sroa_0_0_i88_i_i_i_i_i_i;
+    u64 v_10_sroa_0_0_i69_i_i_i_i_i_i;
+    u64 v_0_i100_i_i_i_i_i_i;
+    u1 v_3_i_i70_i_i_i_i_i_i;
+    u64 v_0_sroa_0_0_i_i71_i_i_i_v_i_i_i;
+    u64 v_0_sroa_0_0_i_i71_i_i_i_i_i_i;
+    u64 v_333;
+    u1 v_3_i36_i_i_i_i_i_i;
+    u1 v_4_i38_i_i_i_i_i_i;
+    u1 v_5_i40_i_i_i_i_i_i;
+    u1 v_6_i42_i_i_i_i_i_i;
+    u64 v_72_i_i_i;
+    u64 v_sink67_i_i_i;
+    u64 v_334;
+    u64 v_sink70_i_i_i;
+    u64 v_0_sroa_0_0_i705_i_sink_i_i_i;
+    u1 v_31_i_i91_i_i_i_i;
+    u64 v_335;
+    u64 v_spec_select19_i_i92_i_i_i_i;
+    u64 v_336;
+    u1 v_6_i_i_i_i;
+    u1 v_7_i_i_i30_i;
+    u64 v_0_sroa_0_0_i_i53_i_i_i;
+    u64 v_337;
+    u1 v_8_i_i_i_i493;
+    u64 v_338;
+    u1 v_9_i_i_i_i494;
+    u64 v_339;
+    u64 v_340;
+    u64 v_341;
+    u1 v_10_i_i_i32_i;
+    u64 v_0_sroa_31_0_in_i_i_ph_i_i;
+    u64 v_0_sroa_31_0_insert_shift_i_i11_i_i;
+    u64 v_342;
+    u1 v_trunc18_i_i_i_i;
+    u64 v_sroa_09_0_insert_insert65_i_i_i;
+    u64 v_sroa_57_0_extract_shift_i_i_i_i;
+    u1 v_11_1_i_i_i_i_i;
+    u64 v_343;
+    u64 v_0_sroa_0_0_insert_insert_i_i_i_i_i;
+    u64 v_sroa_4_0_extract_shift14_i_i_i_i;
+    u1 v_trunc_i_i496;
+    u64 v_sroa_5_0_extract_shift_i35_i;
+    u1 v_10_i_i_i497;
+    u1 v_11_i_i37_i;
+    u1 v_12_i_i39_i;
+    u1 v_13_i_i40_i;
+    u64 v_i6_i_i;
+    u64 v_0_sroa_31_0_in_i_ph_i;
+    u64 v_0_sroa_31_0_insert_shift_i157_i;
+    u64 v_sink_i7_i_i;
+    u64 v_344;
+    u1 v_14_i_i41_i;
+    u64 v_345;
+    u64 v_346;
+    u64 v_0_sroa_0_0_insert_insert_i_i_i;
+    u1 v_trunc_i;
+    u64 v_0_sroa_0_0_insert_insert_i161_i;
+    u64 v_sroa_5_0_extract_shift_i;
+    u1 v_4_i_i;
+    P v_347;
+    P v_348;
+    u64 v_15_1_i_i_i500;
+    u64 v_14_i_i51_i;
+    u64 v_7_i_i52_i;
+    u32 v_16_i_i_i501;
+    u1 v_4_i_i_i_i502;
+    u1 v_9_i_i_i55_i;
+    u16 v_8_i_i_i69_i;
+    P v_48_0_i_i_i_i580;
+    u64 v_start1_i_i_i_i_i;
+    u1 v_8_not_i_i_i_i_i581;
+    u1 v_15_not_i_i_i_i_i583;
+    P v_349;
+    u16 v_7_i_i_sroa_0_sroa_4_0_insert_shift_i_i585;
+    u16 v_7_i_i_sroa_0_sroa_0_0_insert_insert_i_i586;
+    u1 v_14_i_i_i57_i;
+    u8 v_13_i_i_i_i570;
+    P v_51_0_i_i_i_i571;
+    u64 v_start1_i11_i_i_i_i;
+    u1 v_8_not_i12_i_i_i_i572;
+    u1 v_15_not_i15_i_i_i_i574;
+    P v_350;
+    P v_12_i_i_sroa_4_0_sroa_idx_i_i575;
+    P v_12_i_i_sroa_5_0_sroa_idx_i_i576;
+    u1 v_22_i_i_i_i503;
+    P v_54_0_i_i_i_i563;
+    u64 v_start1_i26_i_i_i_i;
+    u1 v_8_not_i27_i_i_i_i564;
+    u1 v_15_not_i30_i_i_i_i566;
+    P v_351;
+    u32 v_352;
+    u32 v_17_i_i_sroa_0_sroa_0_0_insert_insert_i_i567;
+    u64 v_371_i_i_i_i504;
+    u8 v_36_i_i_i_i505;
+    u64 v_402_i_i_i_i506;
+    u8 v_38_i_i_i_i507;
+    u64 v_433_i_i_i_i508;
+    u8 v_41_i_i_i_i509;
+    u8 v_44_i_i_i_i510;
+    P v_60_0_i_i_i_i511;
+    u64 v_start1_i56_i_i_i_i;
+    u1 v_8_not_i57_i_i_i_i512;
+    u1 v_15_not_i60_i_i_i_i514;
+    P v_353;
+    P v_35_i_i_sroa_4_0_sroa_idx_i_i515;
+    P v_35_i_i_sroa_5_0_sroa_idx_i_i516;
+    P v_35_i_i_sroa_6_0_sroa_idx_i_i517;
+    P v_35_i_i_sroa_7_0_sroa_idx_i_i518;
+    P v_35_i_i_sroa_8_0_sroa_idx_i_i519;
+    u64 v_274_i_i_i_i549;
+    u8 v_26_i_i_i_i550;
+    u64 v_305_i_i_i_i551;
+    u8 v_28_i_i_i_i552;
+    u8 v_31_i_i_i65_i;
+    P v_57_0_i_i_i_i553;
+    u64 v_start1_i41_i_i_i_i;
+    u1 v_8_not_i42_i_i_i_i554;
+    u1 v_15_not_i45_i_i_i_i556;
+    P v_354;
+    P v_25_i_i_sroa_4_0_sroa_idx_i_i557;
+    P v_25_i_i_sroa_5_0_sroa_idx_i_i558;
+    P v_25_i_i_sroa_6_0_sroa_idx_i_i559;
+    P v_25_i_i_sroa_7_0_sroa_idx_i_i560;
+    P v_48_0_i_i_i;
+    u64 v_11_i27_i_i;
+    u64 v_before_neg_i28_i_i;
+    u1 v_8_not_i_i_i61_i;
+    u1 v_15_not_i_i_i62_i;
+    u64 v_start1_i_i_i63_i;
+    P v_355;
+    u64 v_7_i31_i_i520;
+    u64 v_6_i32_i_i;
+    u32 v_16_i33_i_i;
+    u1 v_4_i_i35_i_i;
+    u1 v_9_i_i37_i_i;
+    u1 v_15_not_i_i_i127_i_i;
+    u64 v_start1_i_i_i123_i_i;
+    u16 v_8_i_i119_i_i;
+    P v_356;
+    u16 v_7_i_i25_sroa_0_sroa_4_0_insert_shift_i_i;
+    u16 v_7_i_i25_sroa_0_sroa_0_0_insert_insert_i_i;
+    u1 v_14_i_i39_i_i;
+    u1 v_15_not_i15_i_i111_i_i;
+    u64 v_start1_i11_i_i107_i_i;
+    u8 v_13_i_i103_i_i;
+    P v_357;
+    P v_12_i_i24_sroa_4_0_sroa_idx_i_i;
+    P v_12_i_i24_sroa_5_0_sroa_idx_i_i;
+    u1 v_22_i_i41_i_i;
+    u1 v_15_not_i30_i_i95_i_i;
+    u64 v_start1_i26_i_i91_i_i;
+    P v_358;
+    u32 v_359;
+    u32 v_17_i_i23_sroa_0_sroa_0_0_insert_insert_i_i;
+    u1 v_15_not_i60_i_i57_i_i;
+    u64 v_start1_i56_i_i53_i_i;
+    u8 v_44_i_i49_i_i;
+    u64 v_433_i_i47_i_i;
+    u8 v_41_i_i48_i_i;
+    u64 v_402_i_i45_i_i;
+    u8 v_38_i_i46_i_i;
+    u64 v_371_i_i43_i_i;
+    u8 v_36_i_i44_i_i;
+    P v_360;
+    P v_35_i_i21_sroa_4_0_sroa_idx_i_i;
+    P v_35_i_i21_sroa_5_0_sroa_idx_i_i;
+    P v_35_i_i21_sroa_6_0_sroa_idx_i_i;
+    P v_35_i_i21_sroa_7_0_sroa_idx_i_i;
+    P v_35_i_i21_sroa_8_0_sroa_idx_i_i;
+    u1 v_15_not_i45_i_i77_i_i;
+    u64 v_start1_i41_i_i73_i_i;
+    u8 v_31_i_i69_i_i;
+    u64 v_305_i_i67_i_i;
+    u8 v_28_i_i68_i_i;
+    u64 v_274_i_i65_i_i;
+    u8 v_26_i_i66_i_i;
+    P v_361;
+    P v_25_i_i22_sroa_4_0_sroa_idx_i_i;
+    P v_25_i_i22_sroa_5_0_sroa_idx_i_i;
+    P v_25_i_i22_sroa_6_0_sroa_idx_i_i;
+    P v_25_i_i22_sroa_7_0_sroa_idx_i_i;
+    u64 v_start1_i_i_i123_sink_i_i;
+    u64 v_7_i5_i;
+    u32 v_16_i_i522;
+    u1 v_4_i_i_i523;
+    u1 v_9_i_i_i525;
+    u16 v_8_i_i_i543;
+    u1 v_8_not_i_i_i_i;
+    u1 v_15_not_i_i_i_i;
+    P v_362;
+    P v_363;
+    u16 v_7_i_i_sroa_0_sroa_4_0_insert_shift_i;
+    u16 v_7_i_i_sroa_0_sroa_0_0_insert_insert_i;
+    u1 v_14_i_i_i527;
+    u8 v_13_i_i_i;
+    u1 v_8_not_i12_i_i_i;
+    u1 v_15_not_i15_i_i_i;
+    P v_364;
+    P v_365;
+    P v_12_i_i_sroa_4_0_sroa_idx_i;
+    P v_12_i_i_sroa_5_0_sroa_idx_i;
+    u1 v_22_i_i_i529;
+    u1 v_8_not_i27_i_i_i;
+    u1 v_15_not_i30_i_i_i;
+    P v_366;
+    P v_367;
+    u32 v_368;
+    u32 v_17_i_i_sroa_0_sroa_0_0_insert_insert_i;
+    u64 v_371_i_i_i;
+    u8 v_36_i_i_i531;
+    u64 v_402_i_i_i;
+    u8 v_38_i_i_i532;
+    u64 v_433_i_i_i;
+    u8 v_41_i_i_i533;
+    u8 v_44_i_i_i;
+    u1 v_8_not_i57_i_i_i;
+    u1 v_15_not_i60_i_i_i;
+    P v_369;
+    P v_370;
+    P v_35_i_i_sroa_4_0_sroa_idx_i;
+    P v_35_i_i_sroa_5_0_sroa_idx_i;
+    P v_35_i_i_sroa_6_0_sroa_idx_i;
+    P v_35_i_i_sroa_7_0_sroa_idx_i;
+    P v_35_i_i_sroa_8_0_sroa_idx_i;
+    u64 v_274_i_i_i;
+    u8 v_26_i_i_i537;
+    u64 v_305_i_i_i;
+    u8 v_28_i_i_i538;
+    u8 v_31_i_i_i539;
+    u1 v_8_not_i42_i_i_i;
+    u1 v_15_not_i45_i_i_i;
+    P v_371;
+    P v_372;
+    P v_25_i_i_sroa_4_0_sroa_idx_i;
+    P v_25_i_i_sroa_5_0_sroa_idx_i;
+    P v_25_i_i_sroa_6_0_sroa_idx_i;
+    P v_25_i_i_sroa_7_0_sroa_idx_i;
+    u32 v_374;
+    u64 v_0_sroa_0_0_insert_insert_i173_i;
+    u64 v_sroa_4_0_extract_shift_i588;
+    u8 v_error_sroa_0_0_extract_trunc_i;
+    u32 v_0_sroa_0_0_i3;
+    u64 v_start1_i_i_i_sink;
+    u64 v_59_i_i_sink_in_in;
+    u64 v_0_sroa_5_0_i_ph_ph;
+    u8 v_59_i_i_sink_in;
+    u8 v_59_i_i_sink;
+    P v_375;
+    P v_58_i_i_sroa_4_0_sroa_idx;
+    P v_58_i_i_sroa_5_0_sroa_idx;
+    P v_58_i_i_sroa_6_0_sroa_idx;
+    P v_58_i_i_sroa_7_0_sroa_idx;
+    P v_58_i_i_sroa_8_0_sroa_idx;
+    P v_58_i_i_sroa_9_0_sroa_idx;
+    P v_58_i_i_sroa_10_0_sroa_idx;
+    P v_58_i_i_sroa_11_0_sroa_idx;
+    P v_58_i_i_sroa_12_0_sroa_idx;
+    P v_58_i_i_sroa_13_0_sroa_idx;
+    P v_58_i_i_sroa_14_0_sroa_idx;
+    P v_58_i_i_sroa_15_0_sroa_idx;
+    u64 v_0_sroa_5_0_i_ph;
+    u64 v_0_sroa_5_0_i;
+    u32 v_0_sroa_0_0;
+    v_writer_i_i476 = AT(m_v_writer_i_i476);
     v_writer_i_i_i = AT(m_v_writer_i_i_i);
-    v_17 = AT(m_v_17);
-    v_15 = AT(m_v_15);
+    v_made_i = AT(m_v_made_i);
     v_0 = v_params + 105;
-    v_7 = get_u8(v_0);
-    v_1 = v_7 == 1u;
+    v_8 = get_u8(v_0);
+    v_1 = v_8 == 1u;
     if (v_1) { goto L_bb7; } else { goto L_bb2; }
 L_bb7:;
-    v_10 = v_params + 40;
+    v_11 = v_params + 40;
     v_2 = v_params + 16;
     v_3 = get_u8(v_2);
     v_6_i = (u1)((v_3) & 1);
@@ -30157,139 +28585,139 @@ L_bb19_i:;
     v_4 = v_params + 56;
     v_5 = get_u8(v_4);
     v_6 = (u1)((v_5) & 1);
-    v_7__2 = v_params + 80;
-    v_8 = get_u8(v_7__2);
-    v_9 = (u1)((v_8) & 1);
+    v_7 = v_params + 80;
+    v_8__2 = get_u8(v_7);
+    v_9 = (u1)((v_8__2) & 1);
     v_not = (u1)(((u32)(v_6) ^ (u32)(1u)) & 1);
-    v_10__2 = v_not ? 1u : v_9;
-    if (v_10__2) { goto L_bb2; } else { goto L_bb9; }
+    v_10 = v_not ? 1u : v_9;
+    if (v_10) { goto L_bb2; } else { goto L_bb9; }
 L_bb9:;
-    v_11_0 = get_P(v_params);
-    v_11 = v_params + 8;
-    v_11_1 = get_u64(v_11);
+    v_12_0 = get_P(v_params);
+    v_11__2 = v_params + 8;
+    v_12_1 = get_u64(v_11__2);
     v_12 = v_params + 64;
-    v_12_0 = get_P(v_12);
+    v_13_0 = get_P(v_12);
     v_13 = v_params + 72;
-    v_12_1 = get_u64(v_13);
+    v_13_1 = get_u64(v_13);
     v_14 = v_params + 104;
-    v_13__2 = get_u8(v_14);
-    v_14_0 = get_P(v_10);
-    v_15__2 = v_params + 48;
-    v_14_1 = get_u64(v_15__2);
-    v_16 = v_14_1 == 9u;
+    v_14__2 = get_u8(v_14);
+    v_15_0 = get_P(v_11);
+    v_15 = v_params + 48;
+    v_15_1 = get_u64(v_15);
+    v_16 = v_15_1 == 9u;
     if (v_16) { goto L_bb2_i_i_i; } else { p_v_0_sroa_5_sroa_0_0_i_i = 0u; p_v_0_sroa_0_0_i_i = 2u; goto L_known_known_hashes_exit_i; }
 L_bb2_i_i_i:;
-    v_21_i_i_i = get_u8(v_14_0);
+    v_21_i_i_i = get_u8(v_15_0);
     v_20_i_i_i = v_21_i_i_i == 42u;
-    v_17__2 = v_14_0 + 1;
-    v_23_i_i_i = get_u8(v_17__2);
+    v_17 = v_15_0 + 1;
+    v_23_i_i_i = get_u8(v_17);
     v_22_i_i_i = v_23_i_i_i == 134u;
     v_19_i_i_i = (u1)(((u32)(v_20_i_i_i) & (u32)(v_22_i_i_i)) & 1);
-    v_18 = v_14_0 + 2;
+    v_18 = v_15_0 + 2;
     v_25_i_i_i = get_u8(v_18);
     v_24_i_i_i = v_25_i_i_i == 72u;
     v_18_i_i_i = (u1)(((u32)(v_19_i_i_i) & (u32)(v_24_i_i_i)) & 1);
-    v_19 = v_14_0 + 3;
+    v_19 = v_15_0 + 3;
     v_27_i_i_i = get_u8(v_19);
     v_26_i_i_i = v_27_i_i_i == 134u;
     v_17_i_i_i = (u1)(((u32)(v_18_i_i_i) & (u32)(v_26_i_i_i)) & 1);
-    v_20 = v_14_0 + 4;
+    v_20 = v_15_0 + 4;
     v_29_i_i_i = get_u8(v_20);
     v_28_i_i_i = v_29_i_i_i == 247u;
     v_16_i_i_i = (u1)(((u32)(v_17_i_i_i) & (u32)(v_28_i_i_i)) & 1);
-    v_21 = v_14_0 + 5;
+    v_21 = v_15_0 + 5;
     v_31_i_i_i = get_u8(v_21);
     v_30_i_i_i = v_31_i_i_i == 13u;
     v_15_i_i_i = (u1)(((u32)(v_16_i_i_i) & (u32)(v_30_i_i_i)) & 1);
-    v_22 = v_14_0 + 6;
+    v_22 = v_15_0 + 6;
     v_33_i_i_i = get_u8(v_22);
     v_32_i_i_i = v_33_i_i_i == 1u;
     v_14_i_i_i = (u1)(((u32)(v_15_i_i_i) & (u32)(v_32_i_i_i)) & 1);
-    v_23 = v_14_0 + 7;
+    v_23 = v_15_0 + 7;
     v_35_i_i_i = get_u8(v_23);
     v_34_i_i_i = v_35_i_i_i == 1u;
     v_front_i_i_i = (u1)(((u32)(v_14_i_i_i) & (u32)(v_34_i_i_i)) & 1);
     if (v_front_i_i_i) { goto L_hash_fields_is_pkcs1_exit_i_i; } else { p_v_0_sroa_5_sroa_0_0_i_i = 0u; p_v_0_sroa_0_0_i_i = 2u; goto L_known_known_hashes_exit_i; }
 L_hash_fields_is_pkcs1_exit_i_i:;
-    v_24 = v_14_0 + 8;
+    v_24 = v_15_0 + 8;
     v_36_i_i_i = get_u8(v_24);
     v_25 = v_36_i_i_i == 8u;
-    v_26 = v_11_1 == 9u;
+    v_26 = v_12_1 == 9u;
     v_or_cond = (u1)(((u32)(v_26) & (u32)(v_25)) & 1);
     if (v_or_cond) { goto L_bb5_i36_i_i; } else { p_v_0_sroa_5_sroa_0_0_i_i = 0u; p_v_0_sroa_0_0_i_i = 2u; goto L_known_known_hashes_exit_i; }
 L_bb5_i36_i_i:;
-    v_22_i37_i_i = get_u8(v_11_0);
+    v_22_i37_i_i = get_u8(v_12_0);
     v_21_i38_i_i = v_22_i37_i_i == 96u;
-    v_27 = v_11_0 + 1;
+    v_27 = v_12_0 + 1;
     v_24_i39_i_i = get_u8(v_27);
     v_23_i40_i_i = v_24_i39_i_i == 134u;
     v_20_i41_i_i = (u1)(((u32)(v_21_i38_i_i) & (u32)(v_23_i40_i_i)) & 1);
-    v_28 = v_11_0 + 2;
+    v_28 = v_12_0 + 2;
     v_26_i42_i_i = get_u8(v_28);
     v_25_i43_i_i = v_26_i42_i_i == 72u;
     v_19_i44_i_i = (u1)(((u32)(v_20_i41_i_i) & (u32)(v_25_i43_i_i)) & 1);
-    v_29 = v_11_0 + 3;
+    v_29 = v_12_0 + 3;
     v_28_i45_i_i = get_u8(v_29);
     v_27_i46_i_i = v_28_i45_i_i == 1u;
     v_18_i47_i_i = (u1)(((u32)(v_19_i44_i_i) & (u32)(v_27_i46_i_i)) & 1);
-    v_30 = v_11_0 + 4;
+    v_30 = v_12_0 + 4;
     v_30_i48_i_i = get_u8(v_30);
     v_29_i49_i_i = v_30_i48_i_i == 101u;
     v_17_i50_i_i = (u1)(((u32)(v_18_i47_i_i) & (u32)(v_29_i49_i_i)) & 1);
-    v_31 = v_11_0 + 5;
+    v_31 = v_12_0 + 5;
     v_32_i51_i_i = get_u8(v_31);
     v_31_i52_i_i = v_32_i51_i_i == 3u;
     v_16_i53_i_i = (u1)(((u32)(v_17_i50_i_i) & (u32)(v_31_i52_i_i)) & 1);
-    v_32 = v_11_0 + 6;
+    v_32 = v_12_0 + 6;
     v_34_i54_i_i = get_u8(v_32);
     v_33_i55_i_i = v_34_i54_i_i == 4u;
     v_15_i56_i_i = (u1)(((u32)(v_16_i53_i_i) & (u32)(v_33_i55_i_i)) & 1);
-    v_33 = v_11_0 + 7;
+    v_33 = v_12_0 + 7;
     v_36_i57_i_i = get_u8(v_33);
     v_35_i58_i_i = v_36_i57_i_i == 2u;
     v_front_i59_i_i = (u1)(((u32)(v_15_i56_i_i) & (u32)(v_35_i58_i_i)) & 1);
     if (v_front_i59_i_i) { goto L_bb6_i60_i_i; } else { p_v_0_sroa_5_sroa_0_0_i_i = 0u; p_v_0_sroa_0_0_i_i = 2u; goto L_known_known_hashes_exit_i; }
 L_bb6_i60_i_i:;
-    v_34 = v_11_0 + 8;
+    v_34 = v_12_0 + 8;
     v_38_i61_i_i = get_u8(v_34);
     v_37_i62_i_i = (u8)(v_38_i61_i_i ^ ((u8)1 << 7)) > (u8)(255u ^ ((u8)1 << 7));
-    v_35 = v_12_1 == 9u;
-    v_or_cond228 = (u1)(((u32)(v_35) & (u32)(v_37_i62_i_i)) & 1);
-    if (v_or_cond228) { goto L_bb5_i_i_i; } else { p_v_0_sroa_5_sroa_0_0_i_i = 0u; p_v_0_sroa_0_0_i_i = 2u; goto L_known_known_hashes_exit_i; }
+    v_35 = v_13_1 == 9u;
+    v_or_cond739 = (u1)(((u32)(v_35) & (u32)(v_37_i62_i_i)) & 1);
+    if (v_or_cond739) { goto L_bb5_i_i_i; } else { p_v_0_sroa_5_sroa_0_0_i_i = 0u; p_v_0_sroa_0_0_i_i = 2u; goto L_known_known_hashes_exit_i; }
 L_bb5_i_i_i:;
-    v_22_i10_i_i = get_u8(v_12_0);
+    v_22_i10_i_i = get_u8(v_13_0);
     v_21_i11_i_i = v_22_i10_i_i == 96u;
-    v_36 = v_12_0 + 1;
+    v_36 = v_13_0 + 1;
     v_24_i12_i_i = get_u8(v_36);
     v_23_i13_i_i = v_24_i12_i_i == 134u;
     v_20_i14_i_i = (u1)(((u32)(v_21_i11_i_i) & (u32)(v_23_i13_i_i)) & 1);
-    v_37 = v_12_0 + 2;
+    v_37 = v_13_0 + 2;
     v_26_i15_i_i = get_u8(v_37);
     v_25_i16_i_i = v_26_i15_i_i == 72u;
     v_19_i17_i_i = (u1)(((u32)(v_20_i14_i_i) & (u32)(v_25_i16_i_i)) & 1);
-    v_38 = v_12_0 + 3;
+    v_38 = v_13_0 + 3;
     v_28_i18_i_i = get_u8(v_38);
     v_27_i19_i_i = v_28_i18_i_i == 1u;
     v_18_i20_i_i = (u1)(((u32)(v_19_i17_i_i) & (u32)(v_27_i19_i_i)) & 1);
-    v_39 = v_12_0 + 4;
+    v_39 = v_13_0 + 4;
     v_30_i21_i_i = get_u8(v_39);
     v_29_i22_i_i = v_30_i21_i_i == 101u;
     v_17_i23_i_i = (u1)(((u32)(v_18_i20_i_i) & (u32)(v_29_i22_i_i)) & 1);
-    v_40 = v_12_0 + 5;
+    v_40 = v_13_0 + 5;
     v_32_i24_i_i = get_u8(v_40);
     v_31_i25_i_i = v_32_i24_i_i == 3u;
     v_16_i26_i_i = (u1)(((u32)(v_17_i23_i_i) & (u32)(v_31_i25_i_i)) & 1);
-    v_41 = v_12_0 + 6;
+    v_41 = v_13_0 + 6;
     v_34_i27_i_i = get_u8(v_41);
     v_33_i28_i_i = v_34_i27_i_i == 4u;
     v_15_i29_i_i = (u1)(((u32)(v_16_i26_i_i) & (u32)(v_33_i28_i_i)) & 1);
-    v_42 = v_12_0 + 7;
+    v_42 = v_13_0 + 7;
     v_36_i30_i_i = get_u8(v_42);
     v_35_i31_i_i = v_36_i30_i_i == 2u;
     v_front_i32_i_i = (u1)(((u32)(v_15_i29_i_i) & (u32)(v_35_i31_i_i)) & 1);
     if (v_front_i32_i_i) { goto L_bb6_i_i_i; } else { p_v_0_sroa_5_sroa_0_0_i_i = 0u; p_v_0_sroa_0_0_i_i = 2u; goto L_known_known_hashes_exit_i; }
 L_bb6_i_i_i:;
-    v_43 = v_12_0 + 8;
+    v_43 = v_13_0 + 8;
     v_38_i_i_i = get_u8(v_43);
     v_37_i_i_i = (u8)(v_38_i_i_i ^ ((u8)1 << 7)) > (u8)(255u ^ ((u8)1 << 7));
     if (v_37_i_i_i) { goto L_bb12_i_i; } else { p_v_0_sroa_5_sroa_0_0_i_i = 0u; p_v_0_sroa_0_0_i_i = 2u; goto L_known_known_hashes_exit_i; }
@@ -30316,31 +28744,33 @@ L_bb13_i:;
     v_hash_02_i = (u1)((v_0_sroa_0_0_insert_insert_i_i) & 1);
     v_50 = (u32)((u32)(v_0_sroa_5_sroa_0_0_i_i) & (u32)(65536u));
     v_under_04_i_not_not = v_50 == 0u;
-    v_10_i = v_13__2 == 20u;
-    if (v_10_i) { goto L_bb3_i; } else { goto L_bb4_i; }
-L_bb4_i:;
-    v_12_i = (u8)(v_13__2 ^ ((u8)1 << 7)) > (u8)(255u ^ ((u8)1 << 7));
+    v_10_i = v_14__2 == 20u;
+    if (v_10_i) { goto L_bb3_i7; } else { goto L_bb4_i4; }
+L_bb4_i4:;
+    v_12_i = (u8)(v_14__2 ^ ((u8)1 << 7)) > (u8)(255u ^ ((u8)1 << 7));
     v_spec_select_i33_i = v_hash_02_i ? 15u : 0u;
     v_28_sroa_0_0_i36_i = v_under_04_i_not_not ? 0u : 28u;
     v_10_i37_i = (u64)((u64)(v_spec_select_i33_i) + (u64)(v_28_sroa_0_0_i36_i));
-    if (v_12_i) { goto L_bb6_i; } else { goto L_bb7_i; }
-L_bb3_i:;
+    v_spec_select12_i40_i = v_place_0 ? 15u : 2u;
+    if (v_12_i) { goto L_bb6_i6; } else { goto L_bb7_i; }
+L_bb3_i7:;
     v_spec_select_i_i = v_hash_02_i ? 15u : 0u;
     v_28_sroa_0_0_i_i = v_under_04_i_not_not ? 0u : 28u;
     v_10_i_i = (u64)((u64)(v_spec_select_i_i) + (u64)(v_28_sroa_0_0_i_i));
-    v_len_i_i = (u64)((u64)(v_10_i_i) + (u64)(2u));
+    v_spec_select12_i_i = v_place_0 ? 15u : 2u;
+    v_len_i_i = (u64)((u64)(v_10_i_i) + (u64)(v_spec_select12_i_i));
     v_16_i_i = v_len_i_i > v_out_1;
-    if (v_16_i_i) { p_v_0_sroa_5_0_i_ph = v_len_i_i; goto L_bb18; } else { goto L_copy_from_slice_pkcs1_c_exit118; }
-L_copy_from_slice_pkcs1_c_exit118:;
-    if (v_under_04_i_not_not) { p_v_writer_i_i_sroa_12_0 = v_len_i_i; goto L_bb23_i_i; } else { goto L_bb2_i7_i; }
+    if (v_16_i_i) { p_v_0_sroa_5_0_i = v_len_i_i; goto L_bb12; } else { goto L_copy_from_slice_pkcs1_c_exit130; }
+L_copy_from_slice_pkcs1_c_exit130:;
+    if (v_under_04_i_not_not) { p_v_writer_i_i_sroa_14_0 = v_len_i_i; goto L_bb23_i_i; } else { goto L_bb2_i7_i; }
 L_bb2_i7_i:;
-    v_start1_i5_i = (u64)((u64)(v_10_i_i) + (u64)(18446744073709551590ull));
-    v_15_not_i9_i = v_start1_i5_i > v_len_i_i;
-    if (v_15_not_i9_i) { goto L_bb7_i13_i; } else { goto L_copy_from_slice_pkcs1_c_exit121; }
+    v_15_not_i9_i = v_len_i_i < 28u;
+    if (v_15_not_i9_i) { goto L_bb7_i13_i; } else { goto L_copy_from_slice_pkcs1_c_exit134; }
 L_bb7_i13_i:;
     TRAP();
     TRAP();
-L_copy_from_slice_pkcs1_c_exit121:;
+L_copy_from_slice_pkcs1_c_exit134:;
+    v_start1_i5_i = (u64)((u64)(v_len_i_i) + (u64)(18446744073709551588ull));
     v_51 = v_out_0 + (int64_t)(v_start1_i5_i);
     put_u8(v_51, 161u);
     v_9_i_sroa_4_0_sroa_idx = v_51 + 1;
@@ -30393,80 +28823,100 @@ L_copy_from_slice_pkcs1_c_exit121:;
     put_u8(v_9_i_sroa_27_0_sroa_idx, 3u);
     v_9_i_sroa_28_0_sroa_idx = v_51 + 25;
     put_u8(v_9_i_sroa_28_0_sroa_idx, 4u);
-    v_9_i_sroa_29_0_sroa_idx = v_out_0 + (int64_t)(v_10_i_i);
+    v_9_i_sroa_29_0_sroa_idx = v_51 + 26;
     put_u8(v_9_i_sroa_29_0_sroa_idx, 2u);
     v_9_i_sroa_30_0_sroa_idx = v_51 + 27;
     put_u8(v_9_i_sroa_30_0_sroa_idx, v_sroa_6_0_extract_trunc_i);
-    { p_v_writer_i_i_sroa_12_0 = v_start1_i5_i; goto L_bb23_i_i; }
+    { p_v_writer_i_i_sroa_14_0 = v_start1_i5_i; goto L_bb23_i_i; }
 L_bb23_i_i:;
-    v_writer_i_i_sroa_12_0 = p_v_writer_i_i_sroa_12_0;
-    if (v_hash_02_i) { goto L_bb24_i_i; } else { p_v_writer_i_i_sroa_12_1 = v_writer_i_i_sroa_12_0; goto L_bb21_i_i; }
+    v_writer_i_i_sroa_14_0 = p_v_writer_i_i_sroa_14_0;
+    if (v_hash_02_i) { goto L_bb24_i_i; } else { p_v_writer_i_i_sroa_14_1 = v_writer_i_i_sroa_14_0; goto L_bb21_i_i; }
 L_bb24_i_i:;
-    v_15_not_i9_i65 = v_writer_i_i_sroa_12_0 < 15u;
-    if (v_15_not_i9_i65) { goto L_bb7_i13_i70; } else { goto L_copy_from_slice_pkcs1_c_exit124; }
-L_bb7_i13_i70:;
+    v_start1_i5_i66 = (u64)((u64)(v_writer_i_i_sroa_14_0) + (u64)(18446744073709551601ull));
+    v_8_not_i6_i67 = v_writer_i_i_sroa_14_0 > v_len_i_i;
+    if (v_8_not_i6_i67) { goto L_bb4_i14_i76; } else { goto L_bb2_i7_i68; }
+L_bb4_i14_i76:;
     TRAP();
     TRAP();
-L_copy_from_slice_pkcs1_c_exit124:;
-    v_start1_i5_i61 = (u64)((u64)(v_writer_i_i_sroa_12_0) + (u64)(18446744073709551601ull));
-    v_52 = v_out_0 + (int64_t)(v_start1_i5_i61);
+L_bb2_i7_i68:;
+    v_15_not_i9_i70 = v_writer_i_i_sroa_14_0 < 15u;
+    if (v_15_not_i9_i70) { goto L_bb7_i13_i75; } else { goto L_copy_from_slice_pkcs1_c_exit138; }
+L_bb7_i13_i75:;
+    TRAP();
+    TRAP();
+L_copy_from_slice_pkcs1_c_exit138:;
+    v_52 = v_out_0 + (int64_t)(v_start1_i5_i66);
     put_u8(v_52, 160u);
-    v_9_i56_sroa_4_0_sroa_idx = v_52 + 1;
-    put_u8(v_9_i56_sroa_4_0_sroa_idx, 13u);
-    v_9_i56_sroa_5_0_sroa_idx = v_52 + 2;
-    put_u8(v_9_i56_sroa_5_0_sroa_idx, 48u);
-    v_9_i56_sroa_6_0_sroa_idx = v_52 + 3;
-    put_u8(v_9_i56_sroa_6_0_sroa_idx, 11u);
-    v_9_i56_sroa_7_0_sroa_idx = v_52 + 4;
-    put_u8(v_9_i56_sroa_7_0_sroa_idx, 6u);
-    v_9_i56_sroa_8_0_sroa_idx = v_52 + 5;
-    put_u8(v_9_i56_sroa_8_0_sroa_idx, 9u);
-    v_9_i56_sroa_9_0_sroa_idx = v_52 + 6;
-    put_u8(v_9_i56_sroa_9_0_sroa_idx, 96u);
-    v_9_i56_sroa_10_0_sroa_idx = v_52 + 7;
-    put_u8(v_9_i56_sroa_10_0_sroa_idx, 134u);
-    v_9_i56_sroa_11_0_sroa_idx = v_52 + 8;
-    put_u8(v_9_i56_sroa_11_0_sroa_idx, 72u);
-    v_9_i56_sroa_12_0_sroa_idx = v_52 + 9;
-    put_u8(v_9_i56_sroa_12_0_sroa_idx, 1u);
-    v_9_i56_sroa_13_0_sroa_idx = v_52 + 10;
-    put_u8(v_9_i56_sroa_13_0_sroa_idx, 101u);
-    v_9_i56_sroa_14_0_sroa_idx = v_52 + 11;
-    put_u8(v_9_i56_sroa_14_0_sroa_idx, 3u);
-    v_9_i56_sroa_15_0_sroa_idx = v_52 + 12;
-    put_u8(v_9_i56_sroa_15_0_sroa_idx, 4u);
-    v_9_i56_sroa_16_0_sroa_idx = v_52 + 13;
-    put_u8(v_9_i56_sroa_16_0_sroa_idx, 2u);
-    v_9_i56_sroa_17_0_sroa_idx = v_52 + 14;
-    put_u8(v_9_i56_sroa_17_0_sroa_idx, v_sroa_4_0_extract_trunc_i);
-    { p_v_writer_i_i_sroa_12_1 = v_start1_i5_i61; goto L_bb21_i_i; }
+    v_9_i61_sroa_4_0_sroa_idx = v_52 + 1;
+    put_u8(v_9_i61_sroa_4_0_sroa_idx, 13u);
+    v_9_i61_sroa_5_0_sroa_idx = v_52 + 2;
+    put_u8(v_9_i61_sroa_5_0_sroa_idx, 48u);
+    v_9_i61_sroa_6_0_sroa_idx = v_52 + 3;
+    put_u8(v_9_i61_sroa_6_0_sroa_idx, 11u);
+    v_9_i61_sroa_7_0_sroa_idx = v_52 + 4;
+    put_u8(v_9_i61_sroa_7_0_sroa_idx, 6u);
+    v_9_i61_sroa_8_0_sroa_idx = v_52 + 5;
+    put_u8(v_9_i61_sroa_8_0_sroa_idx, 9u);
+    v_9_i61_sroa_9_0_sroa_idx = v_52 + 6;
+    put_u8(v_9_i61_sroa_9_0_sroa_idx, 96u);
+    v_9_i61_sroa_10_0_sroa_idx = v_52 + 7;
+    put_u8(v_9_i61_sroa_10_0_sroa_idx, 134u);
+    v_9_i61_sroa_11_0_sroa_idx = v_52 + 8;
+    put_u8(v_9_i61_sroa_11_0_sroa_idx, 72u);
+    v_9_i61_sroa_12_0_sroa_idx = v_52 + 9;
+    put_u8(v_9_i61_sroa_12_0_sroa_idx, 1u);
+    v_9_i61_sroa_13_0_sroa_idx = v_52 + 10;
+    put_u8(v_9_i61_sroa_13_0_sroa_idx, 101u);
+    v_9_i61_sroa_14_0_sroa_idx = v_52 + 11;
+    put_u8(v_9_i61_sroa_14_0_sroa_idx, 3u);
+    v_9_i61_sroa_15_0_sroa_idx = v_52 + 12;
+    put_u8(v_9_i61_sroa_15_0_sroa_idx, 4u);
+    v_9_i61_sroa_16_0_sroa_idx = v_52 + 13;
+    put_u8(v_9_i61_sroa_16_0_sroa_idx, 2u);
+    v_9_i61_sroa_17_0_sroa_idx = v_52 + 14;
+    put_u8(v_9_i61_sroa_17_0_sroa_idx, v_sroa_4_0_extract_trunc_i);
+    { p_v_writer_i_i_sroa_14_1 = v_start1_i5_i66; goto L_bb21_i_i; }
 L_bb21_i_i:;
-    v_writer_i_i_sroa_12_1 = p_v_writer_i_i_sroa_12_1;
-    v_23_i_i = (u16)(v_10_i_i);
-    v_8_not_i18_i_i = v_writer_i_i_sroa_12_1 > v_len_i_i;
+    v_writer_i_i_sroa_14_1 = p_v_writer_i_i_sroa_14_1;
+    v_start1_i17_i_i = (u64)((u64)(v_writer_i_i_sroa_14_1) + (u64)(18446744073709551614ull));
+    v_8_not_i18_i_i = v_writer_i_i_sroa_14_1 > v_len_i_i;
     if (v_8_not_i18_i_i) { goto L_bb4_i26_i_i; } else { goto L_bb2_i19_i_i; }
 L_bb4_i26_i_i:;
     TRAP();
     TRAP();
 L_bb2_i19_i_i:;
-    v_15_not_i21_i_i = v_writer_i_i_sroa_12_1 < 2u;
-    if (v_15_not_i21_i_i) { goto L_bb7_i25_i_i; } else { goto L_copy_from_slice_pkcs1_c_exit127; }
+    v_15_not_i21_i_i = v_writer_i_i_sroa_14_1 < 2u;
+    if (v_15_not_i21_i_i) { goto L_bb7_i25_i_i; } else { goto L_copy_from_slice_pkcs1_c_exit142; }
 L_bb7_i25_i_i:;
     TRAP();
     TRAP();
-L_copy_from_slice_pkcs1_c_exit127:;
-    v_53 = (P)((u64)v_out_0 + (u64)(v_writer_i_i_sroa_12_1));
-    v_54 = (P)((u64)v_53 + (u64)(-2));
-    v_22_i_i_sroa_0_sroa_4_0_insert_shift = (u16)((u32)(v_23_i_i) << (u32)((8u & 31)));
+L_copy_from_slice_pkcs1_c_exit142:;
+    v_53 = v_out_0 + (int64_t)(v_start1_i17_i_i);
+    v_54 = (u16)(v_10_i_i);
+    v_22_i_i_sroa_0_sroa_4_0_insert_shift = (u16)((u32)(v_54) << (u32)((8u & 31)));
     v_22_i_i_sroa_0_sroa_0_0_insert_insert = (u16)((u32)(v_22_i_i_sroa_0_sroa_4_0_insert_shift) | (u32)(48u));
-    put_u16(v_54, v_22_i_i_sroa_0_sroa_0_0_insert_insert);
-    { p_v_0_sroa_5_0_i = v_len_i_i; goto L_bb19; }
+    put_u16(v_53, v_22_i_i_sroa_0_sroa_0_0_insert_insert);
+    if (v_place_0) { goto L_bb27_i_i; } else { p_v_0_sroa_5_0_i_ph = v_len_i_i; goto L_bb13; }
+L_bb27_i_i:;
+    v_8_not_i_i_i = v_start1_i17_i_i > v_len_i_i;
+    if (v_8_not_i_i_i) { goto L_bb4_i_i_i; } else { goto L_bb2_i_i10_i; }
+L_bb4_i_i_i:;
+    TRAP();
+    TRAP();
+L_bb2_i_i10_i:;
+    v_start1_i_i_i = (u64)((u64)(v_writer_i_i_sroa_14_1) + (u64)(18446744073709551601ull));
+    v_15_not_i_i_i = v_start1_i_i_i > v_start1_i17_i_i;
+    if (v_15_not_i_i_i) { goto L_bb7_i_i_i; } else { p_v_start1_i_i_i_sink = v_start1_i_i_i; p_v_59_i_i_sink_in_in = v_10_i_i; p_v_0_sroa_5_0_i_ph_ph = v_len_i_i; goto L_bb13_sink_split; }
+L_bb7_i_i_i:;
+    TRAP();
+    TRAP();
 L_bb7_i:;
-    v_len_i140_i = (u64)((u64)(v_10_i37_i) + (u64)(8u));
+    v_9_i136_i = (u64)((u64)(v_10_i37_i) + (u64)(6u));
+    v_len_i140_i = (u64)((u64)(v_9_i136_i) + (u64)(v_spec_select12_i40_i));
     v_16_i141_i = v_len_i140_i > v_out_1;
-    if (v_16_i141_i) { p_v_0_sroa_5_0_i_ph = v_len_i140_i; goto L_bb18; } else { goto L_bb2_i34_i155_i; }
+    if (v_16_i141_i) { p_v_0_sroa_5_0_i = v_len_i140_i; goto L_bb12; } else { goto L_bb2_i34_i155_i; }
 L_bb2_i34_i155_i:;
-    v_start1_i32_i153_i = (u64)((u64)(v_10_i37_i) + (u64)(2u));
+    v_start1_i32_i153_i = (u64)((u64)(v_10_i37_i) + (u64)(v_spec_select12_i40_i));
     v_55 = v_out_0 + (int64_t)(v_start1_i32_i153_i);
     put_u8(v_55, 162u);
     v_salt1_i_sroa_4_0_sroa_idx = v_55 + 1;
@@ -30478,712 +28928,1167 @@ L_bb2_i34_i155_i:;
     v_salt1_i_sroa_7_0_sroa_idx = v_55 + 4;
     put_u8(v_salt1_i_sroa_7_0_sroa_idx, 0u);
     v_salt1_i_sroa_8_0_sroa_idx = v_55 + 5;
-    put_u8(v_salt1_i_sroa_8_0_sroa_idx, v_13__2);
-    if (v_under_04_i_not_not) { p_v_writer_i127_i_sroa_12_0 = v_start1_i32_i153_i; goto L_bb23_i164_i; } else { goto L_bb2_i7_i41; }
-L_bb2_i7_i41:;
-    v_start1_i5_i39 = (u64)((u64)(v_10_i37_i) + (u64)(18446744073709551590ull));
-    v_15_not_i9_i43 = v_start1_i5_i39 > v_start1_i32_i153_i;
-    if (v_15_not_i9_i43) { goto L_bb7_i13_i48; } else { goto L_copy_from_slice_pkcs1_c_exit136; }
-L_bb7_i13_i48:;
+    put_u8(v_salt1_i_sroa_8_0_sroa_idx, v_14__2);
+    if (v_under_04_i_not_not) { p_v_writer_i127_i_sroa_14_0 = v_start1_i32_i153_i; goto L_bb23_i164_i; } else { goto L_bb2_i7_i46; }
+L_bb2_i7_i46:;
+    v_15_not_i9_i48 = v_start1_i32_i153_i < 28u;
+    if (v_15_not_i9_i48) { goto L_bb7_i13_i53; } else { goto L_copy_from_slice_pkcs1_c_exit158; }
+L_bb7_i13_i53:;
     TRAP();
     TRAP();
-L_copy_from_slice_pkcs1_c_exit136:;
-    v_56 = v_out_0 + (int64_t)(v_start1_i5_i39);
+L_copy_from_slice_pkcs1_c_exit158:;
+    v_start1_i5_i44 = (u64)((u64)(v_start1_i32_i153_i) + (u64)(18446744073709551588ull));
+    v_56 = v_out_0 + (int64_t)(v_start1_i5_i44);
     put_u8(v_56, 161u);
-    v_9_i34_sroa_4_0_sroa_idx = v_56 + 1;
-    put_u8(v_9_i34_sroa_4_0_sroa_idx, 26u);
-    v_9_i34_sroa_5_0_sroa_idx = v_56 + 2;
-    put_u8(v_9_i34_sroa_5_0_sroa_idx, 48u);
-    v_9_i34_sroa_6_0_sroa_idx = v_56 + 3;
-    put_u8(v_9_i34_sroa_6_0_sroa_idx, 24u);
-    v_9_i34_sroa_7_0_sroa_idx = v_56 + 4;
-    put_u8(v_9_i34_sroa_7_0_sroa_idx, 6u);
-    v_9_i34_sroa_8_0_sroa_idx = v_56 + 5;
-    put_u8(v_9_i34_sroa_8_0_sroa_idx, 9u);
-    v_9_i34_sroa_9_0_sroa_idx = v_56 + 6;
-    put_u8(v_9_i34_sroa_9_0_sroa_idx, 42u);
-    v_9_i34_sroa_10_0_sroa_idx = v_56 + 7;
-    put_u8(v_9_i34_sroa_10_0_sroa_idx, 134u);
-    v_9_i34_sroa_11_0_sroa_idx = v_56 + 8;
-    put_u8(v_9_i34_sroa_11_0_sroa_idx, 72u);
-    v_9_i34_sroa_12_0_sroa_idx = v_56 + 9;
-    put_u8(v_9_i34_sroa_12_0_sroa_idx, 134u);
-    v_9_i34_sroa_13_0_sroa_idx = v_56 + 10;
-    put_u8(v_9_i34_sroa_13_0_sroa_idx, 247u);
-    v_9_i34_sroa_14_0_sroa_idx = v_56 + 11;
-    put_u8(v_9_i34_sroa_14_0_sroa_idx, 13u);
-    v_9_i34_sroa_15_0_sroa_idx = v_56 + 12;
-    put_u8(v_9_i34_sroa_15_0_sroa_idx, 1u);
-    v_9_i34_sroa_16_0_sroa_idx = v_56 + 13;
-    put_u8(v_9_i34_sroa_16_0_sroa_idx, 1u);
-    v_9_i34_sroa_17_0_sroa_idx = v_56 + 14;
-    put_u8(v_9_i34_sroa_17_0_sroa_idx, 8u);
-    v_9_i34_sroa_18_0_sroa_idx = v_56 + 15;
-    put_u8(v_9_i34_sroa_18_0_sroa_idx, 48u);
-    v_9_i34_sroa_19_0_sroa_idx = v_56 + 16;
-    put_u8(v_9_i34_sroa_19_0_sroa_idx, 11u);
-    v_9_i34_sroa_20_0_sroa_idx = v_56 + 17;
-    put_u8(v_9_i34_sroa_20_0_sroa_idx, 6u);
-    v_9_i34_sroa_21_0_sroa_idx = v_56 + 18;
-    put_u8(v_9_i34_sroa_21_0_sroa_idx, 9u);
-    v_9_i34_sroa_22_0_sroa_idx = v_56 + 19;
-    put_u8(v_9_i34_sroa_22_0_sroa_idx, 96u);
-    v_9_i34_sroa_23_0_sroa_idx = v_56 + 20;
-    put_u8(v_9_i34_sroa_23_0_sroa_idx, 134u);
-    v_9_i34_sroa_24_0_sroa_idx = v_56 + 21;
-    put_u8(v_9_i34_sroa_24_0_sroa_idx, 72u);
-    v_9_i34_sroa_25_0_sroa_idx = v_56 + 22;
-    put_u8(v_9_i34_sroa_25_0_sroa_idx, 1u);
-    v_9_i34_sroa_26_0_sroa_idx = v_56 + 23;
-    put_u8(v_9_i34_sroa_26_0_sroa_idx, 101u);
-    v_9_i34_sroa_27_0_sroa_idx = v_56 + 24;
-    put_u8(v_9_i34_sroa_27_0_sroa_idx, 3u);
-    v_9_i34_sroa_28_0_sroa_idx = v_56 + 25;
-    put_u8(v_9_i34_sroa_28_0_sroa_idx, 4u);
-    v_9_i34_sroa_29_0_sroa_idx = v_out_0 + (int64_t)(v_10_i37_i);
-    put_u8(v_9_i34_sroa_29_0_sroa_idx, 2u);
-    v_9_i34_sroa_30_0_sroa_idx = v_56 + 27;
-    put_u8(v_9_i34_sroa_30_0_sroa_idx, v_sroa_6_0_extract_trunc_i);
-    { p_v_writer_i127_i_sroa_12_0 = v_start1_i5_i39; goto L_bb23_i164_i; }
+    v_9_i39_sroa_4_0_sroa_idx = v_56 + 1;
+    put_u8(v_9_i39_sroa_4_0_sroa_idx, 26u);
+    v_9_i39_sroa_5_0_sroa_idx = v_56 + 2;
+    put_u8(v_9_i39_sroa_5_0_sroa_idx, 48u);
+    v_9_i39_sroa_6_0_sroa_idx = v_56 + 3;
+    put_u8(v_9_i39_sroa_6_0_sroa_idx, 24u);
+    v_9_i39_sroa_7_0_sroa_idx = v_56 + 4;
+    put_u8(v_9_i39_sroa_7_0_sroa_idx, 6u);
+    v_9_i39_sroa_8_0_sroa_idx = v_56 + 5;
+    put_u8(v_9_i39_sroa_8_0_sroa_idx, 9u);
+    v_9_i39_sroa_9_0_sroa_idx = v_56 + 6;
+    put_u8(v_9_i39_sroa_9_0_sroa_idx, 42u);
+    v_9_i39_sroa_10_0_sroa_idx = v_56 + 7;
+    put_u8(v_9_i39_sroa_10_0_sroa_idx, 134u);
+    v_9_i39_sroa_11_0_sroa_idx = v_56 + 8;
+    put_u8(v_9_i39_sroa_11_0_sroa_idx, 72u);
+    v_9_i39_sroa_12_0_sroa_idx = v_56 + 9;
+    put_u8(v_9_i39_sroa_12_0_sroa_idx, 134u);
+    v_9_i39_sroa_13_0_sroa_idx = v_56 + 10;
+    put_u8(v_9_i39_sroa_13_0_sroa_idx, 247u);
+    v_9_i39_sroa_14_0_sroa_idx = v_56 + 11;
+    put_u8(v_9_i39_sroa_14_0_sroa_idx, 13u);
+    v_9_i39_sroa_15_0_sroa_idx = v_56 + 12;
+    put_u8(v_9_i39_sroa_15_0_sroa_idx, 1u);
+    v_9_i39_sroa_16_0_sroa_idx = v_56 + 13;
+    put_u8(v_9_i39_sroa_16_0_sroa_idx, 1u);
+    v_9_i39_sroa_17_0_sroa_idx = v_56 + 14;
+    put_u8(v_9_i39_sroa_17_0_sroa_idx, 8u);
+    v_9_i39_sroa_18_0_sroa_idx = v_56 + 15;
+    put_u8(v_9_i39_sroa_18_0_sroa_idx, 48u);
+    v_9_i39_sroa_19_0_sroa_idx = v_56 + 16;
+    put_u8(v_9_i39_sroa_19_0_sroa_idx, 11u);
+    v_9_i39_sroa_20_0_sroa_idx = v_56 + 17;
+    put_u8(v_9_i39_sroa_20_0_sroa_idx, 6u);
+    v_9_i39_sroa_21_0_sroa_idx = v_56 + 18;
+    put_u8(v_9_i39_sroa_21_0_sroa_idx, 9u);
+    v_9_i39_sroa_22_0_sroa_idx = v_56 + 19;
+    put_u8(v_9_i39_sroa_22_0_sroa_idx, 96u);
+    v_9_i39_sroa_23_0_sroa_idx = v_56 + 20;
+    put_u8(v_9_i39_sroa_23_0_sroa_idx, 134u);
+    v_9_i39_sroa_24_0_sroa_idx = v_56 + 21;
+    put_u8(v_9_i39_sroa_24_0_sroa_idx, 72u);
+    v_9_i39_sroa_25_0_sroa_idx = v_56 + 22;
+    put_u8(v_9_i39_sroa_25_0_sroa_idx, 1u);
+    v_9_i39_sroa_26_0_sroa_idx = v_56 + 23;
+    put_u8(v_9_i39_sroa_26_0_sroa_idx, 101u);
+    v_9_i39_sroa_27_0_sroa_idx = v_56 + 24;
+    put_u8(v_9_i39_sroa_27_0_sroa_idx, 3u);
+    v_9_i39_sroa_28_0_sroa_idx = v_56 + 25;
+    put_u8(v_9_i39_sroa_28_0_sroa_idx, 4u);
+    v_9_i39_sroa_29_0_sroa_idx = v_56 + 26;
+    put_u8(v_9_i39_sroa_29_0_sroa_idx, 2u);
+    v_9_i39_sroa_30_0_sroa_idx = v_56 + 27;
+    put_u8(v_9_i39_sroa_30_0_sroa_idx, v_sroa_6_0_extract_trunc_i);
+    { p_v_writer_i127_i_sroa_14_0 = v_start1_i5_i44; goto L_bb23_i164_i; }
 L_bb23_i164_i:;
-    v_writer_i127_i_sroa_12_0 = p_v_writer_i127_i_sroa_12_0;
-    if (v_hash_02_i) { goto L_bb24_i203_i; } else { p_v_writer_i127_i_sroa_12_1 = v_writer_i127_i_sroa_12_0; goto L_bb21_i167_i; }
+    v_writer_i127_i_sroa_14_0 = p_v_writer_i127_i_sroa_14_0;
+    if (v_hash_02_i) { goto L_bb24_i203_i; } else { p_v_writer_i127_i_sroa_14_1 = v_writer_i127_i_sroa_14_0; goto L_bb21_i167_i; }
 L_bb24_i203_i:;
-    v_start1_i5_i104 = (u64)((u64)(v_writer_i127_i_sroa_12_0) + (u64)(18446744073709551601ull));
-    v_8_not_i6_i105 = v_writer_i127_i_sroa_12_0 > v_len_i140_i;
-    if (v_8_not_i6_i105) { goto L_bb4_i14_i114; } else { goto L_bb2_i7_i106; }
-L_bb4_i14_i114:;
+    v_start1_i5_i109 = (u64)((u64)(v_writer_i127_i_sroa_14_0) + (u64)(18446744073709551601ull));
+    v_8_not_i6_i110 = v_writer_i127_i_sroa_14_0 > v_len_i140_i;
+    if (v_8_not_i6_i110) { goto L_bb4_i14_i119; } else { goto L_bb2_i7_i111; }
+L_bb4_i14_i119:;
     TRAP();
     TRAP();
-L_bb2_i7_i106:;
-    v_15_not_i9_i108 = v_writer_i127_i_sroa_12_0 < 15u;
-    if (v_15_not_i9_i108) { goto L_bb7_i13_i113; } else { goto L_copy_from_slice_pkcs1_c_exit139; }
-L_bb7_i13_i113:;
+L_bb2_i7_i111:;
+    v_15_not_i9_i113 = v_writer_i127_i_sroa_14_0 < 15u;
+    if (v_15_not_i9_i113) { goto L_bb7_i13_i118; } else { goto L_copy_from_slice_pkcs1_c_exit162; }
+L_bb7_i13_i118:;
     TRAP();
     TRAP();
-L_copy_from_slice_pkcs1_c_exit139:;
-    v_57 = v_out_0 + (int64_t)(v_start1_i5_i104);
+L_copy_from_slice_pkcs1_c_exit162:;
+    v_57 = v_out_0 + (int64_t)(v_start1_i5_i109);
     put_u8(v_57, 160u);
-    v_9_i99_sroa_4_0_sroa_idx = v_57 + 1;
-    put_u8(v_9_i99_sroa_4_0_sroa_idx, 13u);
-    v_9_i99_sroa_5_0_sroa_idx = v_57 + 2;
-    put_u8(v_9_i99_sroa_5_0_sroa_idx, 48u);
-    v_9_i99_sroa_6_0_sroa_idx = v_57 + 3;
-    put_u8(v_9_i99_sroa_6_0_sroa_idx, 11u);
-    v_9_i99_sroa_7_0_sroa_idx = v_57 + 4;
-    put_u8(v_9_i99_sroa_7_0_sroa_idx, 6u);
-    v_9_i99_sroa_8_0_sroa_idx = v_57 + 5;
-    put_u8(v_9_i99_sroa_8_0_sroa_idx, 9u);
-    v_9_i99_sroa_9_0_sroa_idx = v_57 + 6;
-    put_u8(v_9_i99_sroa_9_0_sroa_idx, 96u);
-    v_9_i99_sroa_10_0_sroa_idx = v_57 + 7;
-    put_u8(v_9_i99_sroa_10_0_sroa_idx, 134u);
-    v_9_i99_sroa_11_0_sroa_idx = v_57 + 8;
-    put_u8(v_9_i99_sroa_11_0_sroa_idx, 72u);
-    v_9_i99_sroa_12_0_sroa_idx = v_57 + 9;
-    put_u8(v_9_i99_sroa_12_0_sroa_idx, 1u);
-    v_9_i99_sroa_13_0_sroa_idx = v_57 + 10;
-    put_u8(v_9_i99_sroa_13_0_sroa_idx, 101u);
-    v_9_i99_sroa_14_0_sroa_idx = v_57 + 11;
-    put_u8(v_9_i99_sroa_14_0_sroa_idx, 3u);
-    v_9_i99_sroa_15_0_sroa_idx = v_57 + 12;
-    put_u8(v_9_i99_sroa_15_0_sroa_idx, 4u);
-    v_9_i99_sroa_16_0_sroa_idx = v_57 + 13;
-    put_u8(v_9_i99_sroa_16_0_sroa_idx, 2u);
-    v_9_i99_sroa_17_0_sroa_idx = v_57 + 14;
-    put_u8(v_9_i99_sroa_17_0_sroa_idx, v_sroa_4_0_extract_trunc_i);
-    { p_v_writer_i127_i_sroa_12_1 = v_start1_i5_i104; goto L_bb21_i167_i; }
+    v_9_i104_sroa_4_0_sroa_idx = v_57 + 1;
+    put_u8(v_9_i104_sroa_4_0_sroa_idx, 13u);
+    v_9_i104_sroa_5_0_sroa_idx = v_57 + 2;
+    put_u8(v_9_i104_sroa_5_0_sroa_idx, 48u);
+    v_9_i104_sroa_6_0_sroa_idx = v_57 + 3;
+    put_u8(v_9_i104_sroa_6_0_sroa_idx, 11u);
+    v_9_i104_sroa_7_0_sroa_idx = v_57 + 4;
+    put_u8(v_9_i104_sroa_7_0_sroa_idx, 6u);
+    v_9_i104_sroa_8_0_sroa_idx = v_57 + 5;
+    put_u8(v_9_i104_sroa_8_0_sroa_idx, 9u);
+    v_9_i104_sroa_9_0_sroa_idx = v_57 + 6;
+    put_u8(v_9_i104_sroa_9_0_sroa_idx, 96u);
+    v_9_i104_sroa_10_0_sroa_idx = v_57 + 7;
+    put_u8(v_9_i104_sroa_10_0_sroa_idx, 134u);
+    v_9_i104_sroa_11_0_sroa_idx = v_57 + 8;
+    put_u8(v_9_i104_sroa_11_0_sroa_idx, 72u);
+    v_9_i104_sroa_12_0_sroa_idx = v_57 + 9;
+    put_u8(v_9_i104_sroa_12_0_sroa_idx, 1u);
+    v_9_i104_sroa_13_0_sroa_idx = v_57 + 10;
+    put_u8(v_9_i104_sroa_13_0_sroa_idx, 101u);
+    v_9_i104_sroa_14_0_sroa_idx = v_57 + 11;
+    put_u8(v_9_i104_sroa_14_0_sroa_idx, 3u);
+    v_9_i104_sroa_15_0_sroa_idx = v_57 + 12;
+    put_u8(v_9_i104_sroa_15_0_sroa_idx, 4u);
+    v_9_i104_sroa_16_0_sroa_idx = v_57 + 13;
+    put_u8(v_9_i104_sroa_16_0_sroa_idx, 2u);
+    v_9_i104_sroa_17_0_sroa_idx = v_57 + 14;
+    put_u8(v_9_i104_sroa_17_0_sroa_idx, v_sroa_4_0_extract_trunc_i);
+    { p_v_writer_i127_i_sroa_14_1 = v_start1_i5_i109; goto L_bb21_i167_i; }
 L_bb21_i167_i:;
-    v_writer_i127_i_sroa_12_1 = p_v_writer_i127_i_sroa_12_1;
-    v_58 = (u16)(v_10_i37_i);
-    v_8_not_i18_i173_i = v_writer_i127_i_sroa_12_1 > v_len_i140_i;
+    v_writer_i127_i_sroa_14_1 = p_v_writer_i127_i_sroa_14_1;
+    v_start1_i17_i172_i = (u64)((u64)(v_writer_i127_i_sroa_14_1) + (u64)(18446744073709551614ull));
+    v_8_not_i18_i173_i = v_writer_i127_i_sroa_14_1 > v_len_i140_i;
     if (v_8_not_i18_i173_i) { goto L_bb4_i26_i202_i; } else { goto L_bb2_i19_i174_i; }
 L_bb4_i26_i202_i:;
     TRAP();
     TRAP();
 L_bb2_i19_i174_i:;
-    v_15_not_i21_i176_i = v_writer_i127_i_sroa_12_1 < 2u;
-    if (v_15_not_i21_i176_i) { goto L_bb7_i25_i201_i; } else { goto L_copy_from_slice_pkcs1_c_exit142; }
+    v_15_not_i21_i176_i = v_writer_i127_i_sroa_14_1 < 2u;
+    if (v_15_not_i21_i176_i) { goto L_bb7_i25_i201_i; } else { goto L_copy_from_slice_pkcs1_c_exit166; }
 L_bb7_i25_i201_i:;
     TRAP();
     TRAP();
-L_copy_from_slice_pkcs1_c_exit142:;
-    v_59 = (P)((u64)v_out_0 + (u64)(v_writer_i127_i_sroa_12_1));
-    v_60 = (P)((u64)v_59 + (u64)(-2));
-    v_23_i168_i = (u16)((u32)(v_58) << (u32)((8u & 31)));
-    v_22_i126_i_sroa_0_sroa_0_0_insert_insert = (u16)((u32)(v_23_i168_i) + (u32)(1584u));
-    put_u16(v_60, v_22_i126_i_sroa_0_sroa_0_0_insert_insert);
-    { p_v_0_sroa_5_0_i = v_len_i140_i; goto L_bb19; }
-L_bb6_i:;
-    v_len_i41_i = (u64)((u64)(v_10_i37_i) + (u64)(7u));
+L_copy_from_slice_pkcs1_c_exit166:;
+    v_58 = v_out_0 + (int64_t)(v_start1_i17_i172_i);
+    v_59 = (u16)(v_9_i136_i);
+    v_22_i126_i_sroa_0_sroa_4_0_insert_shift = (u16)((u32)(v_59) << (u32)((8u & 31)));
+    v_22_i126_i_sroa_0_sroa_0_0_insert_insert = (u16)((u32)(v_22_i126_i_sroa_0_sroa_4_0_insert_shift) | (u32)(48u));
+    put_u16(v_58, v_22_i126_i_sroa_0_sroa_0_0_insert_insert);
+    if (v_place_0) { goto L_bb27_i185_i; } else { p_v_0_sroa_5_0_i_ph = v_len_i140_i; goto L_bb13; }
+L_bb27_i185_i:;
+    v_8_not_i_i191_i = v_start1_i17_i172_i > v_len_i140_i;
+    if (v_8_not_i_i191_i) { goto L_bb4_i_i200_i; } else { goto L_bb2_i_i192_i; }
+L_bb4_i_i200_i:;
+    TRAP();
+    TRAP();
+L_bb2_i_i192_i:;
+    v_start1_i_i190_i = (u64)((u64)(v_writer_i127_i_sroa_14_1) + (u64)(18446744073709551601ull));
+    v_15_not_i_i194_i = v_start1_i_i190_i > v_start1_i17_i172_i;
+    if (v_15_not_i_i194_i) { goto L_bb7_i_i199_i; } else { p_v_start1_i_i_i_sink = v_start1_i_i190_i; p_v_59_i_i_sink_in_in = v_9_i136_i; p_v_0_sroa_5_0_i_ph_ph = v_len_i140_i; goto L_bb13_sink_split; }
+L_bb7_i_i199_i:;
+    TRAP();
+    TRAP();
+L_bb6_i6:;
+    v_9_i_i = (u64)((u64)(v_10_i37_i) + (u64)(5u));
+    v_len_i41_i = (u64)((u64)(v_9_i_i) + (u64)(v_spec_select12_i40_i));
     v_16_i42_i = v_len_i41_i > v_out_1;
-    if (v_16_i42_i) { p_v_0_sroa_5_0_i_ph = v_len_i41_i; goto L_bb18; } else { goto L_bb2_i34_i55_i; }
+    if (v_16_i42_i) { p_v_0_sroa_5_0_i = v_len_i41_i; goto L_bb12; } else { goto L_bb2_i34_i55_i; }
 L_bb2_i34_i55_i:;
-    v_start1_i32_i_i = (u64)((u64)(v_10_i37_i) + (u64)(2u));
-    v_61 = v_out_0 + (int64_t)(v_start1_i32_i_i);
-    put_u8(v_61, 162u);
-    v_salt_i_sroa_4_0_sroa_idx = v_61 + 1;
+    v_start1_i32_i_i = (u64)((u64)(v_10_i37_i) + (u64)(v_spec_select12_i40_i));
+    v_60 = v_out_0 + (int64_t)(v_start1_i32_i_i);
+    put_u8(v_60, 162u);
+    v_salt_i_sroa_4_0_sroa_idx = v_60 + 1;
     put_u8(v_salt_i_sroa_4_0_sroa_idx, 3u);
-    v_salt_i_sroa_5_0_sroa_idx = v_61 + 2;
+    v_salt_i_sroa_5_0_sroa_idx = v_60 + 2;
     put_u8(v_salt_i_sroa_5_0_sroa_idx, 2u);
-    v_salt_i_sroa_6_0_sroa_idx = v_61 + 3;
+    v_salt_i_sroa_6_0_sroa_idx = v_60 + 3;
     put_u8(v_salt_i_sroa_6_0_sroa_idx, 1u);
-    v_salt_i_sroa_7_0_sroa_idx = v_61 + 4;
-    put_u8(v_salt_i_sroa_7_0_sroa_idx, v_13__2);
-    if (v_under_04_i_not_not) { p_v_writer_i29_i_sroa_12_0 = v_start1_i32_i_i; goto L_bb23_i64_i; } else { goto L_bb2_i7_i19; }
-L_bb2_i7_i19:;
-    v_start1_i5_i17 = (u64)((u64)(v_10_i37_i) + (u64)(18446744073709551590ull));
-    v_15_not_i9_i21 = v_start1_i5_i17 > v_start1_i32_i_i;
-    if (v_15_not_i9_i21) { goto L_bb7_i13_i26; } else { goto L_copy_from_slice_pkcs1_c_exit151; }
-L_bb7_i13_i26:;
+    v_salt_i_sroa_7_0_sroa_idx = v_60 + 4;
+    put_u8(v_salt_i_sroa_7_0_sroa_idx, v_14__2);
+    if (v_under_04_i_not_not) { p_v_writer_i29_i_sroa_14_0 = v_start1_i32_i_i; goto L_bb23_i64_i; } else { goto L_bb2_i7_i24; }
+L_bb2_i7_i24:;
+    v_15_not_i9_i26 = v_start1_i32_i_i < 28u;
+    if (v_15_not_i9_i26) { goto L_bb7_i13_i31; } else { goto L_copy_from_slice_pkcs1_c_exit182; }
+L_bb7_i13_i31:;
     TRAP();
     TRAP();
-L_copy_from_slice_pkcs1_c_exit151:;
-    v_62 = v_out_0 + (int64_t)(v_start1_i5_i17);
-    put_u8(v_62, 161u);
-    v_9_i12_sroa_4_0_sroa_idx = v_62 + 1;
-    put_u8(v_9_i12_sroa_4_0_sroa_idx, 26u);
-    v_9_i12_sroa_5_0_sroa_idx = v_62 + 2;
-    put_u8(v_9_i12_sroa_5_0_sroa_idx, 48u);
-    v_9_i12_sroa_6_0_sroa_idx = v_62 + 3;
-    put_u8(v_9_i12_sroa_6_0_sroa_idx, 24u);
-    v_9_i12_sroa_7_0_sroa_idx = v_62 + 4;
-    put_u8(v_9_i12_sroa_7_0_sroa_idx, 6u);
-    v_9_i12_sroa_8_0_sroa_idx = v_62 + 5;
-    put_u8(v_9_i12_sroa_8_0_sroa_idx, 9u);
-    v_9_i12_sroa_9_0_sroa_idx = v_62 + 6;
-    put_u8(v_9_i12_sroa_9_0_sroa_idx, 42u);
-    v_9_i12_sroa_10_0_sroa_idx = v_62 + 7;
-    put_u8(v_9_i12_sroa_10_0_sroa_idx, 134u);
-    v_9_i12_sroa_11_0_sroa_idx = v_62 + 8;
-    put_u8(v_9_i12_sroa_11_0_sroa_idx, 72u);
-    v_9_i12_sroa_12_0_sroa_idx = v_62 + 9;
-    put_u8(v_9_i12_sroa_12_0_sroa_idx, 134u);
-    v_9_i12_sroa_13_0_sroa_idx = v_62 + 10;
-    put_u8(v_9_i12_sroa_13_0_sroa_idx, 247u);
-    v_9_i12_sroa_14_0_sroa_idx = v_62 + 11;
-    put_u8(v_9_i12_sroa_14_0_sroa_idx, 13u);
-    v_9_i12_sroa_15_0_sroa_idx = v_62 + 12;
-    put_u8(v_9_i12_sroa_15_0_sroa_idx, 1u);
-    v_9_i12_sroa_16_0_sroa_idx = v_62 + 13;
-    put_u8(v_9_i12_sroa_16_0_sroa_idx, 1u);
-    v_9_i12_sroa_17_0_sroa_idx = v_62 + 14;
-    put_u8(v_9_i12_sroa_17_0_sroa_idx, 8u);
-    v_9_i12_sroa_18_0_sroa_idx = v_62 + 15;
-    put_u8(v_9_i12_sroa_18_0_sroa_idx, 48u);
-    v_9_i12_sroa_19_0_sroa_idx = v_62 + 16;
-    put_u8(v_9_i12_sroa_19_0_sroa_idx, 11u);
-    v_9_i12_sroa_20_0_sroa_idx = v_62 + 17;
-    put_u8(v_9_i12_sroa_20_0_sroa_idx, 6u);
-    v_9_i12_sroa_21_0_sroa_idx = v_62 + 18;
-    put_u8(v_9_i12_sroa_21_0_sroa_idx, 9u);
-    v_9_i12_sroa_22_0_sroa_idx = v_62 + 19;
-    put_u8(v_9_i12_sroa_22_0_sroa_idx, 96u);
-    v_9_i12_sroa_23_0_sroa_idx = v_62 + 20;
-    put_u8(v_9_i12_sroa_23_0_sroa_idx, 134u);
-    v_9_i12_sroa_24_0_sroa_idx = v_62 + 21;
-    put_u8(v_9_i12_sroa_24_0_sroa_idx, 72u);
-    v_9_i12_sroa_25_0_sroa_idx = v_62 + 22;
-    put_u8(v_9_i12_sroa_25_0_sroa_idx, 1u);
-    v_9_i12_sroa_26_0_sroa_idx = v_62 + 23;
-    put_u8(v_9_i12_sroa_26_0_sroa_idx, 101u);
-    v_9_i12_sroa_27_0_sroa_idx = v_62 + 24;
-    put_u8(v_9_i12_sroa_27_0_sroa_idx, 3u);
-    v_9_i12_sroa_28_0_sroa_idx = v_62 + 25;
-    put_u8(v_9_i12_sroa_28_0_sroa_idx, 4u);
-    v_9_i12_sroa_29_0_sroa_idx = v_out_0 + (int64_t)(v_10_i37_i);
-    put_u8(v_9_i12_sroa_29_0_sroa_idx, 2u);
-    v_9_i12_sroa_30_0_sroa_idx = v_62 + 27;
-    put_u8(v_9_i12_sroa_30_0_sroa_idx, v_sroa_6_0_extract_trunc_i);
-    { p_v_writer_i29_i_sroa_12_0 = v_start1_i5_i17; goto L_bb23_i64_i; }
+L_copy_from_slice_pkcs1_c_exit182:;
+    v_start1_i5_i22 = (u64)((u64)(v_start1_i32_i_i) + (u64)(18446744073709551588ull));
+    v_61 = v_out_0 + (int64_t)(v_start1_i5_i22);
+    put_u8(v_61, 161u);
+    v_9_i17_sroa_4_0_sroa_idx = v_61 + 1;
+    put_u8(v_9_i17_sroa_4_0_sroa_idx, 26u);
+    v_9_i17_sroa_5_0_sroa_idx = v_61 + 2;
+    put_u8(v_9_i17_sroa_5_0_sroa_idx, 48u);
+    v_9_i17_sroa_6_0_sroa_idx = v_61 + 3;
+    put_u8(v_9_i17_sroa_6_0_sroa_idx, 24u);
+    v_9_i17_sroa_7_0_sroa_idx = v_61 + 4;
+    put_u8(v_9_i17_sroa_7_0_sroa_idx, 6u);
+    v_9_i17_sroa_8_0_sroa_idx = v_61 + 5;
+    put_u8(v_9_i17_sroa_8_0_sroa_idx, 9u);
+    v_9_i17_sroa_9_0_sroa_idx = v_61 + 6;
+    put_u8(v_9_i17_sroa_9_0_sroa_idx, 42u);
+    v_9_i17_sroa_10_0_sroa_idx = v_61 + 7;
+    put_u8(v_9_i17_sroa_10_0_sroa_idx, 134u);
+    v_9_i17_sroa_11_0_sroa_idx = v_61 + 8;
+    put_u8(v_9_i17_sroa_11_0_sroa_idx, 72u);
+    v_9_i17_sroa_12_0_sroa_idx = v_61 + 9;
+    put_u8(v_9_i17_sroa_12_0_sroa_idx, 134u);
+    v_9_i17_sroa_13_0_sroa_idx = v_61 + 10;
+    put_u8(v_9_i17_sroa_13_0_sroa_idx, 247u);
+    v_9_i17_sroa_14_0_sroa_idx = v_61 + 11;
+    put_u8(v_9_i17_sroa_14_0_sroa_idx, 13u);
+    v_9_i17_sroa_15_0_sroa_idx = v_61 + 12;
+    put_u8(v_9_i17_sroa_15_0_sroa_idx, 1u);
+    v_9_i17_sroa_16_0_sroa_idx = v_61 + 13;
+    put_u8(v_9_i17_sroa_16_0_sroa_idx, 1u);
+    v_9_i17_sroa_17_0_sroa_idx = v_61 + 14;
+    put_u8(v_9_i17_sroa_17_0_sroa_idx, 8u);
+    v_9_i17_sroa_18_0_sroa_idx = v_61 + 15;
+    put_u8(v_9_i17_sroa_18_0_sroa_idx, 48u);
+    v_9_i17_sroa_19_0_sroa_idx = v_61 + 16;
+    put_u8(v_9_i17_sroa_19_0_sroa_idx, 11u);
+    v_9_i17_sroa_20_0_sroa_idx = v_61 + 17;
+    put_u8(v_9_i17_sroa_20_0_sroa_idx, 6u);
+    v_9_i17_sroa_21_0_sroa_idx = v_61 + 18;
+    put_u8(v_9_i17_sroa_21_0_sroa_idx, 9u);
+    v_9_i17_sroa_22_0_sroa_idx = v_61 + 19;
+    put_u8(v_9_i17_sroa_22_0_sroa_idx, 96u);
+    v_9_i17_sroa_23_0_sroa_idx = v_61 + 20;
+    put_u8(v_9_i17_sroa_23_0_sroa_idx, 134u);
+    v_9_i17_sroa_24_0_sroa_idx = v_61 + 21;
+    put_u8(v_9_i17_sroa_24_0_sroa_idx, 72u);
+    v_9_i17_sroa_25_0_sroa_idx = v_61 + 22;
+    put_u8(v_9_i17_sroa_25_0_sroa_idx, 1u);
+    v_9_i17_sroa_26_0_sroa_idx = v_61 + 23;
+    put_u8(v_9_i17_sroa_26_0_sroa_idx, 101u);
+    v_9_i17_sroa_27_0_sroa_idx = v_61 + 24;
+    put_u8(v_9_i17_sroa_27_0_sroa_idx, 3u);
+    v_9_i17_sroa_28_0_sroa_idx = v_61 + 25;
+    put_u8(v_9_i17_sroa_28_0_sroa_idx, 4u);
+    v_9_i17_sroa_29_0_sroa_idx = v_61 + 26;
+    put_u8(v_9_i17_sroa_29_0_sroa_idx, 2u);
+    v_9_i17_sroa_30_0_sroa_idx = v_61 + 27;
+    put_u8(v_9_i17_sroa_30_0_sroa_idx, v_sroa_6_0_extract_trunc_i);
+    { p_v_writer_i29_i_sroa_14_0 = v_start1_i5_i22; goto L_bb23_i64_i; }
 L_bb23_i64_i:;
-    v_writer_i29_i_sroa_12_0 = p_v_writer_i29_i_sroa_12_0;
-    if (v_hash_02_i) { goto L_bb24_i103_i; } else { p_v_writer_i29_i_sroa_12_1 = v_writer_i29_i_sroa_12_0; goto L_bb21_i67_i; }
+    v_writer_i29_i_sroa_14_0 = p_v_writer_i29_i_sroa_14_0;
+    if (v_hash_02_i) { goto L_bb24_i103_i; } else { p_v_writer_i29_i_sroa_14_1 = v_writer_i29_i_sroa_14_0; goto L_bb21_i67_i; }
 L_bb24_i103_i:;
-    v_start1_i5_i82 = (u64)((u64)(v_writer_i29_i_sroa_12_0) + (u64)(18446744073709551601ull));
-    v_8_not_i6_i83 = v_writer_i29_i_sroa_12_0 > v_len_i41_i;
-    if (v_8_not_i6_i83) { goto L_bb4_i14_i92; } else { goto L_bb2_i7_i84; }
-L_bb4_i14_i92:;
+    v_start1_i5_i87 = (u64)((u64)(v_writer_i29_i_sroa_14_0) + (u64)(18446744073709551601ull));
+    v_8_not_i6_i88 = v_writer_i29_i_sroa_14_0 > v_len_i41_i;
+    if (v_8_not_i6_i88) { goto L_bb4_i14_i97; } else { goto L_bb2_i7_i89; }
+L_bb4_i14_i97:;
     TRAP();
     TRAP();
-L_bb2_i7_i84:;
-    v_15_not_i9_i86 = v_writer_i29_i_sroa_12_0 < 15u;
-    if (v_15_not_i9_i86) { goto L_bb7_i13_i91; } else { goto L_copy_from_slice_pkcs1_c_exit154; }
-L_bb7_i13_i91:;
+L_bb2_i7_i89:;
+    v_15_not_i9_i91 = v_writer_i29_i_sroa_14_0 < 15u;
+    if (v_15_not_i9_i91) { goto L_bb7_i13_i96; } else { goto L_copy_from_slice_pkcs1_c_exit186; }
+L_bb7_i13_i96:;
     TRAP();
     TRAP();
-L_copy_from_slice_pkcs1_c_exit154:;
-    v_63 = v_out_0 + (int64_t)(v_start1_i5_i82);
-    put_u8(v_63, 160u);
-    v_9_i77_sroa_4_0_sroa_idx = v_63 + 1;
-    put_u8(v_9_i77_sroa_4_0_sroa_idx, 13u);
-    v_9_i77_sroa_5_0_sroa_idx = v_63 + 2;
-    put_u8(v_9_i77_sroa_5_0_sroa_idx, 48u);
-    v_9_i77_sroa_6_0_sroa_idx = v_63 + 3;
-    put_u8(v_9_i77_sroa_6_0_sroa_idx, 11u);
-    v_9_i77_sroa_7_0_sroa_idx = v_63 + 4;
-    put_u8(v_9_i77_sroa_7_0_sroa_idx, 6u);
-    v_9_i77_sroa_8_0_sroa_idx = v_63 + 5;
-    put_u8(v_9_i77_sroa_8_0_sroa_idx, 9u);
-    v_9_i77_sroa_9_0_sroa_idx = v_63 + 6;
-    put_u8(v_9_i77_sroa_9_0_sroa_idx, 96u);
-    v_9_i77_sroa_10_0_sroa_idx = v_63 + 7;
-    put_u8(v_9_i77_sroa_10_0_sroa_idx, 134u);
-    v_9_i77_sroa_11_0_sroa_idx = v_63 + 8;
-    put_u8(v_9_i77_sroa_11_0_sroa_idx, 72u);
-    v_9_i77_sroa_12_0_sroa_idx = v_63 + 9;
-    put_u8(v_9_i77_sroa_12_0_sroa_idx, 1u);
-    v_9_i77_sroa_13_0_sroa_idx = v_63 + 10;
-    put_u8(v_9_i77_sroa_13_0_sroa_idx, 101u);
-    v_9_i77_sroa_14_0_sroa_idx = v_63 + 11;
-    put_u8(v_9_i77_sroa_14_0_sroa_idx, 3u);
-    v_9_i77_sroa_15_0_sroa_idx = v_63 + 12;
-    put_u8(v_9_i77_sroa_15_0_sroa_idx, 4u);
-    v_9_i77_sroa_16_0_sroa_idx = v_63 + 13;
-    put_u8(v_9_i77_sroa_16_0_sroa_idx, 2u);
-    v_9_i77_sroa_17_0_sroa_idx = v_63 + 14;
-    put_u8(v_9_i77_sroa_17_0_sroa_idx, v_sroa_4_0_extract_trunc_i);
-    { p_v_writer_i29_i_sroa_12_1 = v_start1_i5_i82; goto L_bb21_i67_i; }
+L_copy_from_slice_pkcs1_c_exit186:;
+    v_62 = v_out_0 + (int64_t)(v_start1_i5_i87);
+    put_u8(v_62, 160u);
+    v_9_i82_sroa_4_0_sroa_idx = v_62 + 1;
+    put_u8(v_9_i82_sroa_4_0_sroa_idx, 13u);
+    v_9_i82_sroa_5_0_sroa_idx = v_62 + 2;
+    put_u8(v_9_i82_sroa_5_0_sroa_idx, 48u);
+    v_9_i82_sroa_6_0_sroa_idx = v_62 + 3;
+    put_u8(v_9_i82_sroa_6_0_sroa_idx, 11u);
+    v_9_i82_sroa_7_0_sroa_idx = v_62 + 4;
+    put_u8(v_9_i82_sroa_7_0_sroa_idx, 6u);
+    v_9_i82_sroa_8_0_sroa_idx = v_62 + 5;
+    put_u8(v_9_i82_sroa_8_0_sroa_idx, 9u);
+    v_9_i82_sroa_9_0_sroa_idx = v_62 + 6;
+    put_u8(v_9_i82_sroa_9_0_sroa_idx, 96u);
+    v_9_i82_sroa_10_0_sroa_idx = v_62 + 7;
+    put_u8(v_9_i82_sroa_10_0_sroa_idx, 134u);
+    v_9_i82_sroa_11_0_sroa_idx = v_62 + 8;
+    put_u8(v_9_i82_sroa_11_0_sroa_idx, 72u);
+    v_9_i82_sroa_12_0_sroa_idx = v_62 + 9;
+    put_u8(v_9_i82_sroa_12_0_sroa_idx, 1u);
+    v_9_i82_sroa_13_0_sroa_idx = v_62 + 10;
+    put_u8(v_9_i82_sroa_13_0_sroa_idx, 101u);
+    v_9_i82_sroa_14_0_sroa_idx = v_62 + 11;
+    put_u8(v_9_i82_sroa_14_0_sroa_idx, 3u);
+    v_9_i82_sroa_15_0_sroa_idx = v_62 + 12;
+    put_u8(v_9_i82_sroa_15_0_sroa_idx, 4u);
+    v_9_i82_sroa_16_0_sroa_idx = v_62 + 13;
+    put_u8(v_9_i82_sroa_16_0_sroa_idx, 2u);
+    v_9_i82_sroa_17_0_sroa_idx = v_62 + 14;
+    put_u8(v_9_i82_sroa_17_0_sroa_idx, v_sroa_4_0_extract_trunc_i);
+    { p_v_writer_i29_i_sroa_14_1 = v_start1_i5_i87; goto L_bb21_i67_i; }
 L_bb21_i67_i:;
-    v_writer_i29_i_sroa_12_1 = p_v_writer_i29_i_sroa_12_1;
-    v_64 = (u16)(v_10_i37_i);
-    v_8_not_i18_i73_i = v_writer_i29_i_sroa_12_1 > v_len_i41_i;
+    v_writer_i29_i_sroa_14_1 = p_v_writer_i29_i_sroa_14_1;
+    v_start1_i17_i72_i = (u64)((u64)(v_writer_i29_i_sroa_14_1) + (u64)(18446744073709551614ull));
+    v_8_not_i18_i73_i = v_writer_i29_i_sroa_14_1 > v_len_i41_i;
     if (v_8_not_i18_i73_i) { goto L_bb4_i26_i102_i; } else { goto L_bb2_i19_i74_i; }
 L_bb4_i26_i102_i:;
     TRAP();
     TRAP();
 L_bb2_i19_i74_i:;
-    v_15_not_i21_i76_i = v_writer_i29_i_sroa_12_1 < 2u;
-    if (v_15_not_i21_i76_i) { goto L_bb7_i25_i101_i; } else { goto L_copy_from_slice_pkcs1_c_exit157; }
+    v_15_not_i21_i76_i = v_writer_i29_i_sroa_14_1 < 2u;
+    if (v_15_not_i21_i76_i) { goto L_bb7_i25_i101_i; } else { goto L_copy_from_slice_pkcs1_c_exit190; }
 L_bb7_i25_i101_i:;
     TRAP();
     TRAP();
-L_copy_from_slice_pkcs1_c_exit157:;
-    v_65 = (P)((u64)v_out_0 + (u64)(v_writer_i29_i_sroa_12_1));
-    v_66 = (P)((u64)v_65 + (u64)(-2));
-    v_23_i68_i = (u16)((u32)(v_64) << (u32)((8u & 31)));
-    v_22_i28_i_sroa_0_sroa_0_0_insert_insert = (u16)((u32)(v_23_i68_i) + (u32)(1328u));
-    put_u16(v_66, v_22_i28_i_sroa_0_sroa_0_0_insert_insert);
-    { p_v_0_sroa_5_0_i = v_len_i41_i; goto L_bb19; }
+L_copy_from_slice_pkcs1_c_exit190:;
+    v_63 = v_out_0 + (int64_t)(v_start1_i17_i72_i);
+    v_64 = (u16)(v_9_i_i);
+    v_22_i28_i_sroa_0_sroa_4_0_insert_shift = (u16)((u32)(v_64) << (u32)((8u & 31)));
+    v_22_i28_i_sroa_0_sroa_0_0_insert_insert = (u16)((u32)(v_22_i28_i_sroa_0_sroa_4_0_insert_shift) | (u32)(48u));
+    put_u16(v_63, v_22_i28_i_sroa_0_sroa_0_0_insert_insert);
+    if (v_place_0) { goto L_bb27_i85_i; } else { p_v_0_sroa_5_0_i_ph = v_len_i41_i; goto L_bb13; }
+L_bb27_i85_i:;
+    v_8_not_i_i91_i = v_start1_i17_i72_i > v_len_i41_i;
+    if (v_8_not_i_i91_i) { goto L_bb4_i_i100_i; } else { goto L_bb2_i_i92_i; }
+L_bb4_i_i100_i:;
+    TRAP();
+    TRAP();
+L_bb2_i_i92_i:;
+    v_start1_i_i90_i = (u64)((u64)(v_writer_i29_i_sroa_14_1) + (u64)(18446744073709551601ull));
+    v_15_not_i_i94_i = v_start1_i_i90_i > v_start1_i17_i72_i;
+    if (v_15_not_i_i94_i) { goto L_bb7_i_i99_i; } else { p_v_start1_i_i_i_sink = v_start1_i_i90_i; p_v_59_i_i_sink_in_in = v_9_i_i; p_v_0_sroa_5_0_i_ph_ph = v_len_i41_i; goto L_bb13_sink_split; }
+L_bb7_i_i99_i:;
+    TRAP();
+    TRAP();
 L_bb2:;
-    f_pss_from_c_pss(v_15, v_params);
-    v_67 = get_P(v_15);
-    v_68 = v_67 == (P)0;
-    if (v_68) { goto L_bb12; } else { goto L_bb13; }
-L_bb19:;
-    v_0_sroa_5_0_i = p_v_0_sroa_5_0_i;
-    put_u64(v_len, v_0_sroa_5_0_i);
-    { p_v_0_sroa_0_0 = 0u; goto L_bb4; }
-L_bb18:;
-    v_0_sroa_5_0_i_ph = p_v_0_sroa_5_0_i_ph;
-    put_u64(v_len, v_0_sroa_5_0_i_ph);
-    { p_v_0_sroa_0_0 = 15u; goto L_bb4; }
-L_bb4:;
-    v_0_sroa_0_0 = p_v_0_sroa_0_0;
-    return v_0_sroa_0_0;
-L_bb13:;
-    copy(v_17, v_15, 104u);
-    v_6_i46_i = v_17 + 40;
-    v_69 = v_17 + 96;
-    v_9_i_i159 = get_u8(v_69);
-    v_70 = v_17 + 16;
-    v_71 = get_P(v_70);
-    v_72 = v_71 == (P)0;
-    if (v_72) { p_v_0_sroa_0_0_shrunk_i_i_i = 0u; goto L_Fields_non_defaults_exit_i; } else { goto L_bb3_i_i; }
-L_bb3_i_i:;
-    v_0_0_i_i_i = get_P(v_17);
-    v_73 = v_17 + 8;
-    v_0_1_i_i_i = get_u64(v_73);
-    v_74 = v_0_1_i_i_i == 5u;
-    if (v_74) { goto L_bb11_i_i; } else { p_v_0_sroa_0_0_shrunk_i_i_i = 0u; goto L_Fields_non_defaults_exit_i; }
-L_bb11_i_i:;
-    v_75 = get_u8(v_0_0_i_i_i);
-    v_76 = v_75 == 43u;
-    if (v_76) { goto L_bb12_i_i161; } else { p_v_0_sroa_0_0_shrunk_i_i_i = 0u; goto L_Fields_non_defaults_exit_i; }
-L_bb12_i_i161:;
-    v_77 = v_0_0_i_i_i + 1;
-    v_78 = get_u8(v_77);
-    v_79 = v_78 == 14u;
-    if (v_79) { goto L_bb13_i_i; } else { p_v_0_sroa_0_0_shrunk_i_i_i = 0u; goto L_Fields_non_defaults_exit_i; }
-L_bb13_i_i:;
-    v_80 = v_0_0_i_i_i + 2;
-    v_81 = get_u8(v_80);
-    v_82 = v_81 == 3u;
-    if (v_82) { goto L_bb14_i_i; } else { p_v_0_sroa_0_0_shrunk_i_i_i = 0u; goto L_Fields_non_defaults_exit_i; }
+    v_18_0_i_i = get_P(v_params);
+    v_65 = v_params + 8;
+    v_18_1_i_i = get_u64(v_65);
+    v_66 = (u64)((u64)(v_18_1_i_i) + (u64)(18446744073709551615ull));
+    v_or_cond_i23_i = v_66 < 39u;
+    if (v_or_cond_i23_i) { goto L_bb9_i25_i; } else { p_v_0_sroa_0_0 = 6u; goto L_bb4; }
+L_bb9_i25_i:;
+    v_67 = v_18_0_i_i + (int64_t)(v_66);
+    v_11_i27_i = get_u8(v_67);
+    v_10_i28_i = (u8)(v_11_i27_i ^ ((u8)1 << 7)) > (u8)(255u ^ ((u8)1 << 7));
+    if (v_10_i28_i) { p_v_octets_0_tr_i_i = v_18_0_i_i; p_v_octets_1_tr_i_i = v_66; goto L_tailrecurse_i_i; } else { goto L_bb9_preheader_i_i; }
+L_bb5_i29_i:;
+    v_911_not_i_i = v_18_1_i_i == 0u;
+    if (v_911_not_i_i) { goto L_bb8_i_i; } else { goto L_bb9_preheader_i_i; }
+L_bb9_preheader_i_i:;
+    v_5_peel_i_i = get_u8(v_18_0_i_i);
+    v_68 = v_5_peel_i_i == 128u;
+    if (v_68) { p_v_0_sroa_0_0 = 6u; goto L_bb4; } else { goto L_bb7_peel_i_i; }
+L_bb7_peel_i_i:;
+    v_exitcond_peel_not_i_i = v_18_1_i_i == 1u;
+    if (v_exitcond_peel_not_i_i) { goto L_object_identifier_is_identifier_exit32_i; } else { p_v_iter_sroa_0_012_i_i = 1u; goto L_bb9_i33_i; }
+L_bb9_i33_i:;
+    v_iter_sroa_0_012_i_i = p_v_iter_sroa_0_012_i_i;
+    v_0_i_i_i = (u64)((u64)(v_iter_sroa_0_012_i_i) + (u64)(1u));
+    v_69 = v_18_0_i_i + (int64_t)(v_iter_sroa_0_012_i_i);
+    v_5_i_i = get_u8(v_69);
+    v_70 = v_5_i_i == 128u;
+    if (v_70) { goto L_bb2_i2_i_i; } else { goto L_bb7_i_i; }
+L_bb2_i2_i_i:;
+    v_4_i3_i_i = (u64)((u64)(v_iter_sroa_0_012_i_i) + (u64)(18446744073709551615ull));
+    v_6_i4_i_i = v_4_i3_i_i < v_18_1_i_i;
+    if (v_6_i4_i_i) { goto L_object_identifier_is_start_exit9_i_i; } else { p_v_4_i3_i_i_lcssa = v_4_i3_i_i; goto L_panic_i5_i_i; }
+L_panic_i5_i_i:;
+    v_4_i3_i_i_lcssa = p_v_4_i3_i_i_lcssa;
+    TRAP();
+    TRAP();
+L_object_identifier_is_start_exit9_i_i:;
+    v_71 = v_18_0_i_i + (int64_t)(v_4_i3_i_i);
+    v_3_i7_i_i = get_u8(v_71);
+    v_72 = (u8)(v_3_i7_i_i ^ ((u8)1 << 7)) > (u8)(255u ^ ((u8)1 << 7));
+    if (v_72) { p_v_0_sroa_0_0 = 6u; goto L_bb4; } else { goto L_bb7_i_i; }
+L_bb7_i_i:;
+    v_exitcond_not_i_i = v_0_i_i_i == v_18_1_i_i;
+    if (v_exitcond_not_i_i) { goto L_object_identifier_is_identifier_exit32_i; } else { p_v_iter_sroa_0_012_i_i = v_0_i_i_i; goto L_bb9_i33_i; }
+L_tailrecurse_i_i:;
+    v_octets_0_tr_i_i = p_v_octets_0_tr_i_i;
+    v_octets_1_tr_i_i = p_v_octets_1_tr_i_i;
+    v_3_i37_i = v_octets_1_tr_i_i > 7u;
+    if (v_3_i37_i) { goto L_bb6_i_i; } else { goto L_bb1_i38_i; }
+L_bb1_i38_i:;
+    v_5_i39_i = v_octets_1_tr_i_i > 3u;
+    if (v_5_i39_i) { goto L_bb5_i43_i; } else { goto L_bb2_i40_i; }
+L_bb6_i_i:;
+    v_27_i44_i = get_u8(v_octets_0_tr_i_i);
+    v_26_i45_i = v_27_i44_i != 128u;
+    v_73 = v_octets_0_tr_i_i + 1;
+    v_29_i_i = get_u8(v_73);
+    v_28_i46_i = v_29_i_i != 128u;
+    v_25_i_i = (u1)(((u32)(v_26_i45_i) & (u32)(v_28_i46_i)) & 1);
+    v_74 = v_octets_0_tr_i_i + 2;
+    v_31_i_i = get_u8(v_74);
+    v_30_i_i = v_31_i_i != 128u;
+    v_24_i_i = (u1)(((u32)(v_25_i_i) & (u32)(v_30_i_i)) & 1);
+    v_75 = v_octets_0_tr_i_i + 3;
+    v_33_i_i = get_u8(v_75);
+    v_32_i_i = v_33_i_i != 128u;
+    v_23_i_i209 = (u1)(((u32)(v_24_i_i) & (u32)(v_32_i_i)) & 1);
+    v_76 = v_octets_0_tr_i_i + 4;
+    v_35_i47_i = get_u8(v_76);
+    v_34_i_i = v_35_i47_i != 128u;
+    v_22_i_i210 = (u1)(((u32)(v_23_i_i209) & (u32)(v_34_i_i)) & 1);
+    v_77 = v_octets_0_tr_i_i + 5;
+    v_37_i_i = get_u8(v_77);
+    v_36_i_i = v_37_i_i != 128u;
+    v_21_i_i = (u1)(((u32)(v_22_i_i210) & (u32)(v_36_i_i)) & 1);
+    v_78 = v_octets_0_tr_i_i + 6;
+    v_39_i_i = get_u8(v_78);
+    v_38_i_i211 = v_39_i_i != 128u;
+    v_20_i_i = (u1)(((u32)(v_21_i_i) & (u32)(v_38_i_i211)) & 1);
+    v_79 = v_octets_0_tr_i_i + 7;
+    v_41_i48_i = get_u8(v_79);
+    v_40_i_i = v_41_i48_i != 128u;
+    v_eight_i_i = (u1)(((u32)(v_20_i_i) & (u32)(v_40_i_i)) & 1);
+    if (v_eight_i_i) { p_v_sink10_i_i = 18446744073709551608ull; p_v_sink_i_i = 8u; goto L_tailrecurse_backedge_i_i; } else { goto L_bb5_i29_i; }
+L_bb2_i40_i:;
+    v_9_not_i_i = v_octets_1_tr_i_i == 0u;
+    if (v_9_not_i_i) { goto L_bb8_i_i; } else { goto L_bb4_i41_i; }
+L_bb5_i43_i:;
+    v_51_i_i = get_u8(v_octets_0_tr_i_i);
+    v_50_i_i = v_51_i_i != 128u;
+    v_80 = v_octets_0_tr_i_i + 1;
+    v_53_i_i208 = get_u8(v_80);
+    v_52_i_i = v_53_i_i208 != 128u;
+    v_49_i_i = (u1)(((u32)(v_50_i_i) & (u32)(v_52_i_i)) & 1);
+    v_81 = v_octets_0_tr_i_i + 2;
+    v_55_i_i = get_u8(v_81);
+    v_54_i_i = v_55_i_i != 128u;
+    v_48_i_i = (u1)(((u32)(v_49_i_i) & (u32)(v_54_i_i)) & 1);
+    v_82 = v_octets_0_tr_i_i + 3;
+    v_57_i_i = get_u8(v_82);
+    v_56_i_i = v_57_i_i != 128u;
+    v_four_i_i = (u1)(((u32)(v_48_i_i) & (u32)(v_56_i_i)) & 1);
+    if (v_four_i_i) { p_v_sink10_i_i = 18446744073709551612ull; p_v_sink_i_i = 4u; goto L_tailrecurse_backedge_i_i; } else { goto L_bb5_i29_i; }
+L_bb4_i41_i:;
+    v_60_i_i = get_u8(v_octets_0_tr_i_i);
+    v_83 = v_60_i_i == 128u;
+    if (v_83) { goto L_bb5_i29_i; } else { p_v_sink10_i_i = 18446744073709551615ull; p_v_sink_i_i = 1u; goto L_tailrecurse_backedge_i_i; }
+L_tailrecurse_backedge_i_i:;
+    v_sink10_i_i = p_v_sink10_i_i;
+    v_sink_i_i = p_v_sink_i_i;
+    v_later_1_i_i = (u64)((u64)(v_sink10_i_i) + (u64)(v_octets_1_tr_i_i));
+    v_later_0_i_i = v_octets_0_tr_i_i + (int64_t)(v_sink_i_i);
+    { p_v_octets_0_tr_i_i = v_later_0_i_i; p_v_octets_1_tr_i_i = v_later_1_i_i; goto L_tailrecurse_i_i; }
+L_object_identifier_is_identifier_exit32_i:;
+    if (v_10_i28_i) { goto L_bb8_i_i; } else { p_v_0_sroa_0_0 = 6u; goto L_bb4; }
+L_bb8_i_i:;
+    v_84 = v_params + 16;
+    v_85 = get_u8(v_84);
+    v_7_i_i = (u1)((v_85) & 1);
+    if (v_7_i_i) { goto L_bb1_i_i205; } else { p_v_parameters_sroa_6_sroa_5_0_i_i = 0u; p_v_parameters_sroa_6_sroa_6_0_i_i = 0u; p_v_parameters_sroa_6_sroa_0_sroa_0_0_i_i = 0u; p_v_parameters_sroa_0_0_i_i = (P)0; p_v_parameters_sroa_6_sroa_0_sroa_5_0_i_i = 0u; goto L_bb10_i; }
+L_bb1_i_i205:;
+    v_86 = v_params + 17;
+    v_10_i_i206 = get_u8(v_86);
+    v_28_i_i = (u8)((u32)(v_10_i_i206) & (u32)(31u));
+    v_87 = v_28_i_i == 31u;
+    v_88 = (u8)((u32)(v_10_i_i206) & (u32)(223u));
+    v_89 = v_88 == 0u;
+    v_or_cond3_i_i = (u1)(((u32)(v_87) | (u32)(v_89)) & 1);
+    if (v_or_cond3_i_i) { p_v_0_sroa_0_0 = 12u; goto L_bb4; } else { goto L_bb14_i_i; }
 L_bb14_i_i:;
-    v_83 = v_0_0_i_i_i + 3;
-    v_84 = get_u8(v_83);
-    v_85 = v_84 == 2u;
-    if (v_85) { goto L_bb15_i_i; } else { p_v_0_sroa_0_0_shrunk_i_i_i = 0u; goto L_Fields_non_defaults_exit_i; }
-L_bb15_i_i:;
-    v_86 = v_0_0_i_i_i + 4;
-    v_10_i_i162 = get_u8(v_86);
-    v_6_i47_i = v_10_i_i162 == 26u;
-    if (v_6_i47_i) { goto L_bb5_i_i; } else { p_v_0_sroa_0_0_shrunk_i_i_i = 0u; goto L_Fields_non_defaults_exit_i; }
-L_bb5_i_i:;
-    v_8_sroa_3_0_sroa_idx_i_i = v_17 + 24;
-    v_8_sroa_3_0_copyload_i_i = get_u64(v_8_sroa_3_0_sroa_idx_i_i);
-    v_8_sroa_4_0_sroa_idx_i_i = v_17 + 32;
-    v_8_sroa_4_0_copyload_i_i = get_u64(v_8_sroa_4_0_sroa_idx_i_i);
-    v_87 = (u64)((u64)(v_8_sroa_4_0_copyload_i_i) & (u64)(255u));
-    v_88 = v_87 == 5u;
-    v_89 = v_8_sroa_3_0_copyload_i_i == 0u;
-    v_0_sroa_0_1_i_i = v_88 ? v_89 : 0u;
-    { p_v_0_sroa_0_0_shrunk_i_i_i = v_0_sroa_0_1_i_i; goto L_Fields_non_defaults_exit_i; }
-L_Fields_non_defaults_exit_i:;
-    v_0_sroa_0_0_shrunk_i_i_i = p_v_0_sroa_0_0_shrunk_i_i_i;
-    v_3_i_i = (u1)(((u32)(v_0_sroa_0_0_shrunk_i_i_i) ^ (u32)(1u)) & 1);
-    v_2_i_i = (u8)v_3_i_i;
-    v_90 = v_17 + 56;
-    v_91 = get_P(v_90);
-    v_92 = v_91 == (P)0;
-    if (v_92) { p_v_0_sroa_0_0_i178 = 0u; goto L_MaskHolder_is_default_exit; } else { goto L_bb3_i177; }
-L_bb3_i177:;
-    v_0_0_i_i = get_P(v_6_i46_i);
-    v_93 = v_17 + 48;
-    v_0_1_i_i = get_u64(v_93);
-    v_94 = v_0_1_i_i == 9u;
-    if (v_94) { goto L_bb2_i_i179; } else { p_v_0_sroa_0_0_i178 = 0u; goto L_MaskHolder_is_default_exit; }
-L_bb2_i_i179:;
-    v_21_i_i = get_u8(v_0_0_i_i);
-    v_20_i_i = v_21_i_i == 42u;
-    v_95 = v_0_0_i_i + 1;
-    v_23_i_i180 = get_u8(v_95);
-    v_22_i_i181 = v_23_i_i180 == 134u;
-    v_19_i_i = (u1)(((u32)(v_20_i_i) & (u32)(v_22_i_i181)) & 1);
-    v_96 = v_0_0_i_i + 2;
-    v_25_i_i = get_u8(v_96);
-    v_24_i_i = v_25_i_i == 72u;
-    v_18_i_i = (u1)(((u32)(v_19_i_i) & (u32)(v_24_i_i)) & 1);
-    v_97 = v_0_0_i_i + 3;
-    v_27_i_i = get_u8(v_97);
-    v_26_i_i = v_27_i_i == 134u;
-    v_17_i_i = (u1)(((u32)(v_18_i_i) & (u32)(v_26_i_i)) & 1);
-    v_98 = v_0_0_i_i + 4;
-    v_29_i_i = get_u8(v_98);
-    v_28_i_i = v_29_i_i == 247u;
-    v_16_i_i182 = (u1)(((u32)(v_17_i_i) & (u32)(v_28_i_i)) & 1);
-    v_99 = v_0_0_i_i + 5;
-    v_31_i_i = get_u8(v_99);
-    v_30_i_i = v_31_i_i == 13u;
-    v_15_i_i = (u1)(((u32)(v_16_i_i182) & (u32)(v_30_i_i)) & 1);
-    v_100 = v_0_0_i_i + 6;
-    v_33_i_i = get_u8(v_100);
-    v_32_i_i = v_33_i_i == 1u;
-    v_14_i_i = (u1)(((u32)(v_15_i_i) & (u32)(v_32_i_i)) & 1);
-    v_101 = v_0_0_i_i + 7;
-    v_35_i_i = get_u8(v_101);
-    v_34_i_i = v_35_i_i == 1u;
-    v_front_i_i = (u1)(((u32)(v_14_i_i) & (u32)(v_34_i_i)) & 1);
-    if (v_front_i_i) { goto L_hash_fields_is_pkcs1_exit_i; } else { p_v_0_sroa_0_0_i178 = 0u; goto L_MaskHolder_is_default_exit; }
-L_hash_fields_is_pkcs1_exit_i:;
-    v_102 = v_0_0_i_i + 8;
-    v_36_i_i = get_u8(v_102);
-    v_103 = v_36_i_i == 8u;
-    if (v_103) { goto L_bb5_i183; } else { p_v_0_sroa_0_0_i178 = 0u; goto L_MaskHolder_is_default_exit; }
-L_bb5_i183:;
-    v_104 = v_17 + 72;
-    v_105 = get_P(v_104);
-    v_106 = v_105 != (P)0;
-    v_107 = v_17 + 64;
-    v_0_1_i_i_i184 = get_u64(v_107);
-    v_108 = v_0_1_i_i_i184 == 5u;
-    v_or_cond_i = v_106 ? v_108 : 0u;
-    if (v_or_cond_i) { goto L_bb11_i_i185; } else { p_v_0_sroa_0_0_i178 = 0u; goto L_MaskHolder_is_default_exit; }
-L_bb11_i_i185:;
-    v_109 = get_u8(v_91);
-    v_110 = v_109 == 43u;
-    if (v_110) { goto L_bb12_i_i186; } else { p_v_0_sroa_0_0_i178 = 0u; goto L_MaskHolder_is_default_exit; }
-L_bb12_i_i186:;
-    v_111 = v_91 + 1;
+    v_90 = v_params + 32;
+    v_19_1_i_i = get_u64(v_90);
+    v_35_i_i = v_19_1_i_i > 4294967295ull;
+    if (v_35_i_i) { p_v_0_sroa_0_0 = 8u; goto L_bb4; } else { goto L_bb16_i_i207; }
+L_bb16_i_i207:;
+    v_91 = v_params + 24;
+    v_19_0_i_i = get_P(v_91);
+    v_41_i_i = (u64)v_10_i_i206;
+    v_39_sroa_4_sroa_0_0_extract_trunc_i_i = (u8)(v_19_1_i_i);
+    v_39_sroa_4_sroa_4_0_extract_shift_i_i = (u64)((u64)(v_19_1_i_i) >> (u64)((8u & 63)));
+    v_39_sroa_4_sroa_4_0_extract_trunc_i_i = (u16)(v_39_sroa_4_sroa_4_0_extract_shift_i_i);
+    v_39_sroa_4_sroa_5_0_extract_shift_i_i = (u64)((u64)(v_19_1_i_i) >> (u64)((24u & 63)));
+    v_39_sroa_4_sroa_5_0_extract_trunc_i_i = (u64)((v_39_sroa_4_sroa_5_0_extract_shift_i_i) & (((u64)1 << 40) - 1));
+    { p_v_parameters_sroa_6_sroa_5_0_i_i = v_39_sroa_4_sroa_5_0_extract_trunc_i_i; p_v_parameters_sroa_6_sroa_6_0_i_i = v_41_i_i; p_v_parameters_sroa_6_sroa_0_sroa_0_0_i_i = v_39_sroa_4_sroa_0_0_extract_trunc_i_i; p_v_parameters_sroa_0_0_i_i = v_19_0_i_i; p_v_parameters_sroa_6_sroa_0_sroa_5_0_i_i = v_39_sroa_4_sroa_4_0_extract_trunc_i_i; goto L_bb10_i; }
+L_bb10_i:;
+    v_parameters_sroa_6_sroa_5_0_i_i = p_v_parameters_sroa_6_sroa_5_0_i_i;
+    v_parameters_sroa_6_sroa_6_0_i_i = p_v_parameters_sroa_6_sroa_6_0_i_i;
+    v_parameters_sroa_6_sroa_0_sroa_0_0_i_i = p_v_parameters_sroa_6_sroa_0_sroa_0_0_i_i;
+    v_parameters_sroa_0_0_i_i = p_v_parameters_sroa_0_0_i_i;
+    v_parameters_sroa_6_sroa_0_sroa_5_0_i_i = p_v_parameters_sroa_6_sroa_0_sroa_5_0_i_i;
+    v_9_i196 = v_params + 40;
+    v_15_0_i_i = get_P(v_9_i196);
+    v_92 = v_params + 48;
+    v_15_1_i_i = get_u64(v_92);
+    v_93 = (u64)((u64)(v_15_1_i_i) + (u64)(18446744073709551615ull));
+    v_or_cond_i13_i = v_93 < 39u;
+    if (v_or_cond_i13_i) { goto L_bb9_i15_i; } else { p_v_0_sroa_0_0 = 6u; goto L_bb4; }
+L_bb9_i15_i:;
+    v_94 = v_15_0_i_i + (int64_t)(v_93);
+    v_11_i17_i = get_u8(v_94);
+    v_10_i18_i = (u8)(v_11_i17_i ^ ((u8)1 << 7)) > (u8)(255u ^ ((u8)1 << 7));
+    if (v_10_i18_i) { p_v_octets_0_tr_i72_i = v_15_0_i_i; p_v_octets_1_tr_i73_i = v_93; goto L_tailrecurse_i71_i; } else { goto L_bb9_preheader_i50_i; }
+L_bb5_i19_i:;
+    v_911_not_i49_i = v_15_1_i_i == 0u;
+    if (v_911_not_i49_i) { goto L_bb9_i5_i; } else { goto L_bb9_preheader_i50_i; }
+L_bb9_preheader_i50_i:;
+    v_5_peel_i51_i = get_u8(v_15_0_i_i);
+    v_95 = v_5_peel_i51_i == 128u;
+    if (v_95) { p_v_0_sroa_0_0 = 6u; goto L_bb4; } else { goto L_bb7_peel_i52_i; }
+L_bb7_peel_i52_i:;
+    v_exitcond_peel_not_i53_i = v_15_1_i_i == 1u;
+    if (v_exitcond_peel_not_i53_i) { goto L_object_identifier_is_identifier_exit22_i; } else { p_v_iter_sroa_0_012_i55_i = 1u; goto L_bb9_i54_i; }
+L_bb9_i54_i:;
+    v_iter_sroa_0_012_i55_i = p_v_iter_sroa_0_012_i55_i;
+    v_0_i_i56_i = (u64)((u64)(v_iter_sroa_0_012_i55_i) + (u64)(1u));
+    v_96 = v_15_0_i_i + (int64_t)(v_iter_sroa_0_012_i55_i);
+    v_5_i57_i = get_u8(v_96);
+    v_97 = v_5_i57_i == 128u;
+    if (v_97) { goto L_bb2_i2_i64_i; } else { goto L_bb7_i58_i; }
+L_bb2_i2_i64_i:;
+    v_4_i3_i65_i = (u64)((u64)(v_iter_sroa_0_012_i55_i) + (u64)(18446744073709551615ull));
+    v_6_i4_i66_i = v_4_i3_i65_i < v_15_1_i_i;
+    if (v_6_i4_i66_i) { goto L_object_identifier_is_start_exit9_i68_i; } else { p_v_4_i3_i65_i_lcssa = v_4_i3_i65_i; goto L_panic_i5_i67_i; }
+L_panic_i5_i67_i:;
+    v_4_i3_i65_i_lcssa = p_v_4_i3_i65_i_lcssa;
+    TRAP();
+    TRAP();
+L_object_identifier_is_start_exit9_i68_i:;
+    v_98 = v_15_0_i_i + (int64_t)(v_4_i3_i65_i);
+    v_3_i7_i69_i = get_u8(v_98);
+    v_99 = (u8)(v_3_i7_i69_i ^ ((u8)1 << 7)) > (u8)(255u ^ ((u8)1 << 7));
+    if (v_99) { p_v_0_sroa_0_0 = 6u; goto L_bb4; } else { goto L_bb7_i58_i; }
+L_bb7_i58_i:;
+    v_exitcond_not_i59_i = v_0_i_i56_i == v_15_1_i_i;
+    if (v_exitcond_not_i59_i) { goto L_object_identifier_is_identifier_exit22_i; } else { p_v_iter_sroa_0_012_i55_i = v_0_i_i56_i; goto L_bb9_i54_i; }
+L_tailrecurse_i71_i:;
+    v_octets_0_tr_i72_i = p_v_octets_0_tr_i72_i;
+    v_octets_1_tr_i73_i = p_v_octets_1_tr_i73_i;
+    v_3_i74_i = v_octets_1_tr_i73_i > 7u;
+    if (v_3_i74_i) { goto L_bb6_i100_i; } else { goto L_bb1_i75_i; }
+L_bb1_i75_i:;
+    v_5_i76_i = v_octets_1_tr_i73_i > 3u;
+    if (v_5_i76_i) { goto L_bb5_i88_i; } else { goto L_bb2_i77_i; }
+L_bb6_i100_i:;
+    v_27_i101_i = get_u8(v_octets_0_tr_i72_i);
+    v_26_i102_i = v_27_i101_i != 128u;
+    v_100 = v_octets_0_tr_i72_i + 1;
+    v_29_i103_i = get_u8(v_100);
+    v_28_i104_i = v_29_i103_i != 128u;
+    v_25_i105_i = (u1)(((u32)(v_26_i102_i) & (u32)(v_28_i104_i)) & 1);
+    v_101 = v_octets_0_tr_i72_i + 2;
+    v_31_i106_i = get_u8(v_101);
+    v_30_i107_i = v_31_i106_i != 128u;
+    v_24_i108_i = (u1)(((u32)(v_25_i105_i) & (u32)(v_30_i107_i)) & 1);
+    v_102 = v_octets_0_tr_i72_i + 3;
+    v_33_i109_i = get_u8(v_102);
+    v_32_i110_i = v_33_i109_i != 128u;
+    v_23_i111_i = (u1)(((u32)(v_24_i108_i) & (u32)(v_32_i110_i)) & 1);
+    v_103 = v_octets_0_tr_i72_i + 4;
+    v_35_i112_i = get_u8(v_103);
+    v_34_i113_i = v_35_i112_i != 128u;
+    v_22_i114_i = (u1)(((u32)(v_23_i111_i) & (u32)(v_34_i113_i)) & 1);
+    v_104 = v_octets_0_tr_i72_i + 5;
+    v_37_i115_i = get_u8(v_104);
+    v_36_i116_i = v_37_i115_i != 128u;
+    v_21_i117_i = (u1)(((u32)(v_22_i114_i) & (u32)(v_36_i116_i)) & 1);
+    v_105 = v_octets_0_tr_i72_i + 6;
+    v_39_i118_i = get_u8(v_105);
+    v_38_i119_i = v_39_i118_i != 128u;
+    v_20_i120_i = (u1)(((u32)(v_21_i117_i) & (u32)(v_38_i119_i)) & 1);
+    v_106 = v_octets_0_tr_i72_i + 7;
+    v_41_i121_i = get_u8(v_106);
+    v_40_i122_i = v_41_i121_i != 128u;
+    v_eight_i123_i = (u1)(((u32)(v_20_i120_i) & (u32)(v_40_i122_i)) & 1);
+    if (v_eight_i123_i) { p_v_sink10_i82_i = 18446744073709551608ull; p_v_sink_i83_i = 8u; goto L_tailrecurse_backedge_i81_i; } else { goto L_bb5_i19_i; }
+L_bb2_i77_i:;
+    v_9_not_i78_i = v_octets_1_tr_i73_i == 0u;
+    if (v_9_not_i78_i) { goto L_bb9_i5_i; } else { goto L_bb4_i79_i; }
+L_bb5_i88_i:;
+    v_51_i89_i = get_u8(v_octets_0_tr_i72_i);
+    v_50_i90_i = v_51_i89_i != 128u;
+    v_107 = v_octets_0_tr_i72_i + 1;
+    v_53_i91_i = get_u8(v_107);
+    v_52_i92_i = v_53_i91_i != 128u;
+    v_49_i93_i = (u1)(((u32)(v_50_i90_i) & (u32)(v_52_i92_i)) & 1);
+    v_108 = v_octets_0_tr_i72_i + 2;
+    v_55_i94_i = get_u8(v_108);
+    v_54_i95_i = v_55_i94_i != 128u;
+    v_48_i96_i = (u1)(((u32)(v_49_i93_i) & (u32)(v_54_i95_i)) & 1);
+    v_109 = v_octets_0_tr_i72_i + 3;
+    v_57_i97_i = get_u8(v_109);
+    v_56_i98_i = v_57_i97_i != 128u;
+    v_four_i99_i = (u1)(((u32)(v_48_i96_i) & (u32)(v_56_i98_i)) & 1);
+    if (v_four_i99_i) { p_v_sink10_i82_i = 18446744073709551612ull; p_v_sink_i83_i = 4u; goto L_tailrecurse_backedge_i81_i; } else { goto L_bb5_i19_i; }
+L_bb4_i79_i:;
+    v_60_i80_i = get_u8(v_octets_0_tr_i72_i);
+    v_110 = v_60_i80_i == 128u;
+    if (v_110) { goto L_bb5_i19_i; } else { p_v_sink10_i82_i = 18446744073709551615ull; p_v_sink_i83_i = 1u; goto L_tailrecurse_backedge_i81_i; }
+L_tailrecurse_backedge_i81_i:;
+    v_sink10_i82_i = p_v_sink10_i82_i;
+    v_sink_i83_i = p_v_sink_i83_i;
+    v_later_1_i84_i = (u64)((u64)(v_sink10_i82_i) + (u64)(v_octets_1_tr_i73_i));
+    v_later_0_i85_i = v_octets_0_tr_i72_i + (int64_t)(v_sink_i83_i);
+    { p_v_octets_0_tr_i72_i = v_later_0_i85_i; p_v_octets_1_tr_i73_i = v_later_1_i84_i; goto L_tailrecurse_i71_i; }
+L_object_identifier_is_identifier_exit22_i:;
+    if (v_10_i18_i) { goto L_bb9_i5_i; } else { p_v_0_sroa_0_0 = 6u; goto L_bb4; }
+L_bb9_i5_i:;
+    v_111 = v_params + 56;
     v_112 = get_u8(v_111);
-    v_113 = v_112 == 14u;
-    if (v_113) { goto L_bb13_i_i187; } else { p_v_0_sroa_0_0_i178 = 0u; goto L_MaskHolder_is_default_exit; }
-L_bb13_i_i187:;
-    v_114 = v_91 + 2;
-    v_115 = get_u8(v_114);
-    v_116 = v_115 == 3u;
-    if (v_116) { goto L_bb14_i_i188; } else { p_v_0_sroa_0_0_i178 = 0u; goto L_MaskHolder_is_default_exit; }
-L_bb14_i_i188:;
-    v_117 = v_91 + 3;
-    v_118 = get_u8(v_117);
-    v_119 = v_118 == 2u;
-    if (v_119) { goto L_bb15_i_i189; } else { p_v_0_sroa_0_0_i178 = 0u; goto L_MaskHolder_is_default_exit; }
-L_bb15_i_i189:;
-    v_120 = v_91 + 4;
-    v_10_i_i190 = get_u8(v_120);
-    v_6_i_i191 = v_10_i_i190 == 26u;
-    if (v_6_i_i191) { goto L_bb5_i_i192; } else { p_v_0_sroa_0_0_i178 = 0u; goto L_MaskHolder_is_default_exit; }
-L_bb5_i_i192:;
-    v_8_sroa_3_0_sroa_idx_i_i193 = v_17 + 80;
-    v_8_sroa_3_0_copyload_i_i194 = get_u64(v_8_sroa_3_0_sroa_idx_i_i193);
-    v_8_sroa_4_0_sroa_idx_i_i195 = v_17 + 88;
-    v_8_sroa_4_0_copyload_i_i196 = get_u64(v_8_sroa_4_0_sroa_idx_i_i195);
-    v_121 = (u64)((u64)(v_8_sroa_4_0_copyload_i_i196) & (u64)(255u));
-    v_122 = v_121 == 5u;
-    v_123 = v_8_sroa_3_0_copyload_i_i194 == 0u;
-    v_0_sroa_0_1_i_i197 = v_122 ? v_123 : 0u;
-    { p_v_0_sroa_0_0_i178 = v_0_sroa_0_1_i_i197; goto L_MaskHolder_is_default_exit; }
+    v_7_i6_i = (u1)((v_112) & 1);
+    if (v_7_i6_i) { goto L_bb2_i_i; } else { p_v_141 = (P)0; p_v_parameters_sroa_6_i_sroa_7_0_i = 0u; p_v_parameters_sroa_6_i_sroa_8_0_i = 0u; p_v_parameters_sroa_6_i_sroa_9_0_i = 0u; p_v_8_sroa_4_0_copyload_i_i646 = 0u; p_v_parameters_sroa_6_i_sroa_0_sroa_0_0_i = 0u; p_v_142 = (P)0; goto L_bb12_i; }
+L_bb2_i_i:;
+    v_10_i8_i = v_params + 64;
+    v_18_0_i_i_i = get_P(v_10_i8_i);
+    v_113 = v_params + 72;
+    v_18_1_i_i_i = get_u64(v_113);
+    v_114 = (u64)((u64)(v_18_1_i_i_i) + (u64)(18446744073709551615ull));
+    v_or_cond_i_i = v_114 < 39u;
+    if (v_or_cond_i_i) { goto L_bb9_i9_i; } else { p_v_0_sroa_0_0 = 6u; goto L_bb4; }
+L_bb9_i9_i:;
+    v_115 = v_18_0_i_i_i + (int64_t)(v_114);
+    v_11_i_i = get_u8(v_115);
+    v_10_i10_i = (u8)(v_11_i_i ^ ((u8)1 << 7)) > (u8)(255u ^ ((u8)1 << 7));
+    if (v_10_i10_i) { p_v_octets_0_tr_i148_i = v_18_0_i_i_i; p_v_octets_1_tr_i149_i = v_114; goto L_tailrecurse_i147_i; } else { goto L_bb9_preheader_i126_i; }
+L_bb5_i11_i:;
+    v_911_not_i125_i = v_18_1_i_i_i == 0u;
+    if (v_911_not_i125_i) { goto L_bb8_i_i_i; } else { goto L_bb9_preheader_i126_i; }
+L_bb9_preheader_i126_i:;
+    v_5_peel_i127_i = get_u8(v_18_0_i_i_i);
+    v_116 = v_5_peel_i127_i == 128u;
+    if (v_116) { p_v_0_sroa_0_0 = 6u; goto L_bb4; } else { goto L_bb7_peel_i128_i; }
+L_bb7_peel_i128_i:;
+    v_exitcond_peel_not_i129_i = v_18_1_i_i_i == 1u;
+    if (v_exitcond_peel_not_i129_i) { goto L_object_identifier_is_identifier_exit_i; } else { p_v_iter_sroa_0_012_i131_i = 1u; goto L_bb9_i130_i; }
+L_bb9_i130_i:;
+    v_iter_sroa_0_012_i131_i = p_v_iter_sroa_0_012_i131_i;
+    v_0_i_i132_i = (u64)((u64)(v_iter_sroa_0_012_i131_i) + (u64)(1u));
+    v_117 = v_18_0_i_i_i + (int64_t)(v_iter_sroa_0_012_i131_i);
+    v_5_i133_i = get_u8(v_117);
+    v_118 = v_5_i133_i == 128u;
+    if (v_118) { goto L_bb2_i2_i140_i; } else { goto L_bb7_i134_i; }
+L_bb2_i2_i140_i:;
+    v_4_i3_i141_i = (u64)((u64)(v_iter_sroa_0_012_i131_i) + (u64)(18446744073709551615ull));
+    v_6_i4_i142_i = v_4_i3_i141_i < v_18_1_i_i_i;
+    if (v_6_i4_i142_i) { goto L_object_identifier_is_start_exit9_i144_i; } else { p_v_4_i3_i141_i_lcssa = v_4_i3_i141_i; goto L_panic_i5_i143_i; }
+L_panic_i5_i143_i:;
+    v_4_i3_i141_i_lcssa = p_v_4_i3_i141_i_lcssa;
+    TRAP();
+    TRAP();
+L_object_identifier_is_start_exit9_i144_i:;
+    v_119 = v_18_0_i_i_i + (int64_t)(v_4_i3_i141_i);
+    v_3_i7_i145_i = get_u8(v_119);
+    v_120 = (u8)(v_3_i7_i145_i ^ ((u8)1 << 7)) > (u8)(255u ^ ((u8)1 << 7));
+    if (v_120) { p_v_0_sroa_0_0 = 6u; goto L_bb4; } else { goto L_bb7_i134_i; }
+L_bb7_i134_i:;
+    v_exitcond_not_i135_i = v_0_i_i132_i == v_18_1_i_i_i;
+    if (v_exitcond_not_i135_i) { goto L_object_identifier_is_identifier_exit_i; } else { p_v_iter_sroa_0_012_i131_i = v_0_i_i132_i; goto L_bb9_i130_i; }
+L_tailrecurse_i147_i:;
+    v_octets_0_tr_i148_i = p_v_octets_0_tr_i148_i;
+    v_octets_1_tr_i149_i = p_v_octets_1_tr_i149_i;
+    v_3_i150_i = v_octets_1_tr_i149_i > 7u;
+    if (v_3_i150_i) { goto L_bb6_i176_i; } else { goto L_bb1_i151_i; }
+L_bb1_i151_i:;
+    v_5_i152_i = v_octets_1_tr_i149_i > 3u;
+    if (v_5_i152_i) { goto L_bb5_i164_i; } else { goto L_bb2_i153_i; }
+L_bb6_i176_i:;
+    v_27_i177_i = get_u8(v_octets_0_tr_i148_i);
+    v_26_i178_i = v_27_i177_i != 128u;
+    v_121 = v_octets_0_tr_i148_i + 1;
+    v_29_i179_i = get_u8(v_121);
+    v_28_i180_i = v_29_i179_i != 128u;
+    v_25_i181_i = (u1)(((u32)(v_26_i178_i) & (u32)(v_28_i180_i)) & 1);
+    v_122 = v_octets_0_tr_i148_i + 2;
+    v_31_i182_i = get_u8(v_122);
+    v_30_i183_i = v_31_i182_i != 128u;
+    v_24_i184_i = (u1)(((u32)(v_25_i181_i) & (u32)(v_30_i183_i)) & 1);
+    v_123 = v_octets_0_tr_i148_i + 3;
+    v_33_i185_i = get_u8(v_123);
+    v_32_i186_i = v_33_i185_i != 128u;
+    v_23_i187_i = (u1)(((u32)(v_24_i184_i) & (u32)(v_32_i186_i)) & 1);
+    v_124 = v_octets_0_tr_i148_i + 4;
+    v_35_i188_i = get_u8(v_124);
+    v_34_i189_i = v_35_i188_i != 128u;
+    v_22_i190_i = (u1)(((u32)(v_23_i187_i) & (u32)(v_34_i189_i)) & 1);
+    v_125 = v_octets_0_tr_i148_i + 5;
+    v_37_i191_i = get_u8(v_125);
+    v_36_i192_i = v_37_i191_i != 128u;
+    v_21_i193_i = (u1)(((u32)(v_22_i190_i) & (u32)(v_36_i192_i)) & 1);
+    v_126 = v_octets_0_tr_i148_i + 6;
+    v_39_i194_i = get_u8(v_126);
+    v_38_i195_i = v_39_i194_i != 128u;
+    v_20_i196_i = (u1)(((u32)(v_21_i193_i) & (u32)(v_38_i195_i)) & 1);
+    v_127 = v_octets_0_tr_i148_i + 7;
+    v_41_i197_i = get_u8(v_127);
+    v_40_i198_i = v_41_i197_i != 128u;
+    v_eight_i199_i = (u1)(((u32)(v_20_i196_i) & (u32)(v_40_i198_i)) & 1);
+    if (v_eight_i199_i) { p_v_sink10_i158_i = 18446744073709551608ull; p_v_sink_i159_i = 8u; goto L_tailrecurse_backedge_i157_i; } else { goto L_bb5_i11_i; }
+L_bb2_i153_i:;
+    v_9_not_i154_i = v_octets_1_tr_i149_i == 0u;
+    if (v_9_not_i154_i) { goto L_bb8_i_i_i; } else { goto L_bb4_i155_i; }
+L_bb5_i164_i:;
+    v_51_i165_i = get_u8(v_octets_0_tr_i148_i);
+    v_50_i166_i = v_51_i165_i != 128u;
+    v_128 = v_octets_0_tr_i148_i + 1;
+    v_53_i167_i = get_u8(v_128);
+    v_52_i168_i = v_53_i167_i != 128u;
+    v_49_i169_i = (u1)(((u32)(v_50_i166_i) & (u32)(v_52_i168_i)) & 1);
+    v_129 = v_octets_0_tr_i148_i + 2;
+    v_55_i170_i = get_u8(v_129);
+    v_54_i171_i = v_55_i170_i != 128u;
+    v_48_i172_i = (u1)(((u32)(v_49_i169_i) & (u32)(v_54_i171_i)) & 1);
+    v_130 = v_octets_0_tr_i148_i + 3;
+    v_57_i173_i = get_u8(v_130);
+    v_56_i174_i = v_57_i173_i != 128u;
+    v_four_i175_i = (u1)(((u32)(v_48_i172_i) & (u32)(v_56_i174_i)) & 1);
+    if (v_four_i175_i) { p_v_sink10_i158_i = 18446744073709551612ull; p_v_sink_i159_i = 4u; goto L_tailrecurse_backedge_i157_i; } else { goto L_bb5_i11_i; }
+L_bb4_i155_i:;
+    v_60_i156_i = get_u8(v_octets_0_tr_i148_i);
+    v_131 = v_60_i156_i == 128u;
+    if (v_131) { goto L_bb5_i11_i; } else { p_v_sink10_i158_i = 18446744073709551615ull; p_v_sink_i159_i = 1u; goto L_tailrecurse_backedge_i157_i; }
+L_tailrecurse_backedge_i157_i:;
+    v_sink10_i158_i = p_v_sink10_i158_i;
+    v_sink_i159_i = p_v_sink_i159_i;
+    v_later_1_i160_i = (u64)((u64)(v_sink10_i158_i) + (u64)(v_octets_1_tr_i149_i));
+    v_later_0_i161_i = v_octets_0_tr_i148_i + (int64_t)(v_sink_i159_i);
+    { p_v_octets_0_tr_i148_i = v_later_0_i161_i; p_v_octets_1_tr_i149_i = v_later_1_i160_i; goto L_tailrecurse_i147_i; }
+L_object_identifier_is_identifier_exit_i:;
+    if (v_10_i10_i) { goto L_bb8_i_i_i; } else { p_v_0_sroa_0_0 = 6u; goto L_bb4; }
+L_bb8_i_i_i:;
+    v_132 = v_params + 80;
+    v_133 = get_u8(v_132);
+    v_7_i_i_i200 = (u1)((v_133) & 1);
+    if (v_7_i_i_i200) { goto L_bb1_i_i_i; } else { p_v_parameters_sroa_6_sroa_5_0_i_i_i = 0u; p_v_parameters_sroa_6_sroa_6_0_i_i_i = 0u; p_v_parameters_sroa_6_sroa_0_sroa_0_0_i_i_i = 0u; p_v_parameters_sroa_0_0_i_i_i = (P)0; p_v_parameters_sroa_6_sroa_0_sroa_5_0_i_i_i = 0u; goto L_bb12_i_i201; }
+L_bb1_i_i_i:;
+    v_134 = v_params + 81;
+    v_10_i_i_i202 = get_u8(v_134);
+    v_28_i_i_i203 = (u8)((u32)(v_10_i_i_i202) & (u32)(31u));
+    v_135 = v_28_i_i_i203 == 31u;
+    v_136 = (u8)((u32)(v_10_i_i_i202) & (u32)(223u));
+    v_137 = v_136 == 0u;
+    v_or_cond3_i_i_i = (u1)(((u32)(v_135) | (u32)(v_137)) & 1);
+    if (v_or_cond3_i_i_i) { p_v_0_sroa_0_0 = 12u; goto L_bb4; } else { goto L_bb14_i_i_i; }
+L_bb14_i_i_i:;
+    v_138 = v_params + 96;
+    v_19_1_i_i_i = get_u64(v_138);
+    v_35_i_i_i204 = v_19_1_i_i_i > 4294967295ull;
+    if (v_35_i_i_i204) { p_v_0_sroa_0_0 = 8u; goto L_bb4; } else { goto L_bb16_i_i_i; }
+L_bb16_i_i_i:;
+    v_139 = v_params + 88;
+    v_19_0_i_i_i = get_P(v_139);
+    v_41_i_i_i = (u64)v_10_i_i_i202;
+    v_39_sroa_4_sroa_0_0_extract_trunc_i_i_i = (u8)(v_19_1_i_i_i);
+    v_39_sroa_4_sroa_4_0_extract_shift_i_i_i = (u64)((u64)(v_19_1_i_i_i) >> (u64)((8u & 63)));
+    v_39_sroa_4_sroa_4_0_extract_trunc_i_i_i = (u16)(v_39_sroa_4_sroa_4_0_extract_shift_i_i_i);
+    v_39_sroa_4_sroa_5_0_extract_shift_i_i_i = (u64)((u64)(v_19_1_i_i_i) >> (u64)((24u & 63)));
+    v_39_sroa_4_sroa_5_0_extract_trunc_i_i_i = (u64)((v_39_sroa_4_sroa_5_0_extract_shift_i_i_i) & (((u64)1 << 40) - 1));
+    { p_v_parameters_sroa_6_sroa_5_0_i_i_i = v_39_sroa_4_sroa_5_0_extract_trunc_i_i_i; p_v_parameters_sroa_6_sroa_6_0_i_i_i = v_41_i_i_i; p_v_parameters_sroa_6_sroa_0_sroa_0_0_i_i_i = v_39_sroa_4_sroa_0_0_extract_trunc_i_i_i; p_v_parameters_sroa_0_0_i_i_i = v_19_0_i_i_i; p_v_parameters_sroa_6_sroa_0_sroa_5_0_i_i_i = v_39_sroa_4_sroa_4_0_extract_trunc_i_i_i; goto L_bb12_i_i201; }
+L_bb12_i_i201:;
+    v_parameters_sroa_6_sroa_5_0_i_i_i = p_v_parameters_sroa_6_sroa_5_0_i_i_i;
+    v_parameters_sroa_6_sroa_6_0_i_i_i = p_v_parameters_sroa_6_sroa_6_0_i_i_i;
+    v_parameters_sroa_6_sroa_0_sroa_0_0_i_i_i = p_v_parameters_sroa_6_sroa_0_sroa_0_0_i_i_i;
+    v_parameters_sroa_0_0_i_i_i = p_v_parameters_sroa_0_0_i_i_i;
+    v_parameters_sroa_6_sroa_0_sroa_5_0_i_i_i = p_v_parameters_sroa_6_sroa_0_sroa_5_0_i_i_i;
+    v_140 = (u32)((v_18_1_i_i_i) & (((u32)1 << 24) - 1));
+    { p_v_141 = v_parameters_sroa_0_0_i_i_i; p_v_parameters_sroa_6_i_sroa_7_0_i = v_parameters_sroa_6_sroa_0_sroa_0_0_i_i_i; p_v_parameters_sroa_6_i_sroa_8_0_i = v_parameters_sroa_6_sroa_0_sroa_5_0_i_i_i; p_v_parameters_sroa_6_i_sroa_9_0_i = v_parameters_sroa_6_sroa_5_0_i_i_i; p_v_8_sroa_4_0_copyload_i_i646 = v_parameters_sroa_6_sroa_6_0_i_i_i; p_v_parameters_sroa_6_i_sroa_0_sroa_0_0_i = v_140; p_v_142 = v_18_0_i_i_i; goto L_bb12_i; }
+L_bb12_i:;
+    v_141 = p_v_141;
+    v_parameters_sroa_6_i_sroa_7_0_i = p_v_parameters_sroa_6_i_sroa_7_0_i;
+    v_parameters_sroa_6_i_sroa_8_0_i = p_v_parameters_sroa_6_i_sroa_8_0_i;
+    v_parameters_sroa_6_i_sroa_9_0_i = p_v_parameters_sroa_6_i_sroa_9_0_i;
+    v_8_sroa_4_0_copyload_i_i646 = p_v_8_sroa_4_0_copyload_i_i646;
+    v_parameters_sroa_6_i_sroa_0_sroa_0_0_i = p_v_parameters_sroa_6_i_sroa_0_sroa_0_0_i;
+    v_142 = p_v_142;
+    if (v_1) { goto L_bb4_i; } else { p_v_0_sroa_0_0 = 14u; goto L_bb4; }
+L_bb4_i:;
+    v_8_sroa_7_sroa_0_0_extract_trunc_i = (u32)((v_15_1_i_i) & (((u32)1 << 24) - 1));
+    v_143 = v_params + 104;
+    v_17_i = get_u8(v_143);
+    put_P(v_made_i, v_18_0_i_i);
+    v_5_i_sroa_8_0_made_i_sroa_idx = v_made_i + 8;
+    v_144 = (u32)((v_18_1_i_i) & (((u32)1 << 24) - 1));
+    put_24(v_5_i_sroa_8_0_made_i_sroa_idx, v_144);
+    v_5_i_sroa_14_0_made_i_sroa_idx = v_made_i + 11;
+    put_40(v_5_i_sroa_14_0_made_i_sroa_idx, 0u);
+    v_5_i_sroa_15_0_made_i_sroa_idx = v_made_i + 16;
+    put_P(v_5_i_sroa_15_0_made_i_sroa_idx, v_parameters_sroa_0_0_i_i);
+    v_5_i_sroa_16_0_made_i_sroa_idx = v_made_i + 24;
+    put_u8(v_5_i_sroa_16_0_made_i_sroa_idx, v_parameters_sroa_6_sroa_0_sroa_0_0_i_i);
+    v_5_i_sroa_17_0_made_i_sroa_idx = v_made_i + 25;
+    put_u16(v_5_i_sroa_17_0_made_i_sroa_idx, v_parameters_sroa_6_sroa_0_sroa_5_0_i_i);
+    v_5_i_sroa_18_0_made_i_sroa_idx = v_made_i + 27;
+    put_40(v_5_i_sroa_18_0_made_i_sroa_idx, v_parameters_sroa_6_sroa_5_0_i_i);
+    v_5_i_sroa_19_0_made_i_sroa_idx = v_made_i + 32;
+    put_u64(v_5_i_sroa_19_0_made_i_sroa_idx, v_parameters_sroa_6_sroa_6_0_i_i);
+    v_5_i_sroa_20_0_made_i_sroa_idx = v_made_i + 40;
+    put_P(v_5_i_sroa_20_0_made_i_sroa_idx, v_15_0_i_i);
+    v_5_i_sroa_21_0_made_i_sroa_idx = v_made_i + 48;
+    put_24(v_5_i_sroa_21_0_made_i_sroa_idx, v_8_sroa_7_sroa_0_0_extract_trunc_i);
+    v_5_i_sroa_22_0_made_i_sroa_idx = v_made_i + 51;
+    put_40(v_5_i_sroa_22_0_made_i_sroa_idx, 0u);
+    v_5_i_sroa_23_0_made_i_sroa_idx = v_made_i + 56;
+    put_P(v_5_i_sroa_23_0_made_i_sroa_idx, v_142);
+    v_5_i_sroa_24_0_made_i_sroa_idx = v_made_i + 64;
+    put_24(v_5_i_sroa_24_0_made_i_sroa_idx, v_parameters_sroa_6_i_sroa_0_sroa_0_0_i);
+    v_5_i_sroa_25_0_made_i_sroa_idx = v_made_i + 67;
+    put_40(v_5_i_sroa_25_0_made_i_sroa_idx, 0u);
+    v_5_i_sroa_26_0_made_i_sroa_idx = v_made_i + 72;
+    put_P(v_5_i_sroa_26_0_made_i_sroa_idx, v_141);
+    v_5_i_sroa_27_0_made_i_sroa_idx = v_made_i + 80;
+    put_u8(v_5_i_sroa_27_0_made_i_sroa_idx, v_parameters_sroa_6_i_sroa_7_0_i);
+    v_5_i_sroa_28_0_made_i_sroa_idx = v_made_i + 81;
+    put_u16(v_5_i_sroa_28_0_made_i_sroa_idx, v_parameters_sroa_6_i_sroa_8_0_i);
+    v_5_i_sroa_29_0_made_i_sroa_idx = v_made_i + 83;
+    put_40(v_5_i_sroa_29_0_made_i_sroa_idx, v_parameters_sroa_6_i_sroa_9_0_i);
+    v_5_i_sroa_30_0_made_i_sroa_idx = v_made_i + 88;
+    put_u64(v_5_i_sroa_30_0_made_i_sroa_idx, v_8_sroa_4_0_copyload_i_i646);
+    v_5_i_sroa_31_0_made_i_sroa_idx = v_made_i + 96;
+    put_u8(v_5_i_sroa_31_0_made_i_sroa_idx, v_17_i);
+    if (v_place_0) { goto L_bb6_i_i_i125; } else { goto L_bb6_i; }
+L_bb6_i:;
+    v_145 = v_parameters_sroa_0_0_i_i != (P)0;
+    v_0_1_i_i_i = get_u64(v_5_i_sroa_8_0_made_i_sroa_idx);
+    v_146 = v_0_1_i_i_i == 5u;
+    v_or_cond733 = v_145 ? v_146 : 0u;
+    if (v_or_cond733) { goto L_bb11_i_i247; } else { p_v_0_sroa_0_0_shrunk_i_i_i229 = 0u; goto L_Fields_non_defaults_exit_i; }
+L_bb11_i_i247:;
+    v_147 = get_u8(v_18_0_i_i);
+    v_148 = v_147 == 43u;
+    if (v_148) { goto L_bb12_i_i248; } else { p_v_0_sroa_0_0_shrunk_i_i_i229 = 0u; goto L_Fields_non_defaults_exit_i; }
+L_bb12_i_i248:;
+    v_149 = v_18_0_i_i + 1;
+    v_150 = get_u8(v_149);
+    v_151 = v_150 == 14u;
+    if (v_151) { goto L_bb13_i_i249; } else { p_v_0_sroa_0_0_shrunk_i_i_i229 = 0u; goto L_Fields_non_defaults_exit_i; }
+L_bb13_i_i249:;
+    v_152 = v_18_0_i_i + 2;
+    v_153 = get_u8(v_152);
+    v_154 = v_153 == 3u;
+    if (v_154) { goto L_bb14_i_i250; } else { p_v_0_sroa_0_0_shrunk_i_i_i229 = 0u; goto L_Fields_non_defaults_exit_i; }
+L_bb14_i_i250:;
+    v_155 = v_18_0_i_i + 3;
+    v_156 = get_u8(v_155);
+    v_157 = v_156 == 2u;
+    if (v_157) { goto L_bb15_i_i251; } else { p_v_0_sroa_0_0_shrunk_i_i_i229 = 0u; goto L_Fields_non_defaults_exit_i; }
+L_bb15_i_i251:;
+    v_158 = v_18_0_i_i + 4;
+    v_10_i_i252 = get_u8(v_158);
+    v_6_i47_i = v_10_i_i252 == 26u;
+    if (v_6_i47_i) { goto L_bb5_i_i253; } else { p_v_0_sroa_0_0_shrunk_i_i_i229 = 0u; goto L_Fields_non_defaults_exit_i; }
+L_bb5_i_i253:;
+    v_8_sroa_3_0_copyload_i_i = get_u64(v_5_i_sroa_16_0_made_i_sroa_idx);
+    v_159 = (u64)((u64)(v_parameters_sroa_6_sroa_6_0_i_i) & (u64)(255u));
+    v_160 = v_159 == 5u;
+    v_161 = v_8_sroa_3_0_copyload_i_i == 0u;
+    v_0_sroa_0_1_i_i = v_160 ? v_161 : 0u;
+    { p_v_0_sroa_0_0_shrunk_i_i_i229 = v_0_sroa_0_1_i_i; goto L_Fields_non_defaults_exit_i; }
+L_Fields_non_defaults_exit_i:;
+    v_0_sroa_0_0_shrunk_i_i_i229 = p_v_0_sroa_0_0_shrunk_i_i_i229;
+    v_3_i_i230 = (u1)(((u32)(v_0_sroa_0_0_shrunk_i_i_i229) ^ (u32)(1u)) & 1);
+    v_2_i_i231 = (u8)v_3_i_i230;
+    v_162 = v_142 != (P)0;
+    v_0_1_i_i604 = get_u64(v_5_i_sroa_21_0_made_i_sroa_idx);
+    v_163 = v_0_1_i_i604 == 9u;
+    v_or_cond735 = v_162 ? v_163 : 0u;
+    if (v_or_cond735) { goto L_bb2_i_i607; } else { p_v_0_sroa_0_0_i606 = 0u; goto L_MaskHolder_is_default_exit; }
+L_bb2_i_i607:;
+    v_21_i_i608 = get_u8(v_15_0_i_i);
+    v_20_i_i609 = v_21_i_i608 == 42u;
+    v_164 = v_15_0_i_i + 1;
+    v_23_i_i610 = get_u8(v_164);
+    v_22_i_i611 = v_23_i_i610 == 134u;
+    v_19_i_i612 = (u1)(((u32)(v_20_i_i609) & (u32)(v_22_i_i611)) & 1);
+    v_165 = v_15_0_i_i + 2;
+    v_25_i_i613 = get_u8(v_165);
+    v_24_i_i614 = v_25_i_i613 == 72u;
+    v_18_i_i615 = (u1)(((u32)(v_19_i_i612) & (u32)(v_24_i_i614)) & 1);
+    v_166 = v_15_0_i_i + 3;
+    v_27_i_i616 = get_u8(v_166);
+    v_26_i_i617 = v_27_i_i616 == 134u;
+    v_17_i_i618 = (u1)(((u32)(v_18_i_i615) & (u32)(v_26_i_i617)) & 1);
+    v_167 = v_15_0_i_i + 4;
+    v_29_i_i619 = get_u8(v_167);
+    v_28_i_i620 = v_29_i_i619 == 247u;
+    v_16_i_i621 = (u1)(((u32)(v_17_i_i618) & (u32)(v_28_i_i620)) & 1);
+    v_168 = v_15_0_i_i + 5;
+    v_31_i_i622 = get_u8(v_168);
+    v_30_i_i623 = v_31_i_i622 == 13u;
+    v_15_i_i624 = (u1)(((u32)(v_16_i_i621) & (u32)(v_30_i_i623)) & 1);
+    v_169 = v_15_0_i_i + 6;
+    v_33_i_i625 = get_u8(v_169);
+    v_32_i_i626 = v_33_i_i625 == 1u;
+    v_14_i_i627 = (u1)(((u32)(v_15_i_i624) & (u32)(v_32_i_i626)) & 1);
+    v_170 = v_15_0_i_i + 7;
+    v_35_i_i628 = get_u8(v_170);
+    v_34_i_i629 = v_35_i_i628 == 1u;
+    v_front_i_i630 = (u1)(((u32)(v_14_i_i627) & (u32)(v_34_i_i629)) & 1);
+    if (v_front_i_i630) { goto L_hash_fields_is_pkcs1_exit_i631; } else { p_v_0_sroa_0_0_i606 = 0u; goto L_MaskHolder_is_default_exit; }
+L_hash_fields_is_pkcs1_exit_i631:;
+    v_171 = v_15_0_i_i + 8;
+    v_36_i_i632 = get_u8(v_171);
+    v_172 = v_36_i_i632 == 8u;
+    if (v_172) { goto L_bb5_i633; } else { p_v_0_sroa_0_0_i606 = 0u; goto L_MaskHolder_is_default_exit; }
+L_bb5_i633:;
+    v_173 = v_141 != (P)0;
+    v_0_1_i_i_i634 = get_u64(v_5_i_sroa_24_0_made_i_sroa_idx);
+    v_174 = v_0_1_i_i_i634 == 5u;
+    v_or_cond_i = v_173 ? v_174 : 0u;
+    if (v_or_cond_i) { goto L_bb11_i_i635; } else { p_v_0_sroa_0_0_i606 = 0u; goto L_MaskHolder_is_default_exit; }
+L_bb11_i_i635:;
+    v_175 = get_u8(v_142);
+    v_176 = v_175 == 43u;
+    if (v_176) { goto L_bb12_i_i636; } else { p_v_0_sroa_0_0_i606 = 0u; goto L_MaskHolder_is_default_exit; }
+L_bb12_i_i636:;
+    v_177 = v_142 + 1;
+    v_178 = get_u8(v_177);
+    v_179 = v_178 == 14u;
+    if (v_179) { goto L_bb13_i_i637; } else { p_v_0_sroa_0_0_i606 = 0u; goto L_MaskHolder_is_default_exit; }
+L_bb13_i_i637:;
+    v_180 = v_142 + 2;
+    v_181 = get_u8(v_180);
+    v_182 = v_181 == 3u;
+    if (v_182) { goto L_bb14_i_i638; } else { p_v_0_sroa_0_0_i606 = 0u; goto L_MaskHolder_is_default_exit; }
+L_bb14_i_i638:;
+    v_183 = v_142 + 3;
+    v_184 = get_u8(v_183);
+    v_185 = v_184 == 2u;
+    if (v_185) { goto L_bb15_i_i639; } else { p_v_0_sroa_0_0_i606 = 0u; goto L_MaskHolder_is_default_exit; }
+L_bb15_i_i639:;
+    v_186 = v_142 + 4;
+    v_10_i_i640 = get_u8(v_186);
+    v_6_i_i641 = v_10_i_i640 == 26u;
+    if (v_6_i_i641) { goto L_bb5_i_i642; } else { p_v_0_sroa_0_0_i606 = 0u; goto L_MaskHolder_is_default_exit; }
+L_bb5_i_i642:;
+    v_8_sroa_3_0_copyload_i_i644 = get_u64(v_5_i_sroa_27_0_made_i_sroa_idx);
+    v_187 = (u64)((u64)(v_8_sroa_4_0_copyload_i_i646) & (u64)(255u));
+    v_188 = v_187 == 5u;
+    v_189 = v_8_sroa_3_0_copyload_i_i644 == 0u;
+    v_0_sroa_0_1_i_i647 = v_188 ? v_189 : 0u;
+    { p_v_0_sroa_0_0_i606 = v_0_sroa_0_1_i_i647; goto L_MaskHolder_is_default_exit; }
 L_MaskHolder_is_default_exit:;
-    v_0_sroa_0_0_i178 = p_v_0_sroa_0_0_i178;
-    v_3_i4_i = (u1)(((u32)(v_0_sroa_0_0_i178) ^ (u32)(1u)) & 1);
-    v_2_i5_i = (u8)v_3_i4_i;
-    v_not_i = v_9_i_i159 == 20u;
-    v_6_i8_i = v_not_i ? 0u : 2u;
-    v_0_i9_i = (u8)((u32)(v_6_i8_i) | (u32)(v_2_i5_i));
-    v_6_i_i = (u8)((u32)(v_0_i9_i) << (u32)((1u & 31)));
-    v_0_i_i = (u8)((u32)(v_6_i_i) | (u32)(v_2_i_i));
-    if (v_0_sroa_0_0_shrunk_i_i_i) { goto L_bb6_i_i11_i_i; } else { goto L_bb7_i_i7_i_i; }
+    v_0_sroa_0_0_i606 = p_v_0_sroa_0_0_i606;
+    v_3_i4_i232 = (u1)(((u32)(v_0_sroa_0_0_i606) ^ (u32)(1u)) & 1);
+    v_2_i5_i233 = (u8)v_3_i4_i232;
+    v_not_i = v_17_i == 20u;
+    v_6_i8_i234 = v_not_i ? 0u : 2u;
+    v_0_i9_i235 = (u8)((u32)(v_6_i8_i234) | (u32)(v_2_i5_i233));
+    v_6_i_i236 = (u8)((u32)(v_0_i9_i235) << (u32)((1u & 31)));
+    v_0_i_i237 = (u8)((u32)(v_6_i_i236) | (u32)(v_2_i_i231));
+    if (v_0_sroa_0_0_shrunk_i_i_i229) { goto L_bb6_i_i11_i_i; } else { goto L_bb7_i_i7_i_i; }
 L_bb6_i_i11_i_i:;
-    if (v_0_sroa_0_0_i178) { goto L_bb6_i133_i_i_i; } else { goto L_bb7_i7_i_i_i; }
+    if (v_0_sroa_0_0_i606) { goto L_bb6_i133_i_i_i; } else { goto L_bb7_i7_i_i_i; }
 L_bb6_i133_i_i_i:;
     if (v_not_i) { p_v_0_sroa_0_0_i_i33_i_i = 0u; goto L_bb4_i_i232_i; } else { goto L_bb7_i541_i_i_i; }
 L_bb7_i541_i_i_i:;
-    v_29_i_i578_i_i_i = (u8)(v_9_i_i159 ^ ((u8)1 << 7)) > (u8)(255u ^ ((u8)1 << 7));
+    v_29_i_i578_i_i_i = (u8)(v_17_i ^ ((u8)1 << 7)) > (u8)(255u ^ ((u8)1 << 7));
     v_i_i579_i_i_i = v_29_i_i578_i_i_i ? 5u : 6u;
     { p_v_0_sroa_0_0_i_i33_i_i = v_i_i579_i_i_i; goto L_bb4_i_i232_i; }
 L_bb7_i7_i_i_i:;
-    v_29_i_i712_i_i_i = (u8)(v_9_i_i159 ^ ((u8)1 << 7)) > (u8)(255u ^ ((u8)1 << 7));
+    v_29_i_i712_i_i_i = (u8)(v_17_i ^ ((u8)1 << 7)) > (u8)(255u ^ ((u8)1 << 7));
     v_i_i713_i_i_i = v_29_i_i712_i_i_i ? 5u : 6u;
-    v_124 = v_not_i ? 0u : v_i_i713_i_i_i;
-    v_125 = v_17 + 48;
-    v_0_1_i97_i_i49_i_i_i = get_u64(v_125);
-    if (v_92) { p_v_10_sroa_0_0_i_i_i76_i_i_i = 0u; goto L_EncodeValue_quick_value_len_exit_i_i75_i_i_i; } else { goto L_bb10_i51_i_i51_i_i_i; }
+    v_190 = v_not_i ? 0u : v_i_i713_i_i_i;
+    v_191 = v_142 == (P)0;
+    if (v_191) { p_v_10_sroa_0_0_i_i_i76_i_i_i = 0u; goto L_EncodeValue_quick_value_len_exit_i_i75_i_i_i; } else { goto L_bb10_i51_i_i51_i_i_i; }
 L_bb10_i51_i_i51_i_i_i:;
-    v_126 = v_17 + 64;
-    v_0_1_i95_i_i53_i_i_i = get_u64(v_126);
-    v_127 = v_17 + 72;
-    v_128 = get_P(v_127);
-    v_129 = v_128 == (P)0;
-    v_130 = v_17 + 80;
-    v_4_1_i89_i_i56_i_i_i = get_u64(v_130);
+    v_0_1_i95_i_i53_i_i_i = get_u64(v_5_i_sroa_24_0_made_i_sroa_idx);
+    v_192 = v_141 == (P)0;
+    v_4_1_i89_i_i56_i_i_i = get_u64(v_5_i_sroa_27_0_made_i_sroa_idx);
     v_5_i90_i_i57_i_i_i = v_4_1_i89_i_i56_i_i_i < 128u;
-    v_131 = (u64)((u64)(v_4_1_i89_i_i56_i_i_i) + (u64)(2u));
-    v_0_sroa_0_0_i91_i_i58_i_i_i = v_5_i90_i_i57_i_i_i ? v_131 : 4294967296ull;
-    v_10_sroa_0_0_i59_i_i60_i_i_i = v_129 ? 0u : v_0_sroa_0_0_i91_i_i58_i_i_i;
+    v_193 = (u64)((u64)(v_4_1_i89_i_i56_i_i_i) + (u64)(2u));
+    v_0_sroa_0_0_i91_i_i58_i_i_i = v_5_i90_i_i57_i_i_i ? v_193 : 4294967296ull;
+    v_10_sroa_0_0_i59_i_i60_i_i_i = v_192 ? 0u : v_0_sroa_0_0_i91_i_i58_i_i_i;
     v_0_i102_i_i62_i_i_i = (u64)((u64)(v_0_1_i95_i_i53_i_i_i) & (u64)(255u));
     v_3_i_i61_i_i63_i_i_i = v_0_i102_i_i62_i_i_i < 128u;
     v_0_sroa_0_0_i_i62_i_i64_i_v_i_i = v_3_i_i61_i_i63_i_i_i ? 2u : 3u;
     v_0_sroa_0_0_i_i62_i_i64_i_i_i = (u64)((u64)(v_0_sroa_0_0_i_i62_i_i64_i_v_i_i) + (u64)(v_0_i102_i_i62_i_i_i));
-    v_132 = (u64)((u64)(v_0_sroa_0_0_i_i62_i_i64_i_i_i) + (u64)(v_10_sroa_0_0_i59_i_i60_i_i_i));
-    v_3_i_i_i_i65_i_i_i = v_132 < 128u;
+    v_194 = (u64)((u64)(v_0_sroa_0_0_i_i62_i_i64_i_i_i) + (u64)(v_10_sroa_0_0_i59_i_i60_i_i_i));
+    v_3_i_i_i_i65_i_i_i = v_194 < 128u;
     if (v_3_i_i_i_i65_i_i_i) { goto L_bb3_i_i_i_i100_i_i_i; } else { goto L_bb4_i_i_i_i66_i_i_i; }
 L_bb4_i_i_i_i66_i_i_i:;
-    v_4_i_i_i_i67_i_i_i = v_132 < 256u;
+    v_4_i_i_i_i67_i_i_i = v_194 < 256u;
     if (v_4_i_i_i_i67_i_i_i) { goto L_bb5_i_i_i_i99_i_i_i; } else { goto L_bb6_i_i_i_i68_i_i_i; }
 L_bb3_i_i_i_i100_i_i_i:;
-    v_133 = (u64)((u64)(v_132) + (u64)(2u));
-    { p_v_10_sroa_0_0_i_i_i76_i_i_i = v_133; goto L_EncodeValue_quick_value_len_exit_i_i75_i_i_i; }
+    v_195 = (u64)((u64)(v_194) + (u64)(2u));
+    { p_v_10_sroa_0_0_i_i_i76_i_i_i = v_195; goto L_EncodeValue_quick_value_len_exit_i_i75_i_i_i; }
 L_bb6_i_i_i_i68_i_i_i:;
-    v_5_i_i_i_i69_i_i_i = v_132 < 65536u;
+    v_5_i_i_i_i69_i_i_i = v_194 < 65536u;
     if (v_5_i_i_i_i69_i_i_i) { goto L_bb7_i_i_i_i98_i_i_i; } else { goto L_bb8_i_i_i_i70_i_i_i; }
 L_bb5_i_i_i_i99_i_i_i:;
-    v_134 = (u64)((u64)(v_132) + (u64)(3u));
-    { p_v_10_sroa_0_0_i_i_i76_i_i_i = v_134; goto L_EncodeValue_quick_value_len_exit_i_i75_i_i_i; }
+    v_196 = (u64)((u64)(v_194) + (u64)(3u));
+    { p_v_10_sroa_0_0_i_i_i76_i_i_i = v_196; goto L_EncodeValue_quick_value_len_exit_i_i75_i_i_i; }
 L_bb8_i_i_i_i70_i_i_i:;
-    v_6_i_i_i_i71_i_i_i = v_132 < 16777216u;
+    v_6_i_i_i_i71_i_i_i = v_194 < 16777216u;
     if (v_6_i_i_i_i71_i_i_i) { goto L_bb9_i_i_i_i97_i_i_i; } else { goto L_bb10_i_i_i_i72_i_i_i; }
 L_bb7_i_i_i_i98_i_i_i:;
-    v_135 = (u64)((u64)(v_132) + (u64)(4u));
-    { p_v_10_sroa_0_0_i_i_i76_i_i_i = v_135; goto L_EncodeValue_quick_value_len_exit_i_i75_i_i_i; }
+    v_197 = (u64)((u64)(v_194) + (u64)(4u));
+    { p_v_10_sroa_0_0_i_i_i76_i_i_i = v_197; goto L_EncodeValue_quick_value_len_exit_i_i75_i_i_i; }
 L_bb10_i_i_i_i72_i_i_i:;
-    v_136 = (u64)((u64)(v_132) + (u64)(6u));
-    { p_v_10_sroa_0_0_i_i_i76_i_i_i = v_136; goto L_EncodeValue_quick_value_len_exit_i_i75_i_i_i; }
+    v_198 = (u64)((u64)(v_194) + (u64)(6u));
+    { p_v_10_sroa_0_0_i_i_i76_i_i_i = v_198; goto L_EncodeValue_quick_value_len_exit_i_i75_i_i_i; }
 L_bb9_i_i_i_i97_i_i_i:;
-    v_137 = (u64)((u64)(v_132) + (u64)(5u));
-    { p_v_10_sroa_0_0_i_i_i76_i_i_i = v_137; goto L_EncodeValue_quick_value_len_exit_i_i75_i_i_i; }
+    v_199 = (u64)((u64)(v_194) + (u64)(5u));
+    { p_v_10_sroa_0_0_i_i_i76_i_i_i = v_199; goto L_EncodeValue_quick_value_len_exit_i_i75_i_i_i; }
 L_EncodeValue_quick_value_len_exit_i_i75_i_i_i:;
     v_10_sroa_0_0_i_i_i76_i_i_i = p_v_10_sroa_0_0_i_i_i76_i_i_i;
-    v_0_i104_i_i78_i_i_i = (u64)((u64)(v_0_1_i97_i_i49_i_i_i) & (u64)(255u));
+    v_0_i104_i_i78_i_i_i = (u64)((u64)(v_0_1_i_i604) & (u64)(255u));
     v_3_i2_i_i_i79_i_i_i = v_0_i104_i_i78_i_i_i < 128u;
     v_0_sroa_0_0_i3_i_i_i80_i_v_i_i = v_3_i2_i_i_i79_i_i_i ? 2u : 3u;
     v_0_sroa_0_0_i3_i_i_i80_i_i_i = (u64)((u64)(v_0_sroa_0_0_i3_i_i_i80_i_v_i_i) + (u64)(v_0_i104_i_i78_i_i_i));
-    v_138 = (u64)((u64)(v_0_sroa_0_0_i3_i_i_i80_i_i_i) + (u64)(v_10_sroa_0_0_i_i_i76_i_i_i));
-    v_3_i_i_i81_i_i_i = v_138 < 128u;
-    if (v_3_i_i_i81_i_i_i) { p_v_sink_i_i = 2u; goto L_AnyRef_quick_len_exit_i35_i_i_i; } else { goto L_bb4_i_i_i82_i_i_i; }
+    v_200 = (u64)((u64)(v_0_sroa_0_0_i3_i_i_i80_i_i_i) + (u64)(v_10_sroa_0_0_i_i_i76_i_i_i));
+    v_3_i_i_i81_i_i_i = v_200 < 128u;
+    if (v_3_i_i_i81_i_i_i) { p_v_sink_i_i246 = 2u; goto L_AnyRef_quick_len_exit_i35_i_i_i; } else { goto L_bb4_i_i_i82_i_i_i; }
 L_bb4_i_i_i82_i_i_i:;
-    v_4_i_i_i83_i_i_i = v_138 < 256u;
-    if (v_4_i_i_i83_i_i_i) { p_v_sink_i_i = 3u; goto L_AnyRef_quick_len_exit_i35_i_i_i; } else { goto L_bb6_i_i_i84_i_i_i; }
+    v_4_i_i_i83_i_i_i = v_200 < 256u;
+    if (v_4_i_i_i83_i_i_i) { p_v_sink_i_i246 = 3u; goto L_AnyRef_quick_len_exit_i35_i_i_i; } else { goto L_bb6_i_i_i84_i_i_i; }
 L_bb6_i_i_i84_i_i_i:;
-    v_5_i_i_i85_i_i_i = v_138 < 65536u;
-    if (v_5_i_i_i85_i_i_i) { p_v_sink_i_i = 4u; goto L_AnyRef_quick_len_exit_i35_i_i_i; } else { goto L_bb8_i_i_i86_i_i_i; }
+    v_5_i_i_i85_i_i_i = v_200 < 65536u;
+    if (v_5_i_i_i85_i_i_i) { p_v_sink_i_i246 = 4u; goto L_AnyRef_quick_len_exit_i35_i_i_i; } else { goto L_bb8_i_i_i86_i_i_i; }
 L_bb8_i_i_i86_i_i_i:;
-    v_6_i_i_i87_i_i_i = v_138 < 16777216u;
+    v_6_i_i_i87_i_i_i = v_200 < 16777216u;
     v_i_i = v_6_i_i_i87_i_i_i ? 5u : 6u;
-    { p_v_sink_i_i = v_i_i; goto L_AnyRef_quick_len_exit_i35_i_i_i; }
+    { p_v_sink_i_i246 = v_i_i; goto L_AnyRef_quick_len_exit_i35_i_i_i; }
 L_AnyRef_quick_len_exit_i35_i_i_i:;
-    v_sink_i_i = p_v_sink_i_i;
-    v_139 = (u64)((u64)(v_sink_i_i) + (u64)(v_138));
-    { p_v_sink55_i_i = v_139; p_v_0_sroa_0_0_i705_i_sink_i_i = v_124; goto L_EncodeValue_quick_value_len_exit_i_i; }
+    v_sink_i_i246 = p_v_sink_i_i246;
+    v_201 = (u64)((u64)(v_sink_i_i246) + (u64)(v_200));
+    { p_v_sink55_i_i = v_201; p_v_0_sroa_0_0_i705_i_sink_i_i = v_190; goto L_EncodeValue_quick_value_len_exit_i_i; }
 L_bb7_i_i7_i_i:;
-    if (v_0_sroa_0_0_i178) { goto L_bb6_i266_i_i_i; } else { goto L_bb7_i140_i_i_i; }
+    if (v_0_sroa_0_0_i606) { goto L_bb6_i266_i_i_i; } else { goto L_bb7_i140_i_i_i; }
 L_bb6_i266_i_i_i:;
     if (v_not_i) { p_v_0_sroa_0_0_i170_i_i_i = 0u; goto L_bb6_i_i_i_i_i; } else { goto L_bb7_i274_i_i_i; }
 L_bb7_i274_i_i_i:;
-    v_29_i_i311_i_i_i = (u8)(v_9_i_i159 ^ ((u8)1 << 7)) > (u8)(255u ^ ((u8)1 << 7));
+    v_29_i_i311_i_i_i = (u8)(v_17_i ^ ((u8)1 << 7)) > (u8)(255u ^ ((u8)1 << 7));
     v_i_i312_i_i_i = v_29_i_i311_i_i_i ? 5u : 6u;
     { p_v_0_sroa_0_0_i170_i_i_i = v_i_i312_i_i_i; goto L_bb6_i_i_i_i_i; }
 L_bb7_i140_i_i_i:;
-    v_29_i_i444_i_i_i = (u8)(v_9_i_i159 ^ ((u8)1 << 7)) > (u8)(255u ^ ((u8)1 << 7));
+    v_29_i_i444_i_i_i = (u8)(v_17_i ^ ((u8)1 << 7)) > (u8)(255u ^ ((u8)1 << 7));
     v_i_i445_i_i_i = v_29_i_i444_i_i_i ? 5u : 6u;
-    v_140 = v_not_i ? 0u : v_i_i445_i_i_i;
-    v_141 = v_17 + 48;
-    v_0_1_i97_i_i182_i_i_i = get_u64(v_141);
-    if (v_92) { p_v_10_sroa_0_0_i_i_i209_i_i_i = 0u; goto L_EncodeValue_quick_value_len_exit_i_i208_i_i_i; } else { goto L_bb10_i51_i_i184_i_i_i; }
+    v_202 = v_not_i ? 0u : v_i_i445_i_i_i;
+    v_203 = v_142 == (P)0;
+    if (v_203) { p_v_10_sroa_0_0_i_i_i209_i_i_i = 0u; goto L_EncodeValue_quick_value_len_exit_i_i208_i_i_i; } else { goto L_bb10_i51_i_i184_i_i_i; }
 L_bb10_i51_i_i184_i_i_i:;
-    v_142 = v_17 + 64;
-    v_0_1_i95_i_i186_i_i_i = get_u64(v_142);
-    v_143 = v_17 + 72;
-    v_144 = get_P(v_143);
-    v_145 = v_144 == (P)0;
-    v_146 = v_17 + 80;
-    v_4_1_i89_i_i189_i_i_i = get_u64(v_146);
+    v_0_1_i95_i_i186_i_i_i = get_u64(v_5_i_sroa_24_0_made_i_sroa_idx);
+    v_204 = v_141 == (P)0;
+    v_4_1_i89_i_i189_i_i_i = get_u64(v_5_i_sroa_27_0_made_i_sroa_idx);
     v_5_i90_i_i190_i_i_i = v_4_1_i89_i_i189_i_i_i < 128u;
-    v_147 = (u64)((u64)(v_4_1_i89_i_i189_i_i_i) + (u64)(2u));
-    v_0_sroa_0_0_i91_i_i191_i_i_i = v_5_i90_i_i190_i_i_i ? v_147 : 4294967296ull;
-    v_10_sroa_0_0_i59_i_i193_i_i_i = v_145 ? 0u : v_0_sroa_0_0_i91_i_i191_i_i_i;
+    v_205 = (u64)((u64)(v_4_1_i89_i_i189_i_i_i) + (u64)(2u));
+    v_0_sroa_0_0_i91_i_i191_i_i_i = v_5_i90_i_i190_i_i_i ? v_205 : 4294967296ull;
+    v_10_sroa_0_0_i59_i_i193_i_i_i = v_204 ? 0u : v_0_sroa_0_0_i91_i_i191_i_i_i;
     v_0_i102_i_i195_i_i_i = (u64)((u64)(v_0_1_i95_i_i186_i_i_i) & (u64)(255u));
     v_3_i_i61_i_i196_i_i_i = v_0_i102_i_i195_i_i_i < 128u;
     v_0_sroa_0_0_i_i62_i_i197_i_v_i_i = v_3_i_i61_i_i196_i_i_i ? 2u : 3u;
     v_0_sroa_0_0_i_i62_i_i197_i_i_i = (u64)((u64)(v_0_sroa_0_0_i_i62_i_i197_i_v_i_i) + (u64)(v_0_i102_i_i195_i_i_i));
-    v_148 = (u64)((u64)(v_0_sroa_0_0_i_i62_i_i197_i_i_i) + (u64)(v_10_sroa_0_0_i59_i_i193_i_i_i));
-    v_3_i_i_i_i198_i_i_i = v_148 < 128u;
+    v_206 = (u64)((u64)(v_0_sroa_0_0_i_i62_i_i197_i_i_i) + (u64)(v_10_sroa_0_0_i59_i_i193_i_i_i));
+    v_3_i_i_i_i198_i_i_i = v_206 < 128u;
     if (v_3_i_i_i_i198_i_i_i) { goto L_bb3_i_i_i_i233_i_i_i; } else { goto L_bb4_i_i_i_i199_i_i_i; }
 L_bb4_i_i_i_i199_i_i_i:;
-    v_4_i_i_i_i200_i_i_i = v_148 < 256u;
+    v_4_i_i_i_i200_i_i_i = v_206 < 256u;
     if (v_4_i_i_i_i200_i_i_i) { goto L_bb5_i_i_i_i232_i_i_i; } else { goto L_bb6_i_i_i_i201_i_i_i; }
 L_bb3_i_i_i_i233_i_i_i:;
-    v_149 = (u64)((u64)(v_148) + (u64)(2u));
-    { p_v_10_sroa_0_0_i_i_i209_i_i_i = v_149; goto L_EncodeValue_quick_value_len_exit_i_i208_i_i_i; }
+    v_207 = (u64)((u64)(v_206) + (u64)(2u));
+    { p_v_10_sroa_0_0_i_i_i209_i_i_i = v_207; goto L_EncodeValue_quick_value_len_exit_i_i208_i_i_i; }
 L_bb6_i_i_i_i201_i_i_i:;
-    v_5_i_i_i_i202_i_i_i = v_148 < 65536u;
+    v_5_i_i_i_i202_i_i_i = v_206 < 65536u;
     if (v_5_i_i_i_i202_i_i_i) { goto L_bb7_i_i_i_i231_i_i_i; } else { goto L_bb8_i_i_i_i203_i_i_i; }
 L_bb5_i_i_i_i232_i_i_i:;
-    v_150 = (u64)((u64)(v_148) + (u64)(3u));
-    { p_v_10_sroa_0_0_i_i_i209_i_i_i = v_150; goto L_EncodeValue_quick_value_len_exit_i_i208_i_i_i; }
+    v_208 = (u64)((u64)(v_206) + (u64)(3u));
+    { p_v_10_sroa_0_0_i_i_i209_i_i_i = v_208; goto L_EncodeValue_quick_value_len_exit_i_i208_i_i_i; }
 L_bb8_i_i_i_i203_i_i_i:;
-    v_6_i_i_i_i204_i_i_i = v_148 < 16777216u;
+    v_6_i_i_i_i204_i_i_i = v_206 < 16777216u;
     if (v_6_i_i_i_i204_i_i_i) { goto L_bb9_i_i_i_i230_i_i_i; } else { goto L_bb10_i_i_i_i205_i_i_i; }
 L_bb7_i_i_i_i231_i_i_i:;
-    v_151 = (u64)((u64)(v_148) + (u64)(4u));
-    { p_v_10_sroa_0_0_i_i_i209_i_i_i = v_151; goto L_EncodeValue_quick_value_len_exit_i_i208_i_i_i; }
+    v_209 = (u64)((u64)(v_206) + (u64)(4u));
+    { p_v_10_sroa_0_0_i_i_i209_i_i_i = v_209; goto L_EncodeValue_quick_value_len_exit_i_i208_i_i_i; }
 L_bb10_i_i_i_i205_i_i_i:;
-    v_152 = (u64)((u64)(v_148) + (u64)(6u));
-    { p_v_10_sroa_0_0_i_i_i209_i_i_i = v_152; goto L_EncodeValue_quick_value_len_exit_i_i208_i_i_i; }
+    v_210 = (u64)((u64)(v_206) + (u64)(6u));
+    { p_v_10_sroa_0_0_i_i_i209_i_i_i = v_210; goto L_EncodeValue_quick_value_len_exit_i_i208_i_i_i; }
 L_bb9_i_i_i_i230_i_i_i:;
-    v_153 = (u64)((u64)(v_148) + (u64)(5u));
-    { p_v_10_sroa_0_0_i_i_i209_i_i_i = v_153; goto L_EncodeValue_quick_value_len_exit_i_i208_i_i_i; }
+    v_211 = (u64)((u64)(v_206) + (u64)(5u));
+    { p_v_10_sroa_0_0_i_i_i209_i_i_i = v_211; goto L_EncodeValue_quick_value_len_exit_i_i208_i_i_i; }
 L_EncodeValue_quick_value_len_exit_i_i208_i_i_i:;
     v_10_sroa_0_0_i_i_i209_i_i_i = p_v_10_sroa_0_0_i_i_i209_i_i_i;
-    v_0_i104_i_i211_i_i_i = (u64)((u64)(v_0_1_i97_i_i182_i_i_i) & (u64)(255u));
+    v_0_i104_i_i211_i_i_i = (u64)((u64)(v_0_1_i_i604) & (u64)(255u));
     v_3_i2_i_i_i212_i_i_i = v_0_i104_i_i211_i_i_i < 128u;
     v_0_sroa_0_0_i3_i_i_i213_i_v_i_i = v_3_i2_i_i_i212_i_i_i ? 2u : 3u;
     v_0_sroa_0_0_i3_i_i_i213_i_i_i = (u64)((u64)(v_0_sroa_0_0_i3_i_i_i213_i_v_i_i) + (u64)(v_0_i104_i_i211_i_i_i));
-    v_154 = (u64)((u64)(v_0_sroa_0_0_i3_i_i_i213_i_i_i) + (u64)(v_10_sroa_0_0_i_i_i209_i_i_i));
-    v_3_i_i_i214_i_i_i = v_154 < 128u;
+    v_212 = (u64)((u64)(v_0_sroa_0_0_i3_i_i_i213_i_i_i) + (u64)(v_10_sroa_0_0_i_i_i209_i_i_i));
+    v_3_i_i_i214_i_i_i = v_212 < 128u;
     if (v_3_i_i_i214_i_i_i) { p_v_sink51_i_i = 2u; goto L_AnyRef_quick_len_exit_i168_i_i_i; } else { goto L_bb4_i_i_i215_i_i_i; }
 L_bb4_i_i_i215_i_i_i:;
-    v_4_i_i_i216_i_i_i = v_154 < 256u;
+    v_4_i_i_i216_i_i_i = v_212 < 256u;
     if (v_4_i_i_i216_i_i_i) { p_v_sink51_i_i = 3u; goto L_AnyRef_quick_len_exit_i168_i_i_i; } else { goto L_bb6_i_i_i217_i_i_i; }
 L_bb6_i_i_i217_i_i_i:;
-    v_5_i_i_i218_i_i_i = v_154 < 65536u;
+    v_5_i_i_i218_i_i_i = v_212 < 65536u;
     if (v_5_i_i_i218_i_i_i) { p_v_sink51_i_i = 4u; goto L_AnyRef_quick_len_exit_i168_i_i_i; } else { goto L_bb8_i_i_i219_i_i_i; }
 L_bb8_i_i_i219_i_i_i:;
-    v_6_i_i_i220_i_i_i = v_154 < 16777216u;
-    v_56_i_i = v_6_i_i_i220_i_i_i ? 5u : 6u;
-    { p_v_sink51_i_i = v_56_i_i; goto L_AnyRef_quick_len_exit_i168_i_i_i; }
+    v_6_i_i_i220_i_i_i = v_212 < 16777216u;
+    v_56_i_i__2 = v_6_i_i_i220_i_i_i ? 5u : 6u;
+    { p_v_sink51_i_i = v_56_i_i__2; goto L_AnyRef_quick_len_exit_i168_i_i_i; }
 L_AnyRef_quick_len_exit_i168_i_i_i:;
     v_sink51_i_i = p_v_sink51_i_i;
-    v_155 = (u64)((u64)(v_sink51_i_i) + (u64)(v_154));
-    v_31_i_i224_i_i_i = v_155 < 128u;
-    v_156 = (u64)((u64)(v_155) + (u64)(2u));
-    v_spec_select19_i_i225_i_i_i = v_31_i_i224_i_i_i ? v_156 : 4294967296ull;
-    v_157 = (u64)((u64)(v_spec_select19_i_i225_i_i_i) + (u64)(v_140));
-    { p_v_0_sroa_0_0_i170_i_i_i = v_157; goto L_bb6_i_i_i_i_i; }
+    v_213 = (u64)((u64)(v_sink51_i_i) + (u64)(v_212));
+    v_31_i_i224_i_i_i = v_213 < 128u;
+    v_214 = (u64)((u64)(v_213) + (u64)(2u));
+    v_spec_select19_i_i225_i_i_i = v_31_i_i224_i_i_i ? v_214 : 4294967296ull;
+    v_215 = (u64)((u64)(v_spec_select19_i_i225_i_i_i) + (u64)(v_202));
+    { p_v_0_sroa_0_0_i170_i_i_i = v_215; goto L_bb6_i_i_i_i_i; }
 L_bb6_i_i_i_i_i:;
     v_0_sroa_0_0_i170_i_i_i = p_v_0_sroa_0_0_i170_i_i_i;
-    v_158 = v_17 + 8;
-    v_0_1_i93_i_i_i_i_i = get_u64(v_158);
-    v_159 = v_17 + 24;
-    v_4_1_i86_i_i_i_i_i = get_u64(v_159);
+    v_4_1_i86_i_i_i_i_i = get_u64(v_5_i_sroa_16_0_made_i_sroa_idx);
     v_5_i87_i_i_i_i_i = v_4_1_i86_i_i_i_i_i < 128u;
-    v_160 = (u64)((u64)(v_4_1_i86_i_i_i_i_i) + (u64)(2u));
-    v_0_sroa_0_0_i88_i_i_i_i_i = v_5_i87_i_i_i_i_i ? v_160 : 4294967296ull;
-    v_10_sroa_0_0_i69_i_i_i_i_i = v_72 ? 0u : v_0_sroa_0_0_i88_i_i_i_i_i;
-    v_0_i100_i_i_i_i_i = (u64)((u64)(v_0_1_i93_i_i_i_i_i) & (u64)(255u));
+    v_216 = (u64)((u64)(v_4_1_i86_i_i_i_i_i) + (u64)(2u));
+    v_0_sroa_0_0_i88_i_i_i_i_i = v_5_i87_i_i_i_i_i ? v_216 : 4294967296ull;
+    v_10_sroa_0_0_i69_i_i_i_i_i = v_145 ? v_0_sroa_0_0_i88_i_i_i_i_i : 0u;
+    v_0_i100_i_i_i_i_i = (u64)((u64)(v_0_1_i_i_i) & (u64)(255u));
     v_3_i_i70_i_i_i_i_i = v_0_i100_i_i_i_i_i < 128u;
     v_0_sroa_0_0_i_i71_i_i_i_v_i_i = v_3_i_i70_i_i_i_i_i ? 2u : 3u;
     v_0_sroa_0_0_i_i71_i_i_i_i_i = (u64)((u64)(v_0_sroa_0_0_i_i71_i_i_i_v_i_i) + (u64)(v_0_i100_i_i_i_i_i));
-    v_161 = (u64)((u64)(v_0_sroa_0_0_i_i71_i_i_i_i_i) + (u64)(v_10_sroa_0_0_i69_i_i_i_i_i));
-    v_3_i36_i_i_i_i_i = v_161 < 128u;
+    v_217 = (u64)((u64)(v_0_sroa_0_0_i_i71_i_i_i_i_i) + (u64)(v_10_sroa_0_0_i69_i_i_i_i_i));
+    v_3_i36_i_i_i_i_i = v_217 < 128u;
     if (v_3_i36_i_i_i_i_i) { p_v_sink52_i_i = 2u; goto L_AnyRef_quick_len_exit_i_i_i_i; } else { goto L_bb4_i37_i_i_i_i_i; }
 L_bb4_i37_i_i_i_i_i:;
-    v_4_i38_i_i_i_i_i = v_161 < 256u;
+    v_4_i38_i_i_i_i_i = v_217 < 256u;
     if (v_4_i38_i_i_i_i_i) { p_v_sink52_i_i = 3u; goto L_AnyRef_quick_len_exit_i_i_i_i; } else { goto L_bb6_i39_i_i_i_i_i; }
 L_bb6_i39_i_i_i_i_i:;
-    v_5_i40_i_i_i_i_i = v_161 < 65536u;
+    v_5_i40_i_i_i_i_i = v_217 < 65536u;
     if (v_5_i40_i_i_i_i_i) { p_v_sink52_i_i = 4u; goto L_AnyRef_quick_len_exit_i_i_i_i; } else { goto L_bb8_i41_i_i_i_i_i; }
 L_bb8_i41_i_i_i_i_i:;
-    v_6_i42_i_i_i_i_i = v_161 < 16777216u;
-    v_57_i_i = v_6_i42_i_i_i_i_i ? 5u : 6u;
-    { p_v_sink52_i_i = v_57_i_i; goto L_AnyRef_quick_len_exit_i_i_i_i; }
+    v_6_i42_i_i_i_i_i = v_217 < 16777216u;
+    v_57_i_i__2 = v_6_i42_i_i_i_i_i ? 5u : 6u;
+    { p_v_sink52_i_i = v_57_i_i__2; goto L_AnyRef_quick_len_exit_i_i_i_i; }
 L_AnyRef_quick_len_exit_i_i_i_i:;
     v_sink52_i_i = p_v_sink52_i_i;
-    v_162 = (u64)((u64)(v_sink52_i_i) + (u64)(v_161));
-    { p_v_sink55_i_i = v_162; p_v_0_sroa_0_0_i705_i_sink_i_i = v_0_sroa_0_0_i170_i_i_i; goto L_EncodeValue_quick_value_len_exit_i_i; }
+    v_218 = (u64)((u64)(v_sink52_i_i) + (u64)(v_217));
+    { p_v_sink55_i_i = v_218; p_v_0_sroa_0_0_i705_i_sink_i_i = v_0_sroa_0_0_i170_i_i_i; goto L_EncodeValue_quick_value_len_exit_i_i; }
 L_EncodeValue_quick_value_len_exit_i_i:;
     v_sink55_i_i = p_v_sink55_i_i;
     v_0_sroa_0_0_i705_i_sink_i_i = p_v_0_sroa_0_0_i705_i_sink_i_i;
     v_31_i_i91_i_i_i = v_sink55_i_i < 128u;
-    v_163 = (u64)((u64)(v_sink55_i_i) + (u64)(2u));
-    v_spec_select19_i_i92_i_i_i = v_31_i_i91_i_i_i ? v_163 : 4294967296ull;
-    v_164 = (u64)((u64)(v_spec_select19_i_i92_i_i_i) + (u64)(v_0_sroa_0_0_i705_i_sink_i_i));
-    v_6_i_i_i = v_164 < 128u;
-    if (v_6_i_i_i) { p_v_0_sroa_0_0_i_i33_i_i = v_164; goto L_bb4_i_i232_i; } else { goto L_bb5_i3_i_i; }
+    v_219 = (u64)((u64)(v_sink55_i_i) + (u64)(2u));
+    v_spec_select19_i_i92_i_i_i = v_31_i_i91_i_i_i ? v_219 : 4294967296ull;
+    v_220 = (u64)((u64)(v_spec_select19_i_i92_i_i_i) + (u64)(v_0_sroa_0_0_i705_i_sink_i_i));
+    v_6_i_i_i = v_220 < 128u;
+    if (v_6_i_i_i) { p_v_0_sroa_0_0_i_i33_i_i = v_220; goto L_bb4_i_i232_i; } else { goto L_bb5_i3_i_i; }
 L_bb5_i3_i_i:;
-    v_7_i_i_i = v_164 < 256u;
-    if (v_7_i_i_i) { goto L_bb6_i_i231_i; } else { goto L_bb7_i_i_i; }
+    v_7_i_i_i238 = v_220 < 256u;
+    if (v_7_i_i_i238) { goto L_bb6_i_i231_i; } else { goto L_bb7_i_i_i239; }
 L_bb4_i_i232_i:;
     v_0_sroa_0_0_i_i33_i_i = p_v_0_sroa_0_0_i_i33_i_i;
-    v_165 = (u64)((u64)(v_0_sroa_0_0_i_i33_i_i) + (u64)(2u));
-    { p_v_0_sroa_31_0_in_i50_i_i = v_165; goto L_bb4_i_i; }
-L_bb7_i_i_i:;
-    v_8_i_i_i = v_164 < 65536u;
-    if (v_8_i_i_i) { goto L_bb8_i_i_i; } else { goto L_bb9_i_i_i; }
+    v_221 = (u64)((u64)(v_0_sroa_0_0_i_i33_i_i) + (u64)(2u));
+    { p_v_0_sroa_31_0_in_i50_i_i = v_221; goto L_bb4_i_i242; }
+L_bb7_i_i_i239:;
+    v_8_i_i_i = v_220 < 65536u;
+    if (v_8_i_i_i) { goto L_bb8_i_i_i245; } else { goto L_bb9_i_i_i; }
 L_bb6_i_i231_i:;
-    v_166 = (u64)((u64)(v_164) + (u64)(3u));
-    { p_v_0_sroa_31_0_in_i50_i_i = v_166; goto L_bb4_i_i; }
+    v_222 = (u64)((u64)(v_220) + (u64)(3u));
+    { p_v_0_sroa_31_0_in_i50_i_i = v_222; goto L_bb4_i_i242; }
 L_bb9_i_i_i:;
-    v_9_i_i_i = v_164 < 16777216u;
-    if (v_9_i_i_i) { goto L_bb10_i_i_i; } else { goto L_bb3_i_i_i160; }
-L_bb8_i_i_i:;
-    v_167 = (u64)((u64)(v_164) + (u64)(4u));
-    { p_v_0_sroa_31_0_in_i50_i_i = v_167; goto L_bb4_i_i; }
+    v_9_i_i_i = v_220 < 16777216u;
+    if (v_9_i_i_i) { goto L_bb10_i_i_i; } else { goto L_bb3_i_i_i240; }
+L_bb8_i_i_i245:;
+    v_223 = (u64)((u64)(v_220) + (u64)(4u));
+    { p_v_0_sroa_31_0_in_i50_i_i = v_223; goto L_bb4_i_i242; }
 L_bb10_i_i_i:;
-    v_168 = (u64)((u64)(v_164) + (u64)(5u));
-    { p_v_0_sroa_31_0_in_i50_i_i = v_168; goto L_bb4_i_i; }
-L_bb3_i_i_i160:;
-    v_169 = (u64)((u64)(v_164) + (u64)(6u));
-    v_10_i_i_i = v_164 < 4294967290ull;
-    if (v_10_i_i_i) { p_v_0_sroa_31_0_in_i50_i_i = v_169; goto L_bb4_i_i; } else { goto L_Encode_encoded_len_exit_i_i; }
+    v_224 = (u64)((u64)(v_220) + (u64)(5u));
+    { p_v_0_sroa_31_0_in_i50_i_i = v_224; goto L_bb4_i_i242; }
+L_bb3_i_i_i240:;
+    v_225 = (u64)((u64)(v_220) + (u64)(6u));
+    v_10_i_i_i241 = v_220 < 4294967290ull;
+    if (v_10_i_i_i241) { p_v_0_sroa_31_0_in_i50_i_i = v_225; goto L_bb4_i_i242; } else { goto L_Encode_encoded_len_exit_i_i; }
 L_Encode_encoded_len_exit_i_i:;
-    v_170 = f_any_AnyRef__2(v_17, v_0_i_i);
-    v_sroa_5_0_extract_shift_i_i_i = (u64)((u64)(v_170) >> (u64)((32u & 63)));
-    v_trunc_i_i = (u1)((v_170) & 1);
-    if (v_trunc_i_i) { goto L_bb3_i228_i; } else { p_v_0_sroa_31_0_in_i50_i_i = v_sroa_5_0_extract_shift_i_i_i; goto L_bb4_i_i; }
-L_bb4_i_i:;
+    v_226 = f_any_AnyRef__2(v_made_i, v_0_i_i237);
+    v_sroa_5_0_extract_shift_i_i_i = (u64)((u64)(v_226) >> (u64)((32u & 63)));
+    v_trunc_i_i = (u1)((v_226) & 1);
+    if (v_trunc_i_i) { goto L_bb3_i228_i; } else { p_v_0_sroa_31_0_in_i50_i_i = v_sroa_5_0_extract_shift_i_i_i; goto L_bb4_i_i242; }
+L_bb4_i_i242:;
     v_0_sroa_31_0_in_i50_i_i = p_v_0_sroa_31_0_in_i50_i_i;
     v_4_i_i_i = v_0_sroa_31_0_in_i50_i_i > v_out_1;
-    if (v_4_i_i_i) { p_v_185 = 15u; goto L_any_AnyRef_exit_i_i; } else { goto L_bb5_i_i224_i; }
+    if (v_4_i_i_i) { p_v_241 = 15u; goto L_any_AnyRef_exit_i_i; } else { goto L_bb5_i_i224_i; }
 L_bb5_i_i224_i:;
     put_P(v_writer_i_i_i, v_out_0);
-    v_171 = v_writer_i_i_i + 8;
-    put_u64(v_171, v_0_sroa_31_0_in_i50_i_i);
-    v_172 = v_writer_i_i_i + 16;
-    put_u64(v_172, v_0_sroa_31_0_in_i50_i_i);
-    f_EncodeValue_prepend_value__2(v_17, v_0_i_i, v_writer_i_i_i);
-    v_15_1_i_i_i = get_u64(v_171);
-    v_14_i_i225_i = get_u64(v_172);
+    v_227 = v_writer_i_i_i + 8;
+    put_u64(v_227, v_0_sroa_31_0_in_i50_i_i);
+    v_228 = v_writer_i_i_i + 16;
+    put_u64(v_228, v_0_sroa_31_0_in_i50_i_i);
+    f_EncodeValue_prepend_value__2(v_made_i, v_0_i_i237, v_writer_i_i_i);
+    v_15_1_i_i_i = get_u64(v_227);
+    v_14_i_i225_i = get_u64(v_228);
     v_7_i5_i_i = (u64)((u64)(v_15_1_i_i_i) - (u64)(v_14_i_i225_i));
     v_16_i_i226_i = (u32)(v_7_i5_i_i);
     v_4_i_i_i_i = v_16_i_i226_i < 128u;
@@ -31206,12 +30111,12 @@ L_bb7_i_i_i_i_i:;
     TRAP();
     TRAP();
 L_copy_from_slice_pkcs1_c_exit_i_i:;
-    v_173 = (P)((u64)v_48_0_i_i_i_i + (u64)(v_14_i_i225_i));
-    v_174 = (P)((u64)v_173 + (u64)(-2));
+    v_229 = (P)((u64)v_48_0_i_i_i_i + (u64)(v_14_i_i225_i));
+    v_230 = (P)((u64)v_229 + (u64)(-2));
     v_7_i_i_sroa_0_sroa_4_0_insert_shift_i_i = (u16)((u32)(v_8_i_i_i_i) << (u32)((8u & 31)));
     v_7_i_i_sroa_0_sroa_0_0_insert_insert_i_i = (u16)((u32)(v_7_i_i_sroa_0_sroa_4_0_insert_shift_i_i) | (u32)(48u));
-    put_u16(v_174, v_7_i_i_sroa_0_sroa_0_0_insert_insert_i_i);
-    { goto L_184; }
+    put_u16(v_230, v_7_i_i_sroa_0_sroa_0_0_insert_insert_i_i);
+    { goto L_240; }
 L_bb4_i_i_i_i:;
     v_14_i_i_i_i = v_16_i_i226_i < 65536u;
     if (v_14_i_i_i_i) { goto L_bb5_i_i_i_i; } else { goto L_bb6_i_i_i_i; }
@@ -31230,14 +30135,14 @@ L_bb7_i19_i_i_i_i:;
     TRAP();
     TRAP();
 L_copy_from_slice_pkcs1_c_exit21_i_i:;
-    v_175 = (P)((u64)v_51_0_i_i_i_i + (u64)(v_14_i_i225_i));
-    v_176 = (P)((u64)v_175 + (u64)(-3));
-    put_u8(v_176, 48u);
-    v_12_i_i_sroa_4_0_sroa_idx_i_i = (P)((u64)v_175 + (u64)(-2));
+    v_231 = (P)((u64)v_51_0_i_i_i_i + (u64)(v_14_i_i225_i));
+    v_232 = (P)((u64)v_231 + (u64)(-3));
+    put_u8(v_232, 48u);
+    v_12_i_i_sroa_4_0_sroa_idx_i_i = (P)((u64)v_231 + (u64)(-2));
     put_u8(v_12_i_i_sroa_4_0_sroa_idx_i_i, 129u);
-    v_12_i_i_sroa_5_0_sroa_idx_i_i = (P)((u64)v_175 + (u64)(-1));
+    v_12_i_i_sroa_5_0_sroa_idx_i_i = (P)((u64)v_231 + (u64)(-1));
     put_u8(v_12_i_i_sroa_5_0_sroa_idx_i_i, v_13_i_i_i_i);
-    { goto L_184; }
+    { goto L_240; }
 L_bb6_i_i_i_i:;
     v_22_i_i_i_i = v_16_i_i226_i < 16777216u;
     if (v_22_i_i_i_i) { goto L_bb7_i_i_i_i; } else { goto L_bb8_i_i_i_i; }
@@ -31255,12 +30160,12 @@ L_bb7_i34_i_i_i_i:;
     TRAP();
     TRAP();
 L_copy_from_slice_pkcs1_c_exit25_i_i:;
-    v_177 = (P)((u64)v_54_0_i_i_i_i + (u64)(v_14_i_i225_i));
-    v_178 = (P)((u64)v_177 + (u64)(-4));
-    v_179 = (u32)((u32)(v_16_i_i226_i) | (u32)(813826048u));
-    v_17_i_i_sroa_0_sroa_0_0_insert_insert_i_i = TURNED(32, v_179);
-    put_u32(v_178, v_17_i_i_sroa_0_sroa_0_0_insert_insert_i_i);
-    { goto L_184; }
+    v_233 = (P)((u64)v_54_0_i_i_i_i + (u64)(v_14_i_i225_i));
+    v_234 = (P)((u64)v_233 + (u64)(-4));
+    v_235 = (u32)((u32)(v_16_i_i226_i) | (u32)(813826048u));
+    v_17_i_i_sroa_0_sroa_0_0_insert_insert_i_i = TURNED(32, v_235);
+    put_u32(v_234, v_17_i_i_sroa_0_sroa_0_0_insert_insert_i_i);
+    { goto L_240; }
 L_bb8_i_i_i_i:;
     v_371_i_i_i_i = (u64)((u64)(v_7_i5_i_i) >> (u64)((24u & 63)));
     v_36_i_i_i_i = (u8)(v_371_i_i_i_i);
@@ -31282,20 +30187,20 @@ L_bb7_i64_i_i_i_i:;
     TRAP();
     TRAP();
 L_copy_from_slice_pkcs1_c_exit29_i_i:;
-    v_180 = (P)((u64)v_60_0_i_i_i_i + (u64)(v_14_i_i225_i));
-    v_181 = (P)((u64)v_180 + (u64)(-6));
-    put_u8(v_181, 48u);
-    v_35_i_i_sroa_4_0_sroa_idx_i_i = (P)((u64)v_180 + (u64)(-5));
+    v_236 = (P)((u64)v_60_0_i_i_i_i + (u64)(v_14_i_i225_i));
+    v_237 = (P)((u64)v_236 + (u64)(-6));
+    put_u8(v_237, 48u);
+    v_35_i_i_sroa_4_0_sroa_idx_i_i = (P)((u64)v_236 + (u64)(-5));
     put_u8(v_35_i_i_sroa_4_0_sroa_idx_i_i, 132u);
-    v_35_i_i_sroa_5_0_sroa_idx_i_i = (P)((u64)v_180 + (u64)(-4));
+    v_35_i_i_sroa_5_0_sroa_idx_i_i = (P)((u64)v_236 + (u64)(-4));
     put_u8(v_35_i_i_sroa_5_0_sroa_idx_i_i, v_36_i_i_i_i);
-    v_35_i_i_sroa_6_0_sroa_idx_i_i = (P)((u64)v_180 + (u64)(-3));
+    v_35_i_i_sroa_6_0_sroa_idx_i_i = (P)((u64)v_236 + (u64)(-3));
     put_u8(v_35_i_i_sroa_6_0_sroa_idx_i_i, v_38_i_i_i_i);
-    v_35_i_i_sroa_7_0_sroa_idx_i_i = (P)((u64)v_180 + (u64)(-2));
+    v_35_i_i_sroa_7_0_sroa_idx_i_i = (P)((u64)v_236 + (u64)(-2));
     put_u8(v_35_i_i_sroa_7_0_sroa_idx_i_i, v_41_i_i_i_i);
-    v_35_i_i_sroa_8_0_sroa_idx_i_i = (P)((u64)v_180 + (u64)(-1));
+    v_35_i_i_sroa_8_0_sroa_idx_i_i = (P)((u64)v_236 + (u64)(-1));
     put_u8(v_35_i_i_sroa_8_0_sroa_idx_i_i, v_44_i_i_i_i);
-    { goto L_184; }
+    { goto L_240; }
 L_bb7_i_i_i_i:;
     v_274_i_i_i_i = (u64)((u64)(v_7_i5_i_i) >> (u64)((16u & 63)));
     v_26_i_i_i_i = (u8)(v_274_i_i_i_i);
@@ -31315,33 +30220,33 @@ L_bb7_i49_i_i_i_i:;
     TRAP();
     TRAP();
 L_copy_from_slice_pkcs1_c_exit33_i_i:;
-    v_182 = (P)((u64)v_57_0_i_i_i_i + (u64)(v_14_i_i225_i));
-    v_183 = (P)((u64)v_182 + (u64)(-5));
-    put_u8(v_183, 48u);
-    v_25_i_i_sroa_4_0_sroa_idx_i_i = (P)((u64)v_182 + (u64)(-4));
+    v_238 = (P)((u64)v_57_0_i_i_i_i + (u64)(v_14_i_i225_i));
+    v_239 = (P)((u64)v_238 + (u64)(-5));
+    put_u8(v_239, 48u);
+    v_25_i_i_sroa_4_0_sroa_idx_i_i = (P)((u64)v_238 + (u64)(-4));
     put_u8(v_25_i_i_sroa_4_0_sroa_idx_i_i, 131u);
-    v_25_i_i_sroa_5_0_sroa_idx_i_i = (P)((u64)v_182 + (u64)(-3));
+    v_25_i_i_sroa_5_0_sroa_idx_i_i = (P)((u64)v_238 + (u64)(-3));
     put_u8(v_25_i_i_sroa_5_0_sroa_idx_i_i, v_26_i_i_i_i);
-    v_25_i_i_sroa_6_0_sroa_idx_i_i = (P)((u64)v_182 + (u64)(-2));
+    v_25_i_i_sroa_6_0_sroa_idx_i_i = (P)((u64)v_238 + (u64)(-2));
     put_u8(v_25_i_i_sroa_6_0_sroa_idx_i_i, v_28_i_i_i_i);
-    v_25_i_i_sroa_7_0_sroa_idx_i_i = (P)((u64)v_182 + (u64)(-1));
+    v_25_i_i_sroa_7_0_sroa_idx_i_i = (P)((u64)v_238 + (u64)(-1));
     put_u8(v_25_i_i_sroa_7_0_sroa_idx_i_i, v_31_i_i_i_i);
-    { goto L_184; }
-L_184:;
-    { p_v_185 = 0u; goto L_any_AnyRef_exit_i_i; }
+    { goto L_240; }
+L_240:;
+    { p_v_241 = 0u; goto L_any_AnyRef_exit_i_i; }
 L_any_AnyRef_exit_i_i:;
-    v_185 = p_v_185;
+    v_241 = p_v_241;
     put_u64(v_len, v_0_sroa_31_0_in_i50_i_i);
-    { p_v_0_sroa_0_1_i227_i = v_185; goto L_any_AnyRef_exit; }
+    { p_v_0_sroa_0_0_i3 = v_241; goto L_bb8_i; }
 L_bb3_i228_i:;
-    v_186 = (u64)((u64)(v_170) >> (u64)((8u & 63)));
-    v_error_sroa_0_0_extract_trunc_i_i = (u8)(v_186);
+    v_242 = (u64)((u64)(v_226) >> (u64)((8u & 63)));
+    v_error_sroa_0_0_extract_trunc_i_i = (u8)(v_242);
     switch (v_error_sroa_0_0_extract_trunc_i_i) {
-    case 0u: { p_v_0_sroa_0_1_i227_i = 1u; goto L_any_AnyRef_exit; }
+    case 0u: { p_v_0_sroa_0_0_i3 = 1u; goto L_bb8_i; }
     case 1u: { goto L_bb17_i_i_i; }
-    case 2u: { goto L_bb16_i_i_i; }
+    case 2u: { goto L_bb16_i_i_i244; }
     case 3u: { goto L_bb15_i_i_i; }
-    case 4u: { goto L_bb14_i_i_i; }
+    case 4u: { goto L_bb14_i_i_i243; }
     case 5u: { goto L_bb13_i44_i_i; }
     case 6u: { goto L_bb12_i_i_i; }
     case 7u: { goto L_bb11_i43_i_i; }
@@ -31359,119 +30264,1135 @@ L_bb3_i228_i:;
 L_default_unreachable_i_i230_i:;
     TRAP();
 L_bb17_i_i_i:;
-    { p_v_0_sroa_0_1_i227_i = 2u; goto L_any_AnyRef_exit; }
-L_bb16_i_i_i:;
-    { p_v_0_sroa_0_1_i227_i = 3u; goto L_any_AnyRef_exit; }
+    { p_v_0_sroa_0_0_i3 = 2u; goto L_bb8_i; }
+L_bb16_i_i_i244:;
+    { p_v_0_sroa_0_0_i3 = 3u; goto L_bb8_i; }
 L_bb15_i_i_i:;
-    { p_v_0_sroa_0_1_i227_i = 4u; goto L_any_AnyRef_exit; }
-L_bb14_i_i_i:;
-    { p_v_0_sroa_0_1_i227_i = 5u; goto L_any_AnyRef_exit; }
+    { p_v_0_sroa_0_0_i3 = 4u; goto L_bb8_i; }
+L_bb14_i_i_i243:;
+    { p_v_0_sroa_0_0_i3 = 5u; goto L_bb8_i; }
 L_bb13_i44_i_i:;
-    { p_v_0_sroa_0_1_i227_i = 6u; goto L_any_AnyRef_exit; }
+    { p_v_0_sroa_0_0_i3 = 6u; goto L_bb8_i; }
 L_bb12_i_i_i:;
-    { p_v_0_sroa_0_1_i227_i = 7u; goto L_any_AnyRef_exit; }
+    { p_v_0_sroa_0_0_i3 = 7u; goto L_bb8_i; }
 L_bb11_i43_i_i:;
-    { p_v_0_sroa_0_1_i227_i = 8u; goto L_any_AnyRef_exit; }
+    { p_v_0_sroa_0_0_i3 = 8u; goto L_bb8_i; }
 L_bb10_i42_i_i:;
-    { p_v_0_sroa_0_1_i227_i = 9u; goto L_any_AnyRef_exit; }
+    { p_v_0_sroa_0_0_i3 = 9u; goto L_bb8_i; }
 L_bb9_i41_i_i:;
-    { p_v_0_sroa_0_1_i227_i = 10u; goto L_any_AnyRef_exit; }
+    { p_v_0_sroa_0_0_i3 = 10u; goto L_bb8_i; }
 L_bb8_i40_i_i:;
-    { p_v_0_sroa_0_1_i227_i = 11u; goto L_any_AnyRef_exit; }
+    { p_v_0_sroa_0_0_i3 = 11u; goto L_bb8_i; }
 L_bb7_i39_i_i:;
-    { p_v_0_sroa_0_1_i227_i = 12u; goto L_any_AnyRef_exit; }
+    { p_v_0_sroa_0_0_i3 = 12u; goto L_bb8_i; }
 L_bb6_i38_i_i:;
-    { p_v_0_sroa_0_1_i227_i = 13u; goto L_any_AnyRef_exit; }
+    { p_v_0_sroa_0_0_i3 = 13u; goto L_bb8_i; }
 L_bb5_i37_i_i:;
-    { p_v_0_sroa_0_1_i227_i = 14u; goto L_any_AnyRef_exit; }
+    { p_v_0_sroa_0_0_i3 = 14u; goto L_bb8_i; }
 L_bb4_i36_i_i:;
-    { p_v_0_sroa_0_1_i227_i = 15u; goto L_any_AnyRef_exit; }
+    { p_v_0_sroa_0_0_i3 = 15u; goto L_bb8_i; }
 L_bb3_i35_i_i:;
-    { p_v_0_sroa_0_1_i227_i = 16u; goto L_any_AnyRef_exit; }
+    { p_v_0_sroa_0_0_i3 = 16u; goto L_bb8_i; }
 L_bb2_i_i229_i:;
-    { p_v_0_sroa_0_1_i227_i = 17u; goto L_any_AnyRef_exit; }
-L_any_AnyRef_exit:;
-    v_0_sroa_0_1_i227_i = p_v_0_sroa_0_1_i227_i;
-    { p_v_0_sroa_0_1 = v_0_sroa_0_1_i227_i; goto L_bb16; }
+    { p_v_0_sroa_0_0_i3 = 17u; goto L_bb8_i; }
+L_bb6_i_i_i125:;
+    v_243 = v_parameters_sroa_0_0_i_i != (P)0;
+    v_0_1_i_i = get_u64(v_5_i_sroa_8_0_made_i_sroa_idx);
+    v_244 = v_0_1_i_i == 5u;
+    v_or_cond736 = v_243 ? v_244 : 0u;
+    if (v_or_cond736) { goto L_bb11_i259; } else { p_v_0_sroa_0_0_shrunk_i_i_i = 0u; goto L_bb10_i8_i; }
+L_bb11_i259:;
+    v_245 = get_u8(v_18_0_i_i);
+    v_246 = v_245 == 43u;
+    if (v_246) { goto L_bb12_i260; } else { p_v_0_sroa_0_0_shrunk_i_i_i = 0u; goto L_bb10_i8_i; }
+L_bb12_i260:;
+    v_247 = v_18_0_i_i + 1;
+    v_248 = get_u8(v_247);
+    v_249 = v_248 == 14u;
+    if (v_249) { goto L_bb13_i261; } else { p_v_0_sroa_0_0_shrunk_i_i_i = 0u; goto L_bb10_i8_i; }
+L_bb13_i261:;
+    v_250 = v_18_0_i_i + 2;
+    v_251 = get_u8(v_250);
+    v_252 = v_251 == 3u;
+    if (v_252) { goto L_bb14_i; } else { p_v_0_sroa_0_0_shrunk_i_i_i = 0u; goto L_bb10_i8_i; }
+L_bb14_i:;
+    v_253 = v_18_0_i_i + 3;
+    v_254 = get_u8(v_253);
+    v_255 = v_254 == 2u;
+    if (v_255) { goto L_bb15_i; } else { p_v_0_sroa_0_0_shrunk_i_i_i = 0u; goto L_bb10_i8_i; }
+L_bb15_i:;
+    v_256 = v_18_0_i_i + 4;
+    v_10_i262 = get_u8(v_256);
+    v_6_i263 = v_10_i262 == 26u;
+    if (v_6_i263) { goto L_bb5_i264; } else { p_v_0_sroa_0_0_shrunk_i_i_i = 0u; goto L_bb10_i8_i; }
+L_bb5_i264:;
+    v_8_sroa_3_0_copyload_i = get_u64(v_5_i_sroa_16_0_made_i_sroa_idx);
+    v_257 = (u64)((u64)(v_parameters_sroa_6_sroa_6_0_i_i) & (u64)(255u));
+    v_258 = v_257 == 5u;
+    v_259 = v_8_sroa_3_0_copyload_i == 0u;
+    v_0_sroa_0_1_i265 = v_258 ? v_259 : 0u;
+    { p_v_0_sroa_0_0_shrunk_i_i_i = v_0_sroa_0_1_i265; goto L_bb10_i8_i; }
+L_bb10_i8_i:;
+    v_0_sroa_0_0_shrunk_i_i_i = p_v_0_sroa_0_0_shrunk_i_i_i;
+    v_3_i_i = (u1)(((u32)(v_0_sroa_0_0_shrunk_i_i_i) ^ (u32)(1u)) & 1);
+    v_2_i_i = (u8)v_3_i_i;
+    v_260 = f_MaskHolder_is_default(v_5_i_sroa_20_0_made_i_sroa_idx);
+    v_3_i4_i = (u1)(((u32)(v_260) ^ (u32)(1u)) & 1);
+    v_2_i5_i = (u8)v_3_i4_i;
+    v_not737 = v_17_i == 20u;
+    v_6_i8_i = v_not737 ? 0u : 2u;
+    v_0_i9_i = (u8)((u32)(v_6_i8_i) | (u32)(v_2_i5_i));
+    v_6_i_i = (u8)((u32)(v_0_i9_i) << (u32)((1u & 31)));
+    v_0_i_i = (u8)((u32)(v_6_i_i) | (u32)(v_2_i_i));
+    if (v_0_sroa_0_0_shrunk_i_i_i) { goto L_bb6_i_i23_i; } else { goto L_bb7_i_i18_i; }
+L_bb6_i_i23_i:;
+    if (v_260) { goto L_bb6_i133_i_i; } else { goto L_bb7_i7_i_i; }
+L_bb6_i133_i_i:;
+    if (v_not737) { p_v_296 = 2u; goto L_bb4_i_i600; } else { goto L_EncodeValue_quick_value_len_exit_i_thread; }
+L_EncodeValue_quick_value_len_exit_i_thread:;
+    v_29_i_i578_i_i = (u8)(v_17_i ^ ((u8)1 << 7)) > (u8)(255u ^ ((u8)1 << 7));
+    v_261 = v_29_i_i578_i_i ? 7u : 8u;
+    { p_v_296 = v_261; goto L_bb4_i_i600; }
+L_bb7_i7_i_i:;
+    v_29_i_i712_i_i = (u8)(v_17_i ^ ((u8)1 << 7)) > (u8)(255u ^ ((u8)1 << 7));
+    v_i_i713_i_i = v_29_i_i712_i_i ? 5u : 6u;
+    v_262 = v_not737 ? 0u : v_i_i713_i_i;
+    v_0_1_i97_i_i49_i_i = get_u64(v_5_i_sroa_21_0_made_i_sroa_idx);
+    v_263 = v_142 == (P)0;
+    if (v_263) { p_v_10_sroa_0_0_i_i_i76_i_i = 0u; goto L_EncodeValue_quick_value_len_exit_i_i75_i_i; } else { goto L_bb10_i51_i_i51_i_i; }
+L_bb10_i51_i_i51_i_i:;
+    v_0_1_i95_i_i53_i_i = get_u64(v_5_i_sroa_24_0_made_i_sroa_idx);
+    v_264 = v_141 == (P)0;
+    v_4_1_i89_i_i56_i_i = get_u64(v_5_i_sroa_27_0_made_i_sroa_idx);
+    v_5_i90_i_i57_i_i = v_4_1_i89_i_i56_i_i < 128u;
+    v_265 = (u64)((u64)(v_4_1_i89_i_i56_i_i) + (u64)(2u));
+    v_0_sroa_0_0_i91_i_i58_i_i = v_5_i90_i_i57_i_i ? v_265 : 4294967296ull;
+    v_10_sroa_0_0_i59_i_i60_i_i = v_264 ? 0u : v_0_sroa_0_0_i91_i_i58_i_i;
+    v_0_i102_i_i62_i_i = (u64)((u64)(v_0_1_i95_i_i53_i_i) & (u64)(255u));
+    v_3_i_i61_i_i63_i_i = v_0_i102_i_i62_i_i < 128u;
+    v_0_sroa_0_0_i_i62_i_i64_i_v_i = v_3_i_i61_i_i63_i_i ? 2u : 3u;
+    v_0_sroa_0_0_i_i62_i_i64_i_i = (u64)((u64)(v_0_sroa_0_0_i_i62_i_i64_i_v_i) + (u64)(v_0_i102_i_i62_i_i));
+    v_266 = (u64)((u64)(v_0_sroa_0_0_i_i62_i_i64_i_i) + (u64)(v_10_sroa_0_0_i59_i_i60_i_i));
+    v_3_i_i_i_i65_i_i = v_266 < 128u;
+    if (v_3_i_i_i_i65_i_i) { goto L_bb3_i_i_i_i100_i_i; } else { goto L_bb4_i_i_i_i66_i_i; }
+L_bb4_i_i_i_i66_i_i:;
+    v_4_i_i_i_i67_i_i = v_266 < 256u;
+    if (v_4_i_i_i_i67_i_i) { goto L_bb5_i_i_i_i99_i_i; } else { goto L_bb6_i_i_i_i68_i_i; }
+L_bb3_i_i_i_i100_i_i:;
+    v_267 = (u64)((u64)(v_266) + (u64)(2u));
+    { p_v_10_sroa_0_0_i_i_i76_i_i = v_267; goto L_EncodeValue_quick_value_len_exit_i_i75_i_i; }
+L_bb6_i_i_i_i68_i_i:;
+    v_5_i_i_i_i69_i_i = v_266 < 65536u;
+    if (v_5_i_i_i_i69_i_i) { goto L_bb7_i_i_i_i98_i_i; } else { goto L_bb8_i_i_i_i70_i_i; }
+L_bb5_i_i_i_i99_i_i:;
+    v_268 = (u64)((u64)(v_266) + (u64)(3u));
+    { p_v_10_sroa_0_0_i_i_i76_i_i = v_268; goto L_EncodeValue_quick_value_len_exit_i_i75_i_i; }
+L_bb8_i_i_i_i70_i_i:;
+    v_6_i_i_i_i71_i_i = v_266 < 16777216u;
+    if (v_6_i_i_i_i71_i_i) { goto L_bb9_i_i_i_i97_i_i; } else { goto L_bb10_i_i_i_i72_i_i; }
+L_bb7_i_i_i_i98_i_i:;
+    v_269 = (u64)((u64)(v_266) + (u64)(4u));
+    { p_v_10_sroa_0_0_i_i_i76_i_i = v_269; goto L_EncodeValue_quick_value_len_exit_i_i75_i_i; }
+L_bb10_i_i_i_i72_i_i:;
+    v_270 = (u64)((u64)(v_266) + (u64)(6u));
+    { p_v_10_sroa_0_0_i_i_i76_i_i = v_270; goto L_EncodeValue_quick_value_len_exit_i_i75_i_i; }
+L_bb9_i_i_i_i97_i_i:;
+    v_271 = (u64)((u64)(v_266) + (u64)(5u));
+    { p_v_10_sroa_0_0_i_i_i76_i_i = v_271; goto L_EncodeValue_quick_value_len_exit_i_i75_i_i; }
+L_EncodeValue_quick_value_len_exit_i_i75_i_i:;
+    v_10_sroa_0_0_i_i_i76_i_i = p_v_10_sroa_0_0_i_i_i76_i_i;
+    v_0_i104_i_i78_i_i = (u64)((u64)(v_0_1_i97_i_i49_i_i) & (u64)(255u));
+    v_3_i2_i_i_i79_i_i = v_0_i104_i_i78_i_i < 128u;
+    v_0_sroa_0_0_i3_i_i_i80_i_v_i = v_3_i2_i_i_i79_i_i ? 2u : 3u;
+    v_0_sroa_0_0_i3_i_i_i80_i_i = (u64)((u64)(v_0_sroa_0_0_i3_i_i_i80_i_v_i) + (u64)(v_0_i104_i_i78_i_i));
+    v_272 = (u64)((u64)(v_0_sroa_0_0_i3_i_i_i80_i_i) + (u64)(v_10_sroa_0_0_i_i_i76_i_i));
+    v_3_i_i_i81_i_i = v_272 < 128u;
+    if (v_3_i_i_i81_i_i) { p_v_sink_i = 2u; goto L_AnyRef_quick_len_exit_i35_i_i; } else { goto L_bb4_i_i_i82_i_i; }
+L_bb4_i_i_i82_i_i:;
+    v_4_i_i_i83_i_i = v_272 < 256u;
+    if (v_4_i_i_i83_i_i) { p_v_sink_i = 3u; goto L_AnyRef_quick_len_exit_i35_i_i; } else { goto L_bb6_i_i_i84_i_i; }
+L_bb6_i_i_i84_i_i:;
+    v_5_i_i_i85_i_i = v_272 < 65536u;
+    if (v_5_i_i_i85_i_i) { p_v_sink_i = 4u; goto L_AnyRef_quick_len_exit_i35_i_i; } else { goto L_bb8_i_i_i86_i_i; }
+L_bb8_i_i_i86_i_i:;
+    v_6_i_i_i87_i_i = v_272 < 16777216u;
+    v_i = v_6_i_i_i87_i_i ? 5u : 6u;
+    { p_v_sink_i = v_i; goto L_AnyRef_quick_len_exit_i35_i_i; }
+L_AnyRef_quick_len_exit_i35_i_i:;
+    v_sink_i = p_v_sink_i;
+    v_273 = (u64)((u64)(v_sink_i) + (u64)(v_272));
+    { p_v_sink178_i = v_273; p_v_0_sroa_0_0_i705_i_sink_i = v_262; goto L_EncodeValue_quick_value_len_exit_i; }
+L_bb7_i_i18_i:;
+    if (v_260) { goto L_bb6_i266_i_i; } else { goto L_bb7_i140_i_i; }
+L_bb6_i266_i_i:;
+    if (v_not737) { p_v_0_sroa_0_0_i170_i_i = 0u; goto L_bb6_i_i_i_i480; } else { goto L_bb7_i274_i_i; }
+L_bb7_i274_i_i:;
+    v_29_i_i311_i_i = (u8)(v_17_i ^ ((u8)1 << 7)) > (u8)(255u ^ ((u8)1 << 7));
+    v_i_i312_i_i = v_29_i_i311_i_i ? 5u : 6u;
+    { p_v_0_sroa_0_0_i170_i_i = v_i_i312_i_i; goto L_bb6_i_i_i_i480; }
+L_bb7_i140_i_i:;
+    v_29_i_i444_i_i = (u8)(v_17_i ^ ((u8)1 << 7)) > (u8)(255u ^ ((u8)1 << 7));
+    v_i_i445_i_i = v_29_i_i444_i_i ? 5u : 6u;
+    v_274 = v_not737 ? 0u : v_i_i445_i_i;
+    v_0_1_i97_i_i182_i_i = get_u64(v_5_i_sroa_21_0_made_i_sroa_idx);
+    v_275 = v_142 == (P)0;
+    if (v_275) { p_v_10_sroa_0_0_i_i_i209_i_i = 0u; goto L_EncodeValue_quick_value_len_exit_i_i208_i_i; } else { goto L_bb10_i51_i_i184_i_i; }
+L_bb10_i51_i_i184_i_i:;
+    v_0_1_i95_i_i186_i_i = get_u64(v_5_i_sroa_24_0_made_i_sroa_idx);
+    v_276 = v_141 == (P)0;
+    v_4_1_i89_i_i189_i_i = get_u64(v_5_i_sroa_27_0_made_i_sroa_idx);
+    v_5_i90_i_i190_i_i = v_4_1_i89_i_i189_i_i < 128u;
+    v_277 = (u64)((u64)(v_4_1_i89_i_i189_i_i) + (u64)(2u));
+    v_0_sroa_0_0_i91_i_i191_i_i = v_5_i90_i_i190_i_i ? v_277 : 4294967296ull;
+    v_10_sroa_0_0_i59_i_i193_i_i = v_276 ? 0u : v_0_sroa_0_0_i91_i_i191_i_i;
+    v_0_i102_i_i195_i_i = (u64)((u64)(v_0_1_i95_i_i186_i_i) & (u64)(255u));
+    v_3_i_i61_i_i196_i_i = v_0_i102_i_i195_i_i < 128u;
+    v_0_sroa_0_0_i_i62_i_i197_i_v_i = v_3_i_i61_i_i196_i_i ? 2u : 3u;
+    v_0_sroa_0_0_i_i62_i_i197_i_i = (u64)((u64)(v_0_sroa_0_0_i_i62_i_i197_i_v_i) + (u64)(v_0_i102_i_i195_i_i));
+    v_278 = (u64)((u64)(v_0_sroa_0_0_i_i62_i_i197_i_i) + (u64)(v_10_sroa_0_0_i59_i_i193_i_i));
+    v_3_i_i_i_i198_i_i = v_278 < 128u;
+    if (v_3_i_i_i_i198_i_i) { goto L_bb3_i_i_i_i233_i_i; } else { goto L_bb4_i_i_i_i199_i_i; }
+L_bb4_i_i_i_i199_i_i:;
+    v_4_i_i_i_i200_i_i = v_278 < 256u;
+    if (v_4_i_i_i_i200_i_i) { goto L_bb5_i_i_i_i232_i_i; } else { goto L_bb6_i_i_i_i201_i_i; }
+L_bb3_i_i_i_i233_i_i:;
+    v_279 = (u64)((u64)(v_278) + (u64)(2u));
+    { p_v_10_sroa_0_0_i_i_i209_i_i = v_279; goto L_EncodeValue_quick_value_len_exit_i_i208_i_i; }
+L_bb6_i_i_i_i201_i_i:;
+    v_5_i_i_i_i202_i_i = v_278 < 65536u;
+    if (v_5_i_i_i_i202_i_i) { goto L_bb7_i_i_i_i231_i_i; } else { goto L_bb8_i_i_i_i203_i_i; }
+L_bb5_i_i_i_i232_i_i:;
+    v_280 = (u64)((u64)(v_278) + (u64)(3u));
+    { p_v_10_sroa_0_0_i_i_i209_i_i = v_280; goto L_EncodeValue_quick_value_len_exit_i_i208_i_i; }
+L_bb8_i_i_i_i203_i_i:;
+    v_6_i_i_i_i204_i_i = v_278 < 16777216u;
+    if (v_6_i_i_i_i204_i_i) { goto L_bb9_i_i_i_i230_i_i; } else { goto L_bb10_i_i_i_i205_i_i; }
+L_bb7_i_i_i_i231_i_i:;
+    v_281 = (u64)((u64)(v_278) + (u64)(4u));
+    { p_v_10_sroa_0_0_i_i_i209_i_i = v_281; goto L_EncodeValue_quick_value_len_exit_i_i208_i_i; }
+L_bb10_i_i_i_i205_i_i:;
+    v_282 = (u64)((u64)(v_278) + (u64)(6u));
+    { p_v_10_sroa_0_0_i_i_i209_i_i = v_282; goto L_EncodeValue_quick_value_len_exit_i_i208_i_i; }
+L_bb9_i_i_i_i230_i_i:;
+    v_283 = (u64)((u64)(v_278) + (u64)(5u));
+    { p_v_10_sroa_0_0_i_i_i209_i_i = v_283; goto L_EncodeValue_quick_value_len_exit_i_i208_i_i; }
+L_EncodeValue_quick_value_len_exit_i_i208_i_i:;
+    v_10_sroa_0_0_i_i_i209_i_i = p_v_10_sroa_0_0_i_i_i209_i_i;
+    v_0_i104_i_i211_i_i = (u64)((u64)(v_0_1_i97_i_i182_i_i) & (u64)(255u));
+    v_3_i2_i_i_i212_i_i = v_0_i104_i_i211_i_i < 128u;
+    v_0_sroa_0_0_i3_i_i_i213_i_v_i = v_3_i2_i_i_i212_i_i ? 2u : 3u;
+    v_0_sroa_0_0_i3_i_i_i213_i_i = (u64)((u64)(v_0_sroa_0_0_i3_i_i_i213_i_v_i) + (u64)(v_0_i104_i_i211_i_i));
+    v_284 = (u64)((u64)(v_0_sroa_0_0_i3_i_i_i213_i_i) + (u64)(v_10_sroa_0_0_i_i_i209_i_i));
+    v_3_i_i_i214_i_i = v_284 < 128u;
+    if (v_3_i_i_i214_i_i) { p_v_sink174_i = 2u; goto L_AnyRef_quick_len_exit_i168_i_i; } else { goto L_bb4_i_i_i215_i_i; }
+L_bb4_i_i_i215_i_i:;
+    v_4_i_i_i216_i_i = v_284 < 256u;
+    if (v_4_i_i_i216_i_i) { p_v_sink174_i = 3u; goto L_AnyRef_quick_len_exit_i168_i_i; } else { goto L_bb6_i_i_i217_i_i; }
+L_bb6_i_i_i217_i_i:;
+    v_5_i_i_i218_i_i = v_284 < 65536u;
+    if (v_5_i_i_i218_i_i) { p_v_sink174_i = 4u; goto L_AnyRef_quick_len_exit_i168_i_i; } else { goto L_bb8_i_i_i219_i_i; }
+L_bb8_i_i_i219_i_i:;
+    v_6_i_i_i220_i_i = v_284 < 16777216u;
+    v_179_i = v_6_i_i_i220_i_i ? 5u : 6u;
+    { p_v_sink174_i = v_179_i; goto L_AnyRef_quick_len_exit_i168_i_i; }
+L_AnyRef_quick_len_exit_i168_i_i:;
+    v_sink174_i = p_v_sink174_i;
+    v_285 = (u64)((u64)(v_sink174_i) + (u64)(v_284));
+    v_31_i_i224_i_i = v_285 < 128u;
+    v_286 = (u64)((u64)(v_285) + (u64)(2u));
+    v_spec_select19_i_i225_i_i = v_31_i_i224_i_i ? v_286 : 4294967296ull;
+    v_287 = (u64)((u64)(v_spec_select19_i_i225_i_i) + (u64)(v_274));
+    { p_v_0_sroa_0_0_i170_i_i = v_287; goto L_bb6_i_i_i_i480; }
+L_bb6_i_i_i_i480:;
+    v_0_sroa_0_0_i170_i_i = p_v_0_sroa_0_0_i170_i_i;
+    v_288 = v_parameters_sroa_0_0_i_i == (P)0;
+    v_4_1_i86_i_i_i_i = get_u64(v_5_i_sroa_16_0_made_i_sroa_idx);
+    v_5_i87_i_i_i_i = v_4_1_i86_i_i_i_i < 128u;
+    v_289 = (u64)((u64)(v_4_1_i86_i_i_i_i) + (u64)(2u));
+    v_0_sroa_0_0_i88_i_i_i_i = v_5_i87_i_i_i_i ? v_289 : 4294967296ull;
+    v_10_sroa_0_0_i69_i_i_i_i = v_288 ? 0u : v_0_sroa_0_0_i88_i_i_i_i;
+    v_0_i100_i_i_i_i = (u64)((u64)(v_0_1_i_i) & (u64)(255u));
+    v_3_i_i70_i_i_i_i = v_0_i100_i_i_i_i < 128u;
+    v_0_sroa_0_0_i_i71_i_i_i_v_i = v_3_i_i70_i_i_i_i ? 2u : 3u;
+    v_0_sroa_0_0_i_i71_i_i_i_i = (u64)((u64)(v_0_sroa_0_0_i_i71_i_i_i_v_i) + (u64)(v_0_i100_i_i_i_i));
+    v_290 = (u64)((u64)(v_0_sroa_0_0_i_i71_i_i_i_i) + (u64)(v_10_sroa_0_0_i69_i_i_i_i));
+    v_3_i36_i_i_i_i = v_290 < 128u;
+    if (v_3_i36_i_i_i_i) { p_v_sink175_i = 2u; goto L_AnyRef_quick_len_exit_i_i_i; } else { goto L_bb4_i37_i_i_i_i; }
+L_bb4_i37_i_i_i_i:;
+    v_4_i38_i_i_i_i = v_290 < 256u;
+    if (v_4_i38_i_i_i_i) { p_v_sink175_i = 3u; goto L_AnyRef_quick_len_exit_i_i_i; } else { goto L_bb6_i39_i_i_i_i; }
+L_bb6_i39_i_i_i_i:;
+    v_5_i40_i_i_i_i = v_290 < 65536u;
+    if (v_5_i40_i_i_i_i) { p_v_sink175_i = 4u; goto L_AnyRef_quick_len_exit_i_i_i; } else { goto L_bb8_i41_i_i_i_i; }
+L_bb8_i41_i_i_i_i:;
+    v_6_i42_i_i_i_i = v_290 < 16777216u;
+    v_180_i = v_6_i42_i_i_i_i ? 5u : 6u;
+    { p_v_sink175_i = v_180_i; goto L_AnyRef_quick_len_exit_i_i_i; }
+L_AnyRef_quick_len_exit_i_i_i:;
+    v_sink175_i = p_v_sink175_i;
+    v_291 = (u64)((u64)(v_sink175_i) + (u64)(v_290));
+    { p_v_sink178_i = v_291; p_v_0_sroa_0_0_i705_i_sink_i = v_0_sroa_0_0_i170_i_i; goto L_EncodeValue_quick_value_len_exit_i; }
+L_EncodeValue_quick_value_len_exit_i:;
+    v_sink178_i = p_v_sink178_i;
+    v_0_sroa_0_0_i705_i_sink_i = p_v_0_sroa_0_0_i705_i_sink_i;
+    v_31_i_i91_i_i = v_sink178_i < 128u;
+    v_292 = (u64)((u64)(v_sink178_i) + (u64)(2u));
+    v_spec_select19_i_i92_i_i = v_31_i_i91_i_i ? v_292 : 4294967296ull;
+    v_293 = (u64)((u64)(v_spec_select19_i_i92_i_i) + (u64)(v_0_sroa_0_0_i705_i_sink_i));
+    v_3_i_i_i = v_293 < 128u;
+    if (v_3_i_i_i) { goto L_EncodeValue_quick_value_len_exit_i__2; } else { goto L_bb4_i_i9_i; }
+L_bb4_i_i9_i:;
+    v_4_i_i10_i = v_293 < 256u;
+    if (v_4_i_i10_i) { goto L_bb5_i3_i; } else { goto L_bb6_i_i11_i; }
+L_bb6_i_i11_i:;
+    v_5_i_i_i = v_293 < 65536u;
+    if (v_5_i_i_i) { goto L_bb7_i_i486; } else { goto L_bb8_i_i12_i; }
+L_bb8_i_i12_i:;
+    v_6_i_i_i481 = v_293 < 16777216u;
+    if (v_6_i_i_i481) { goto L_bb9_i_i488; } else { goto L_bb3_i_i490; }
+L_EncodeValue_quick_value_len_exit_i__2:;
+    v_294 = (u64)((u64)(v_293) + (u64)(2u));
+    v_6_i_i484 = v_293 < 115u;
+    if (v_6_i_i484) { p_v_296 = v_294; goto L_bb4_i_i600; } else { p_v_10_sroa_0_0_i_i763769 = v_294; goto L_bb6_i_i599; }
+L_bb5_i3_i:;
+    v_295 = (u64)((u64)(v_293) + (u64)(3u));
+    v_7_i_i485 = v_293 < 242u;
+    if (v_7_i_i485) { p_v_10_sroa_0_0_i_i763769 = v_295; goto L_bb6_i_i599; } else { p_v_10_sroa_0_0_i_i_ph773776 = v_295; goto L_bb8_i_i598; }
+L_bb4_i_i600:;
+    v_296 = p_v_296;
+    v_297 = (u64)((u64)(v_296) + (u64)(13u));
+    { p_v_0_sroa_31_0_in_i_ph_i = v_297; goto L_Encode_encoded_len_exit_thread_i; }
+L_bb7_i_i486:;
+    v_298 = (u64)((u64)(v_293) + (u64)(4u));
+    v_8_i_i487 = v_293 < 65521u;
+    if (v_8_i_i487) { p_v_10_sroa_0_0_i_i_ph773776 = v_298; goto L_bb8_i_i598; } else { p_v_10_sroa_0_0_i_i_ph_ph780783 = v_298; goto L_bb10_i_i597; }
+L_bb6_i_i599:;
+    v_10_sroa_0_0_i_i763769 = p_v_10_sroa_0_0_i_i763769;
+    v_299 = (u64)((u64)(v_10_sroa_0_0_i_i763769) + (u64)(14u));
+    { p_v_0_sroa_31_0_in_i_ph_i = v_299; goto L_Encode_encoded_len_exit_thread_i; }
+L_bb9_i_i488:;
+    v_300 = (u64)((u64)(v_293) + (u64)(5u));
+    v_9_i_i489 = v_293 < 16777200u;
+    if (v_9_i_i489) { p_v_10_sroa_0_0_i_i_ph_ph780783 = v_300; goto L_bb10_i_i597; } else { goto L_bb3_i_i490_thread; }
+L_bb3_i_i490_thread:;
+    v_301 = (u64)((u64)(v_293) + (u64)(22u));
+    { p_v_0_sroa_31_0_in_i_ph_i = v_301; goto L_Encode_encoded_len_exit_thread_i; }
+L_bb8_i_i598:;
+    v_10_sroa_0_0_i_i_ph773776 = p_v_10_sroa_0_0_i_i_ph773776;
+    v_302 = (u64)((u64)(v_10_sroa_0_0_i_i_ph773776) + (u64)(15u));
+    { p_v_0_sroa_31_0_in_i_ph_i = v_302; goto L_Encode_encoded_len_exit_thread_i; }
+L_bb10_i_i597:;
+    v_10_sroa_0_0_i_i_ph_ph780783 = p_v_10_sroa_0_0_i_i_ph_ph780783;
+    v_303 = (u64)((u64)(v_10_sroa_0_0_i_i_ph_ph780783) + (u64)(16u));
+    { p_v_0_sroa_31_0_in_i_ph_i = v_303; goto L_Encode_encoded_len_exit_thread_i; }
+L_bb3_i_i490:;
+    v_304 = (u64)((u64)(v_293) + (u64)(23u));
+    v_10_i_i491 = v_293 < 4294967273ull;
+    if (v_10_i_i491) { p_v_0_sroa_31_0_in_i_ph_i = v_304; goto L_Encode_encoded_len_exit_thread_i; } else { goto L_bb10_i_i26_i; }
+L_bb10_i_i26_i:;
+    if (v_0_sroa_0_0_shrunk_i_i_i) { goto L_bb6_i_i_i_i48_i; } else { goto L_bb7_i_i_i_i27_i; }
+L_bb6_i_i_i_i48_i:;
+    if (v_260) { goto L_bb6_i133_i_i_i_i; } else { goto L_bb7_i7_i_i_i_i; }
+L_bb6_i133_i_i_i_i:;
+    if (v_not737) { p_v_0_sroa_0_0_i_i53_i_i_i = 0u; goto L_bb4_i_i_i47_i; } else { goto L_bb7_i541_i_i_i_i; }
+L_bb7_i541_i_i_i_i:;
+    v_29_i_i578_i_i_i_i = (u8)(v_17_i ^ ((u8)1 << 7)) > (u8)(255u ^ ((u8)1 << 7));
+    v_i_i579_i_i_i_i = v_29_i_i578_i_i_i_i ? 5u : 6u;
+    { p_v_0_sroa_0_0_i_i53_i_i_i = v_i_i579_i_i_i_i; goto L_bb4_i_i_i47_i; }
+L_bb7_i7_i_i_i_i:;
+    v_29_i_i712_i_i_i_i = (u8)(v_17_i ^ ((u8)1 << 7)) > (u8)(255u ^ ((u8)1 << 7));
+    v_i_i713_i_i_i_i = v_29_i_i712_i_i_i_i ? 5u : 6u;
+    v_305 = v_not737 ? 0u : v_i_i713_i_i_i_i;
+    v_0_1_i97_i_i49_i_i_i_i = get_u64(v_5_i_sroa_21_0_made_i_sroa_idx);
+    v_306 = v_142 == (P)0;
+    if (v_306) { p_v_10_sroa_0_0_i_i_i76_i_i_i_i = 0u; goto L_EncodeValue_quick_value_len_exit_i_i75_i_i_i_i; } else { goto L_bb10_i51_i_i51_i_i_i_i; }
+L_bb10_i51_i_i51_i_i_i_i:;
+    v_0_1_i95_i_i53_i_i_i_i = get_u64(v_5_i_sroa_24_0_made_i_sroa_idx);
+    v_307 = v_141 == (P)0;
+    v_4_1_i89_i_i56_i_i_i_i = get_u64(v_5_i_sroa_27_0_made_i_sroa_idx);
+    v_5_i90_i_i57_i_i_i_i = v_4_1_i89_i_i56_i_i_i_i < 128u;
+    v_308 = (u64)((u64)(v_4_1_i89_i_i56_i_i_i_i) + (u64)(2u));
+    v_0_sroa_0_0_i91_i_i58_i_i_i_i = v_5_i90_i_i57_i_i_i_i ? v_308 : 4294967296ull;
+    v_10_sroa_0_0_i59_i_i60_i_i_i_i = v_307 ? 0u : v_0_sroa_0_0_i91_i_i58_i_i_i_i;
+    v_0_i102_i_i62_i_i_i_i = (u64)((u64)(v_0_1_i95_i_i53_i_i_i_i) & (u64)(255u));
+    v_3_i_i61_i_i63_i_i_i_i = v_0_i102_i_i62_i_i_i_i < 128u;
+    v_0_sroa_0_0_i_i62_i_i64_i_v_i_i_i = v_3_i_i61_i_i63_i_i_i_i ? 2u : 3u;
+    v_0_sroa_0_0_i_i62_i_i64_i_i_i_i = (u64)((u64)(v_0_sroa_0_0_i_i62_i_i64_i_v_i_i_i) + (u64)(v_0_i102_i_i62_i_i_i_i));
+    v_309 = (u64)((u64)(v_0_sroa_0_0_i_i62_i_i64_i_i_i_i) + (u64)(v_10_sroa_0_0_i59_i_i60_i_i_i_i));
+    v_3_i_i_i_i65_i_i_i_i = v_309 < 128u;
+    if (v_3_i_i_i_i65_i_i_i_i) { goto L_bb3_i_i_i_i100_i_i_i_i; } else { goto L_bb4_i_i_i_i66_i_i_i_i; }
+L_bb4_i_i_i_i66_i_i_i_i:;
+    v_4_i_i_i_i67_i_i_i_i = v_309 < 256u;
+    if (v_4_i_i_i_i67_i_i_i_i) { goto L_bb5_i_i_i_i99_i_i_i_i; } else { goto L_bb6_i_i_i_i68_i_i_i_i; }
+L_bb3_i_i_i_i100_i_i_i_i:;
+    v_310 = (u64)((u64)(v_309) + (u64)(2u));
+    { p_v_10_sroa_0_0_i_i_i76_i_i_i_i = v_310; goto L_EncodeValue_quick_value_len_exit_i_i75_i_i_i_i; }
+L_bb6_i_i_i_i68_i_i_i_i:;
+    v_5_i_i_i_i69_i_i_i_i = v_309 < 65536u;
+    if (v_5_i_i_i_i69_i_i_i_i) { goto L_bb7_i_i_i_i98_i_i_i_i; } else { goto L_bb8_i_i_i_i70_i_i_i_i; }
+L_bb5_i_i_i_i99_i_i_i_i:;
+    v_311 = (u64)((u64)(v_309) + (u64)(3u));
+    { p_v_10_sroa_0_0_i_i_i76_i_i_i_i = v_311; goto L_EncodeValue_quick_value_len_exit_i_i75_i_i_i_i; }
+L_bb8_i_i_i_i70_i_i_i_i:;
+    v_6_i_i_i_i71_i_i_i_i = v_309 < 16777216u;
+    if (v_6_i_i_i_i71_i_i_i_i) { goto L_bb9_i_i_i_i97_i_i_i_i; } else { goto L_bb10_i_i_i_i72_i_i_i_i; }
+L_bb7_i_i_i_i98_i_i_i_i:;
+    v_312 = (u64)((u64)(v_309) + (u64)(4u));
+    { p_v_10_sroa_0_0_i_i_i76_i_i_i_i = v_312; goto L_EncodeValue_quick_value_len_exit_i_i75_i_i_i_i; }
+L_bb10_i_i_i_i72_i_i_i_i:;
+    v_313 = (u64)((u64)(v_309) + (u64)(6u));
+    { p_v_10_sroa_0_0_i_i_i76_i_i_i_i = v_313; goto L_EncodeValue_quick_value_len_exit_i_i75_i_i_i_i; }
+L_bb9_i_i_i_i97_i_i_i_i:;
+    v_314 = (u64)((u64)(v_309) + (u64)(5u));
+    { p_v_10_sroa_0_0_i_i_i76_i_i_i_i = v_314; goto L_EncodeValue_quick_value_len_exit_i_i75_i_i_i_i; }
+L_EncodeValue_quick_value_len_exit_i_i75_i_i_i_i:;
+    v_10_sroa_0_0_i_i_i76_i_i_i_i = p_v_10_sroa_0_0_i_i_i76_i_i_i_i;
+    v_0_i104_i_i78_i_i_i_i = (u64)((u64)(v_0_1_i97_i_i49_i_i_i_i) & (u64)(255u));
+    v_3_i2_i_i_i79_i_i_i_i = v_0_i104_i_i78_i_i_i_i < 128u;
+    v_0_sroa_0_0_i3_i_i_i80_i_v_i_i_i = v_3_i2_i_i_i79_i_i_i_i ? 2u : 3u;
+    v_0_sroa_0_0_i3_i_i_i80_i_i_i_i = (u64)((u64)(v_0_sroa_0_0_i3_i_i_i80_i_v_i_i_i) + (u64)(v_0_i104_i_i78_i_i_i_i));
+    v_315 = (u64)((u64)(v_0_sroa_0_0_i3_i_i_i80_i_i_i_i) + (u64)(v_10_sroa_0_0_i_i_i76_i_i_i_i));
+    v_3_i_i_i81_i_i_i_i = v_315 < 128u;
+    if (v_3_i_i_i81_i_i_i_i) { p_v_sink_i_i_i = 2u; goto L_AnyRef_quick_len_exit_i35_i_i_i_i; } else { goto L_bb4_i_i_i82_i_i_i_i; }
+L_bb4_i_i_i82_i_i_i_i:;
+    v_4_i_i_i83_i_i_i_i = v_315 < 256u;
+    if (v_4_i_i_i83_i_i_i_i) { p_v_sink_i_i_i = 3u; goto L_AnyRef_quick_len_exit_i35_i_i_i_i; } else { goto L_bb6_i_i_i84_i_i_i_i; }
+L_bb6_i_i_i84_i_i_i_i:;
+    v_5_i_i_i85_i_i_i_i = v_315 < 65536u;
+    if (v_5_i_i_i85_i_i_i_i) { p_v_sink_i_i_i = 4u; goto L_AnyRef_quick_len_exit_i35_i_i_i_i; } else { goto L_bb8_i_i_i86_i_i_i_i; }
+L_bb8_i_i_i86_i_i_i_i:;
+    v_6_i_i_i87_i_i_i_i = v_315 < 16777216u;
+    v_i_i_i = v_6_i_i_i87_i_i_i_i ? 5u : 6u;
+    { p_v_sink_i_i_i = v_i_i_i; goto L_AnyRef_quick_len_exit_i35_i_i_i_i; }
+L_AnyRef_quick_len_exit_i35_i_i_i_i:;
+    v_sink_i_i_i = p_v_sink_i_i_i;
+    v_316 = (u64)((u64)(v_sink_i_i_i) + (u64)(v_315));
+    { p_v_sink70_i_i_i = v_316; p_v_0_sroa_0_0_i705_i_sink_i_i_i = v_305; goto L_EncodeValue_quick_value_len_exit_i_i_i; }
+L_bb7_i_i_i_i27_i:;
+    if (v_260) { goto L_bb6_i266_i_i_i_i; } else { goto L_bb7_i140_i_i_i_i; }
+L_bb6_i266_i_i_i_i:;
+    if (v_not737) { p_v_0_sroa_0_0_i170_i_i_i_i = 0u; goto L_bb6_i_i_i_i_i28_i; } else { goto L_bb7_i274_i_i_i_i; }
+L_bb7_i274_i_i_i_i:;
+    v_29_i_i311_i_i_i_i = (u8)(v_17_i ^ ((u8)1 << 7)) > (u8)(255u ^ ((u8)1 << 7));
+    v_i_i312_i_i_i_i = v_29_i_i311_i_i_i_i ? 5u : 6u;
+    { p_v_0_sroa_0_0_i170_i_i_i_i = v_i_i312_i_i_i_i; goto L_bb6_i_i_i_i_i28_i; }
+L_bb7_i140_i_i_i_i:;
+    v_29_i_i444_i_i_i_i = (u8)(v_17_i ^ ((u8)1 << 7)) > (u8)(255u ^ ((u8)1 << 7));
+    v_i_i445_i_i_i_i = v_29_i_i444_i_i_i_i ? 5u : 6u;
+    v_317 = v_not737 ? 0u : v_i_i445_i_i_i_i;
+    v_0_1_i97_i_i182_i_i_i_i = get_u64(v_5_i_sroa_21_0_made_i_sroa_idx);
+    v_318 = v_142 == (P)0;
+    if (v_318) { p_v_10_sroa_0_0_i_i_i209_i_i_i_i = 0u; goto L_EncodeValue_quick_value_len_exit_i_i208_i_i_i_i; } else { goto L_bb10_i51_i_i184_i_i_i_i; }
+L_bb10_i51_i_i184_i_i_i_i:;
+    v_0_1_i95_i_i186_i_i_i_i = get_u64(v_5_i_sroa_24_0_made_i_sroa_idx);
+    v_319 = v_141 == (P)0;
+    v_4_1_i89_i_i189_i_i_i_i = get_u64(v_5_i_sroa_27_0_made_i_sroa_idx);
+    v_5_i90_i_i190_i_i_i_i = v_4_1_i89_i_i189_i_i_i_i < 128u;
+    v_320 = (u64)((u64)(v_4_1_i89_i_i189_i_i_i_i) + (u64)(2u));
+    v_0_sroa_0_0_i91_i_i191_i_i_i_i = v_5_i90_i_i190_i_i_i_i ? v_320 : 4294967296ull;
+    v_10_sroa_0_0_i59_i_i193_i_i_i_i = v_319 ? 0u : v_0_sroa_0_0_i91_i_i191_i_i_i_i;
+    v_0_i102_i_i195_i_i_i_i = (u64)((u64)(v_0_1_i95_i_i186_i_i_i_i) & (u64)(255u));
+    v_3_i_i61_i_i196_i_i_i_i = v_0_i102_i_i195_i_i_i_i < 128u;
+    v_0_sroa_0_0_i_i62_i_i197_i_v_i_i_i = v_3_i_i61_i_i196_i_i_i_i ? 2u : 3u;
+    v_0_sroa_0_0_i_i62_i_i197_i_i_i_i = (u64)((u64)(v_0_sroa_0_0_i_i62_i_i197_i_v_i_i_i) + (u64)(v_0_i102_i_i195_i_i_i_i));
+    v_321 = (u64)((u64)(v_0_sroa_0_0_i_i62_i_i197_i_i_i_i) + (u64)(v_10_sroa_0_0_i59_i_i193_i_i_i_i));
+    v_3_i_i_i_i198_i_i_i_i = v_321 < 128u;
+    if (v_3_i_i_i_i198_i_i_i_i) { goto L_bb3_i_i_i_i233_i_i_i_i; } else { goto L_bb4_i_i_i_i199_i_i_i_i; }
+L_bb4_i_i_i_i199_i_i_i_i:;
+    v_4_i_i_i_i200_i_i_i_i = v_321 < 256u;
+    if (v_4_i_i_i_i200_i_i_i_i) { goto L_bb5_i_i_i_i232_i_i_i_i; } else { goto L_bb6_i_i_i_i201_i_i_i_i; }
+L_bb3_i_i_i_i233_i_i_i_i:;
+    v_322 = (u64)((u64)(v_321) + (u64)(2u));
+    { p_v_10_sroa_0_0_i_i_i209_i_i_i_i = v_322; goto L_EncodeValue_quick_value_len_exit_i_i208_i_i_i_i; }
+L_bb6_i_i_i_i201_i_i_i_i:;
+    v_5_i_i_i_i202_i_i_i_i = v_321 < 65536u;
+    if (v_5_i_i_i_i202_i_i_i_i) { goto L_bb7_i_i_i_i231_i_i_i_i; } else { goto L_bb8_i_i_i_i203_i_i_i_i; }
+L_bb5_i_i_i_i232_i_i_i_i:;
+    v_323 = (u64)((u64)(v_321) + (u64)(3u));
+    { p_v_10_sroa_0_0_i_i_i209_i_i_i_i = v_323; goto L_EncodeValue_quick_value_len_exit_i_i208_i_i_i_i; }
+L_bb8_i_i_i_i203_i_i_i_i:;
+    v_6_i_i_i_i204_i_i_i_i = v_321 < 16777216u;
+    if (v_6_i_i_i_i204_i_i_i_i) { goto L_bb9_i_i_i_i230_i_i_i_i; } else { goto L_bb10_i_i_i_i205_i_i_i_i; }
+L_bb7_i_i_i_i231_i_i_i_i:;
+    v_324 = (u64)((u64)(v_321) + (u64)(4u));
+    { p_v_10_sroa_0_0_i_i_i209_i_i_i_i = v_324; goto L_EncodeValue_quick_value_len_exit_i_i208_i_i_i_i; }
+L_bb10_i_i_i_i205_i_i_i_i:;
+    v_325 = (u64)((u64)(v_321) + (u64)(6u));
+    { p_v_10_sroa_0_0_i_i_i209_i_i_i_i = v_325; goto L_EncodeValue_quick_value_len_exit_i_i208_i_i_i_i; }
+L_bb9_i_i_i_i230_i_i_i_i:;
+    v_326 = (u64)((u64)(v_321) + (u64)(5u));
+    { p_v_10_sroa_0_0_i_i_i209_i_i_i_i = v_326; goto L_EncodeValue_quick_value_len_exit_i_i208_i_i_i_i; }
+L_EncodeValue_quick_value_len_exit_i_i208_i_i_i_i:;
+    v_10_sroa_0_0_i_i_i209_i_i_i_i = p_v_10_sroa_0_0_i_i_i209_i_i_i_i;
+    v_0_i104_i_i211_i_i_i_i = (u64)((u64)(v_0_1_i97_i_i182_i_i_i_i) & (u64)(255u));
+    v_3_i2_i_i_i212_i_i_i_i = v_0_i104_i_i211_i_i_i_i < 128u;
+    v_0_sroa_0_0_i3_i_i_i213_i_v_i_i_i = v_3_i2_i_i_i212_i_i_i_i ? 2u : 3u;
+    v_0_sroa_0_0_i3_i_i_i213_i_i_i_i = (u64)((u64)(v_0_sroa_0_0_i3_i_i_i213_i_v_i_i_i) + (u64)(v_0_i104_i_i211_i_i_i_i));
+    v_327 = (u64)((u64)(v_0_sroa_0_0_i3_i_i_i213_i_i_i_i) + (u64)(v_10_sroa_0_0_i_i_i209_i_i_i_i));
+    v_3_i_i_i214_i_i_i_i = v_327 < 128u;
+    if (v_3_i_i_i214_i_i_i_i) { p_v_sink66_i_i_i = 2u; goto L_AnyRef_quick_len_exit_i168_i_i_i_i; } else { goto L_bb4_i_i_i215_i_i_i_i; }
+L_bb4_i_i_i215_i_i_i_i:;
+    v_4_i_i_i216_i_i_i_i = v_327 < 256u;
+    if (v_4_i_i_i216_i_i_i_i) { p_v_sink66_i_i_i = 3u; goto L_AnyRef_quick_len_exit_i168_i_i_i_i; } else { goto L_bb6_i_i_i217_i_i_i_i; }
+L_bb6_i_i_i217_i_i_i_i:;
+    v_5_i_i_i218_i_i_i_i = v_327 < 65536u;
+    if (v_5_i_i_i218_i_i_i_i) { p_v_sink66_i_i_i = 4u; goto L_AnyRef_quick_len_exit_i168_i_i_i_i; } else { goto L_bb8_i_i_i219_i_i_i_i; }
+L_bb8_i_i_i219_i_i_i_i:;
+    v_6_i_i_i220_i_i_i_i = v_327 < 16777216u;
+    v_71_i_i_i = v_6_i_i_i220_i_i_i_i ? 5u : 6u;
+    { p_v_sink66_i_i_i = v_71_i_i_i; goto L_AnyRef_quick_len_exit_i168_i_i_i_i; }
+L_AnyRef_quick_len_exit_i168_i_i_i_i:;
+    v_sink66_i_i_i = p_v_sink66_i_i_i;
+    v_328 = (u64)((u64)(v_sink66_i_i_i) + (u64)(v_327));
+    v_31_i_i224_i_i_i_i = v_328 < 128u;
+    v_329 = (u64)((u64)(v_328) + (u64)(2u));
+    v_spec_select19_i_i225_i_i_i_i = v_31_i_i224_i_i_i_i ? v_329 : 4294967296ull;
+    v_330 = (u64)((u64)(v_spec_select19_i_i225_i_i_i_i) + (u64)(v_317));
+    { p_v_0_sroa_0_0_i170_i_i_i_i = v_330; goto L_bb6_i_i_i_i_i28_i; }
+L_bb6_i_i_i_i_i28_i:;
+    v_0_sroa_0_0_i170_i_i_i_i = p_v_0_sroa_0_0_i170_i_i_i_i;
+    v_331 = v_parameters_sroa_0_0_i_i == (P)0;
+    v_4_1_i86_i_i_i_i_i_i = get_u64(v_5_i_sroa_16_0_made_i_sroa_idx);
+    v_5_i87_i_i_i_i_i_i = v_4_1_i86_i_i_i_i_i_i < 128u;
+    v_332 = (u64)((u64)(v_4_1_i86_i_i_i_i_i_i) + (u64)(2u));
+    v_0_sroa_0_0_i88_i_i_i_i_i_i = v_5_i87_i_i_i_i_i_i ? v_332 : 4294967296ull;
+    v_10_sroa_0_0_i69_i_i_i_i_i_i = v_331 ? 0u : v_0_sroa_0_0_i88_i_i_i_i_i_i;
+    v_0_i100_i_i_i_i_i_i = (u64)((u64)(v_0_1_i_i) & (u64)(255u));
+    v_3_i_i70_i_i_i_i_i_i = v_0_i100_i_i_i_i_i_i < 128u;
+    v_0_sroa_0_0_i_i71_i_i_i_v_i_i_i = v_3_i_i70_i_i_i_i_i_i ? 2u : 3u;
+    v_0_sroa_0_0_i_i71_i_i_i_i_i_i = (u64)((u64)(v_0_sroa_0_0_i_i71_i_i_i_v_i_i_i) + (u64)(v_0_i100_i_i_i_i_i_i));
+    v_333 = (u64)((u64)(v_0_sroa_0_0_i_i71_i_i_i_i_i_i) + (u64)(v_10_sroa_0_0_i69_i_i_i_i_i_i));
+    v_3_i36_i_i_i_i_i_i = v_333 < 128u;
+    if (v_3_i36_i_i_i_i_i_i) { p_v_sink67_i_i_i = 2u; goto L_AnyRef_quick_len_exit_i_i_i_i_i; } else { goto L_bb4_i37_i_i_i_i_i_i; }
+L_bb4_i37_i_i_i_i_i_i:;
+    v_4_i38_i_i_i_i_i_i = v_333 < 256u;
+    if (v_4_i38_i_i_i_i_i_i) { p_v_sink67_i_i_i = 3u; goto L_AnyRef_quick_len_exit_i_i_i_i_i; } else { goto L_bb6_i39_i_i_i_i_i_i; }
+L_bb6_i39_i_i_i_i_i_i:;
+    v_5_i40_i_i_i_i_i_i = v_333 < 65536u;
+    if (v_5_i40_i_i_i_i_i_i) { p_v_sink67_i_i_i = 4u; goto L_AnyRef_quick_len_exit_i_i_i_i_i; } else { goto L_bb8_i41_i_i_i_i_i_i; }
+L_bb8_i41_i_i_i_i_i_i:;
+    v_6_i42_i_i_i_i_i_i = v_333 < 16777216u;
+    v_72_i_i_i = v_6_i42_i_i_i_i_i_i ? 5u : 6u;
+    { p_v_sink67_i_i_i = v_72_i_i_i; goto L_AnyRef_quick_len_exit_i_i_i_i_i; }
+L_AnyRef_quick_len_exit_i_i_i_i_i:;
+    v_sink67_i_i_i = p_v_sink67_i_i_i;
+    v_334 = (u64)((u64)(v_sink67_i_i_i) + (u64)(v_333));
+    { p_v_sink70_i_i_i = v_334; p_v_0_sroa_0_0_i705_i_sink_i_i_i = v_0_sroa_0_0_i170_i_i_i_i; goto L_EncodeValue_quick_value_len_exit_i_i_i; }
+L_EncodeValue_quick_value_len_exit_i_i_i:;
+    v_sink70_i_i_i = p_v_sink70_i_i_i;
+    v_0_sroa_0_0_i705_i_sink_i_i_i = p_v_0_sroa_0_0_i705_i_sink_i_i_i;
+    v_31_i_i91_i_i_i_i = v_sink70_i_i_i < 128u;
+    v_335 = (u64)((u64)(v_sink70_i_i_i) + (u64)(2u));
+    v_spec_select19_i_i92_i_i_i_i = v_31_i_i91_i_i_i_i ? v_335 : 4294967296ull;
+    v_336 = (u64)((u64)(v_spec_select19_i_i92_i_i_i_i) + (u64)(v_0_sroa_0_0_i705_i_sink_i_i_i));
+    v_6_i_i_i_i = v_336 < 128u;
+    if (v_6_i_i_i_i) { p_v_0_sroa_0_0_i_i53_i_i_i = v_336; goto L_bb4_i_i_i47_i; } else { goto L_bb5_i_i_i29_i; }
+L_bb5_i_i_i29_i:;
+    v_7_i_i_i30_i = v_336 < 256u;
+    if (v_7_i_i_i30_i) { goto L_bb6_i_i_i46_i; } else { goto L_bb7_i_i_i31_i; }
+L_bb4_i_i_i47_i:;
+    v_0_sroa_0_0_i_i53_i_i_i = p_v_0_sroa_0_0_i_i53_i_i_i;
+    v_337 = (u64)((u64)(v_0_sroa_0_0_i_i53_i_i_i) + (u64)(2u));
+    { p_v_0_sroa_31_0_in_i_i_ph_i_i = v_337; goto L_bb8_i_thread_i_i; }
+L_bb7_i_i_i31_i:;
+    v_8_i_i_i_i493 = v_336 < 65536u;
+    if (v_8_i_i_i_i493) { goto L_bb8_i_i_i_i596; } else { goto L_bb9_i_i_i_i; }
+L_bb6_i_i_i46_i:;
+    v_338 = (u64)((u64)(v_336) + (u64)(3u));
+    { p_v_0_sroa_31_0_in_i_i_ph_i_i = v_338; goto L_bb8_i_thread_i_i; }
+L_bb9_i_i_i_i:;
+    v_9_i_i_i_i494 = v_336 < 16777216u;
+    if (v_9_i_i_i_i494) { goto L_bb10_i_i_i_i; } else { goto L_bb3_i_i_i_i495; }
+L_bb8_i_i_i_i596:;
+    v_339 = (u64)((u64)(v_336) + (u64)(4u));
+    { p_v_0_sroa_31_0_in_i_i_ph_i_i = v_339; goto L_bb8_i_thread_i_i; }
+L_bb10_i_i_i_i:;
+    v_340 = (u64)((u64)(v_336) + (u64)(5u));
+    { p_v_0_sroa_31_0_in_i_i_ph_i_i = v_340; goto L_bb8_i_thread_i_i; }
+L_bb3_i_i_i_i495:;
+    v_341 = (u64)((u64)(v_336) + (u64)(6u));
+    v_10_i_i_i32_i = v_336 < 4294967290ull;
+    if (v_10_i_i_i32_i) { p_v_0_sroa_31_0_in_i_i_ph_i_i = v_341; goto L_bb8_i_thread_i_i; } else { goto L_bb8_i_i33_i; }
+L_bb8_i_thread_i_i:;
+    v_0_sroa_31_0_in_i_i_ph_i_i = p_v_0_sroa_31_0_in_i_i_ph_i_i;
+    v_0_sroa_31_0_insert_shift_i_i11_i_i = (u64)((u64)(v_0_sroa_31_0_in_i_i_ph_i_i) << (u64)((32u & 63)));
+    { p_v_sroa_09_0_insert_insert65_i_i_i = v_0_sroa_31_0_insert_shift_i_i11_i_i; goto L_EncodeValue_value_len_exit_i_i; }
+L_bb8_i_i33_i:;
+    v_342 = f_any_AnyRef__2(v_made_i, v_0_i_i);
+    v_trunc18_i_i_i_i = (u1)((v_342) & 1);
+    if (v_trunc18_i_i_i_i) { p_v_0_sroa_0_0_insert_insert_i173_i = v_342; goto L_bb3_i587; } else { p_v_sroa_09_0_insert_insert65_i_i_i = v_342; goto L_EncodeValue_value_len_exit_i_i; }
+L_EncodeValue_value_len_exit_i_i:;
+    v_sroa_09_0_insert_insert65_i_i_i = p_v_sroa_09_0_insert_insert65_i_i_i;
+    v_sroa_57_0_extract_shift_i_i_i_i = (u64)((u64)(v_sroa_09_0_insert_insert65_i_i_i) & (u64)(18446744069414584320ull));
+    v_11_1_i_i_i_i_i = v_sroa_09_0_insert_insert65_i_i_i > 18446744026464911359ull;
+    v_343 = (u64)((u64)(v_sroa_57_0_extract_shift_i_i_i_i) + (u64)(47244642048ull));
+    v_0_sroa_0_0_insert_insert_i_i_i_i_i = v_11_1_i_i_i_i_i ? 1793u : v_343;
+    v_sroa_4_0_extract_shift14_i_i_i_i = (u64)((u64)(v_0_sroa_0_0_insert_insert_i_i_i_i_i) & (u64)(18446744069414586112ull));
+    v_trunc_i_i496 = (u1)((v_0_sroa_0_0_insert_insert_i_i_i_i_i) & 1);
+    if (v_trunc_i_i496) { p_v_0_sroa_0_0_insert_insert_i173_i = v_sroa_4_0_extract_shift14_i_i_i_i; goto L_bb3_i587; } else { goto L_bb6_i34_i; }
+L_bb6_i34_i:;
+    v_sroa_5_0_extract_shift_i35_i = (u64)((u64)(v_0_sroa_0_0_insert_insert_i_i_i_i_i) >> (u64)((32u & 63)));
+    v_10_i_i_i497 = v_0_sroa_0_0_insert_insert_i_i_i_i_i < 549755813888ull;
+    if (v_10_i_i_i497) { p_v_sink_i7_i_i = 2u; goto L_Encode_encoded_len_exit_i; } else { goto L_bb4_i_i36_i; }
+L_bb4_i_i36_i:;
+    v_11_i_i37_i = v_0_sroa_0_0_insert_insert_i_i_i_i_i < 1099511627776ull;
+    if (v_11_i_i37_i) { p_v_sink_i7_i_i = 3u; goto L_Encode_encoded_len_exit_i; } else { goto L_bb6_i_i38_i; }
+L_bb6_i_i38_i:;
+    v_12_i_i39_i = v_0_sroa_0_0_insert_insert_i_i_i_i_i < 281474976710656ull;
+    if (v_12_i_i39_i) { p_v_sink_i7_i_i = 4u; goto L_Encode_encoded_len_exit_i; } else { goto L_bb8_i5_i_i; }
+L_bb8_i5_i_i:;
+    v_13_i_i40_i = v_0_sroa_0_0_insert_insert_i_i_i_i_i < 72057594037927936ull;
+    v_i6_i_i = v_13_i_i40_i ? 5u : 6u;
+    { p_v_sink_i7_i_i = v_i6_i_i; goto L_Encode_encoded_len_exit_i; }
+L_Encode_encoded_len_exit_thread_i:;
+    v_0_sroa_31_0_in_i_ph_i = p_v_0_sroa_31_0_in_i_ph_i;
+    v_0_sroa_31_0_insert_shift_i157_i = (u64)((u64)(v_0_sroa_31_0_in_i_ph_i) << (u64)((32u & 63)));
+    { p_v_0_sroa_0_0_insert_insert_i161_i = v_0_sroa_31_0_insert_shift_i157_i; goto L_bb4_i498; }
+L_Encode_encoded_len_exit_i:;
+    v_sink_i7_i_i = p_v_sink_i7_i_i;
+    v_344 = (u64)((u64)(v_sink_i7_i_i) + (u64)(v_sroa_5_0_extract_shift_i35_i));
+    v_14_i_i41_i = v_344 < 4294967296ull;
+    v_345 = (u64)((u64)(v_344) << (u64)((32u & 63)));
+    v_346 = (u64)((u64)(v_345) | (u64)(1792u));
+    v_0_sroa_0_0_insert_insert_i_i_i = v_14_i_i41_i ? v_346 : 1793u;
+    v_trunc_i = (u1)((v_0_sroa_0_0_insert_insert_i_i_i) & 1);
+    if (v_trunc_i) { p_v_0_sroa_0_0_insert_insert_i173_i = v_0_sroa_0_0_insert_insert_i_i_i; goto L_bb3_i587; } else { p_v_0_sroa_0_0_insert_insert_i161_i = v_0_sroa_0_0_insert_insert_i_i_i; goto L_bb4_i498; }
+L_bb4_i498:;
+    v_0_sroa_0_0_insert_insert_i161_i = p_v_0_sroa_0_0_insert_insert_i161_i;
+    v_sroa_5_0_extract_shift_i = (u64)((u64)(v_0_sroa_0_0_insert_insert_i161_i) >> (u64)((32u & 63)));
+    v_4_i_i = v_sroa_5_0_extract_shift_i > v_out_1;
+    if (v_4_i_i) { p_v_374 = 15u; goto L_any_AnyRef_exit_i; } else { goto L_bb7_i49_i; }
+L_bb7_i49_i:;
+    put_P(v_writer_i_i476, v_out_0);
+    v_347 = v_writer_i_i476 + 8;
+    put_u64(v_347, v_sroa_5_0_extract_shift_i);
+    v_348 = v_writer_i_i476 + 16;
+    put_u64(v_348, v_sroa_5_0_extract_shift_i);
+    f_EncodeValue_prepend_value__2(v_made_i, v_0_i_i, v_writer_i_i476);
+    v_15_1_i_i_i500 = get_u64(v_347);
+    v_14_i_i51_i = get_u64(v_348);
+    v_7_i_i52_i = (u64)((u64)(v_15_1_i_i_i500) - (u64)(v_14_i_i51_i));
+    v_16_i_i_i501 = (u32)(v_7_i_i52_i);
+    v_4_i_i_i_i502 = v_16_i_i_i501 < 128u;
+    if (v_4_i_i_i_i502) { goto L_bb1_i_i_i_i579; } else { goto L_bb2_i_i_i54_i; }
+L_bb2_i_i_i54_i:;
+    v_9_i_i_i55_i = v_16_i_i_i501 < 256u;
+    if (v_9_i_i_i55_i) { goto L_bb3_i_i_i68_i; } else { goto L_bb4_i_i_i56_i; }
+L_bb1_i_i_i_i579:;
+    v_8_i_i_i69_i = (u16)(v_7_i_i52_i);
+    v_48_0_i_i_i_i580 = get_P(v_writer_i_i476);
+    v_start1_i_i_i_i_i = (u64)((u64)(v_14_i_i51_i) + (u64)(18446744073709551614ull));
+    v_8_not_i_i_i_i_i581 = v_14_i_i51_i > v_15_1_i_i_i500;
+    if (v_8_not_i_i_i_i_i581) { goto L_bb4_i_i_i_i71_i; } else { goto L_bb2_i_i_i_i_i582; }
+L_bb4_i_i_i_i71_i:;
+    TRAP();
+    TRAP();
+L_bb2_i_i_i_i_i582:;
+    v_15_not_i_i_i_i_i583 = v_14_i_i51_i < 2u;
+    if (v_15_not_i_i_i_i_i583) { goto L_bb7_i_i_i_i70_i; } else { goto L_copy_from_slice_pkcs1_c_exit_i_i584; }
+L_bb7_i_i_i_i70_i:;
+    TRAP();
+    TRAP();
+L_copy_from_slice_pkcs1_c_exit_i_i584:;
+    v_349 = v_48_0_i_i_i_i580 + (int64_t)(v_start1_i_i_i_i_i);
+    v_7_i_i_sroa_0_sroa_4_0_insert_shift_i_i585 = (u16)((u32)(v_8_i_i_i69_i) << (u32)((8u & 31)));
+    v_7_i_i_sroa_0_sroa_0_0_insert_insert_i_i586 = (u16)((u32)(v_7_i_i_sroa_0_sroa_4_0_insert_shift_i_i585) | (u32)(48u));
+    put_u16(v_349, v_7_i_i_sroa_0_sroa_0_0_insert_insert_i_i586);
+    { p_v_48_0_i_i_i = v_48_0_i_i_i_i580; p_v_11_i27_i_i = v_start1_i_i_i_i_i; goto L_bb8_i60_i; }
+L_bb4_i_i_i56_i:;
+    v_14_i_i_i57_i = v_16_i_i_i501 < 65536u;
+    if (v_14_i_i_i57_i) { goto L_bb5_i_i_i66_i; } else { goto L_bb6_i_i_i58_i; }
+L_bb3_i_i_i68_i:;
+    v_13_i_i_i_i570 = (u8)(v_7_i_i52_i);
+    v_51_0_i_i_i_i571 = get_P(v_writer_i_i476);
+    v_start1_i11_i_i_i_i = (u64)((u64)(v_14_i_i51_i) + (u64)(18446744073709551613ull));
+    v_8_not_i12_i_i_i_i572 = v_14_i_i51_i > v_15_1_i_i_i500;
+    if (v_8_not_i12_i_i_i_i572) { goto L_bb4_i20_i_i_i_i578; } else { goto L_bb2_i13_i_i_i_i573; }
+L_bb4_i20_i_i_i_i578:;
+    TRAP();
+    TRAP();
+L_bb2_i13_i_i_i_i573:;
+    v_15_not_i15_i_i_i_i574 = v_14_i_i51_i < 3u;
+    if (v_15_not_i15_i_i_i_i574) { goto L_bb7_i19_i_i_i_i577; } else { goto L_copy_from_slice_pkcs1_c_exit138_i_i; }
+L_bb7_i19_i_i_i_i577:;
+    TRAP();
+    TRAP();
+L_copy_from_slice_pkcs1_c_exit138_i_i:;
+    v_350 = v_51_0_i_i_i_i571 + (int64_t)(v_start1_i11_i_i_i_i);
+    put_u8(v_350, 48u);
+    v_12_i_i_sroa_4_0_sroa_idx_i_i575 = v_350 + 1;
+    put_u8(v_12_i_i_sroa_4_0_sroa_idx_i_i575, 129u);
+    v_12_i_i_sroa_5_0_sroa_idx_i_i576 = v_350 + 2;
+    put_u8(v_12_i_i_sroa_5_0_sroa_idx_i_i576, v_13_i_i_i_i570);
+    { p_v_48_0_i_i_i = v_51_0_i_i_i_i571; p_v_11_i27_i_i = v_start1_i11_i_i_i_i; goto L_bb8_i60_i; }
+L_bb6_i_i_i58_i:;
+    v_22_i_i_i_i503 = v_16_i_i_i501 < 16777216u;
+    if (v_22_i_i_i_i503) { goto L_bb7_i_i_i64_i; } else { goto L_bb8_i_i_i59_i; }
+L_bb5_i_i_i66_i:;
+    v_54_0_i_i_i_i563 = get_P(v_writer_i_i476);
+    v_start1_i26_i_i_i_i = (u64)((u64)(v_14_i_i51_i) + (u64)(18446744073709551612ull));
+    v_8_not_i27_i_i_i_i564 = v_14_i_i51_i > v_15_1_i_i_i500;
+    if (v_8_not_i27_i_i_i_i564) { goto L_bb4_i35_i_i_i_i569; } else { goto L_bb2_i28_i_i_i_i565; }
+L_bb4_i35_i_i_i_i569:;
+    TRAP();
+    TRAP();
+L_bb2_i28_i_i_i_i565:;
+    v_15_not_i30_i_i_i_i566 = v_14_i_i51_i < 4u;
+    if (v_15_not_i30_i_i_i_i566) { goto L_bb7_i34_i_i_i_i568; } else { goto L_copy_from_slice_pkcs1_c_exit141_i_i; }
+L_bb7_i34_i_i_i_i568:;
+    TRAP();
+    TRAP();
+L_copy_from_slice_pkcs1_c_exit141_i_i:;
+    v_351 = v_54_0_i_i_i_i563 + (int64_t)(v_start1_i26_i_i_i_i);
+    v_352 = (u32)((u32)(v_16_i_i_i501) | (u32)(813826048u));
+    v_17_i_i_sroa_0_sroa_0_0_insert_insert_i_i567 = TURNED(32, v_352);
+    put_u32(v_351, v_17_i_i_sroa_0_sroa_0_0_insert_insert_i_i567);
+    { p_v_48_0_i_i_i = v_54_0_i_i_i_i563; p_v_11_i27_i_i = v_start1_i26_i_i_i_i; goto L_bb8_i60_i; }
+L_bb8_i_i_i59_i:;
+    v_371_i_i_i_i504 = (u64)((u64)(v_7_i_i52_i) >> (u64)((24u & 63)));
+    v_36_i_i_i_i505 = (u8)(v_371_i_i_i_i504);
+    v_402_i_i_i_i506 = (u64)((u64)(v_7_i_i52_i) >> (u64)((16u & 63)));
+    v_38_i_i_i_i507 = (u8)(v_402_i_i_i_i506);
+    v_433_i_i_i_i508 = (u64)((u64)(v_7_i_i52_i) >> (u64)((8u & 63)));
+    v_41_i_i_i_i509 = (u8)(v_433_i_i_i_i508);
+    v_44_i_i_i_i510 = (u8)(v_7_i_i52_i);
+    v_60_0_i_i_i_i511 = get_P(v_writer_i_i476);
+    v_start1_i56_i_i_i_i = (u64)((u64)(v_14_i_i51_i) + (u64)(18446744073709551610ull));
+    v_8_not_i57_i_i_i_i512 = v_14_i_i51_i > v_15_1_i_i_i500;
+    if (v_8_not_i57_i_i_i_i512) { goto L_bb4_i65_i_i_i_i548; } else { goto L_bb2_i58_i_i_i_i513; }
+L_bb4_i65_i_i_i_i548:;
+    TRAP();
+    TRAP();
+L_bb2_i58_i_i_i_i513:;
+    v_15_not_i60_i_i_i_i514 = v_14_i_i51_i < 6u;
+    if (v_15_not_i60_i_i_i_i514) { goto L_bb7_i64_i_i_i_i547; } else { goto L_copy_from_slice_pkcs1_c_exit144_i_i; }
+L_bb7_i64_i_i_i_i547:;
+    TRAP();
+    TRAP();
+L_copy_from_slice_pkcs1_c_exit144_i_i:;
+    v_353 = v_60_0_i_i_i_i511 + (int64_t)(v_start1_i56_i_i_i_i);
+    put_u8(v_353, 48u);
+    v_35_i_i_sroa_4_0_sroa_idx_i_i515 = v_353 + 1;
+    put_u8(v_35_i_i_sroa_4_0_sroa_idx_i_i515, 132u);
+    v_35_i_i_sroa_5_0_sroa_idx_i_i516 = v_353 + 2;
+    put_u8(v_35_i_i_sroa_5_0_sroa_idx_i_i516, v_36_i_i_i_i505);
+    v_35_i_i_sroa_6_0_sroa_idx_i_i517 = v_353 + 3;
+    put_u8(v_35_i_i_sroa_6_0_sroa_idx_i_i517, v_38_i_i_i_i507);
+    v_35_i_i_sroa_7_0_sroa_idx_i_i518 = v_353 + 4;
+    put_u8(v_35_i_i_sroa_7_0_sroa_idx_i_i518, v_41_i_i_i_i509);
+    v_35_i_i_sroa_8_0_sroa_idx_i_i519 = v_353 + 5;
+    put_u8(v_35_i_i_sroa_8_0_sroa_idx_i_i519, v_44_i_i_i_i510);
+    { p_v_48_0_i_i_i = v_60_0_i_i_i_i511; p_v_11_i27_i_i = v_start1_i56_i_i_i_i; goto L_bb8_i60_i; }
+L_bb7_i_i_i64_i:;
+    v_274_i_i_i_i549 = (u64)((u64)(v_7_i_i52_i) >> (u64)((16u & 63)));
+    v_26_i_i_i_i550 = (u8)(v_274_i_i_i_i549);
+    v_305_i_i_i_i551 = (u64)((u64)(v_7_i_i52_i) >> (u64)((8u & 63)));
+    v_28_i_i_i_i552 = (u8)(v_305_i_i_i_i551);
+    v_31_i_i_i65_i = (u8)(v_7_i_i52_i);
+    v_57_0_i_i_i_i553 = get_P(v_writer_i_i476);
+    v_start1_i41_i_i_i_i = (u64)((u64)(v_14_i_i51_i) + (u64)(18446744073709551611ull));
+    v_8_not_i42_i_i_i_i554 = v_14_i_i51_i > v_15_1_i_i_i500;
+    if (v_8_not_i42_i_i_i_i554) { goto L_bb4_i50_i_i_i_i562; } else { goto L_bb2_i43_i_i_i_i555; }
+L_bb4_i50_i_i_i_i562:;
+    TRAP();
+    TRAP();
+L_bb2_i43_i_i_i_i555:;
+    v_15_not_i45_i_i_i_i556 = v_14_i_i51_i < 5u;
+    if (v_15_not_i45_i_i_i_i556) { goto L_bb7_i49_i_i_i_i561; } else { goto L_copy_from_slice_pkcs1_c_exit147_i_i; }
+L_bb7_i49_i_i_i_i561:;
+    TRAP();
+    TRAP();
+L_copy_from_slice_pkcs1_c_exit147_i_i:;
+    v_354 = v_57_0_i_i_i_i553 + (int64_t)(v_start1_i41_i_i_i_i);
+    put_u8(v_354, 48u);
+    v_25_i_i_sroa_4_0_sroa_idx_i_i557 = v_354 + 1;
+    put_u8(v_25_i_i_sroa_4_0_sroa_idx_i_i557, 131u);
+    v_25_i_i_sroa_5_0_sroa_idx_i_i558 = v_354 + 2;
+    put_u8(v_25_i_i_sroa_5_0_sroa_idx_i_i558, v_26_i_i_i_i550);
+    v_25_i_i_sroa_6_0_sroa_idx_i_i559 = v_354 + 3;
+    put_u8(v_25_i_i_sroa_6_0_sroa_idx_i_i559, v_28_i_i_i_i552);
+    v_25_i_i_sroa_7_0_sroa_idx_i_i560 = v_354 + 4;
+    put_u8(v_25_i_i_sroa_7_0_sroa_idx_i_i560, v_31_i_i_i65_i);
+    { p_v_48_0_i_i_i = v_57_0_i_i_i_i553; p_v_11_i27_i_i = v_start1_i41_i_i_i_i; goto L_bb8_i60_i; }
+L_bb8_i60_i:;
+    v_48_0_i_i_i = p_v_48_0_i_i_i;
+    v_11_i27_i_i = p_v_11_i27_i_i;
+    v_before_neg_i28_i_i = (u64)((u64)(v_11_i27_i_i) - (u64)(v_15_1_i_i_i500));
+    v_8_not_i_i_i61_i = v_11_i27_i_i > v_15_1_i_i_i500;
+    if (v_8_not_i_i_i61_i) { goto L_bb4_i_i152_i_i; } else { goto L_bb2_i_i150_i_i; }
+L_bb4_i_i152_i_i:;
+    TRAP();
+    TRAP();
+L_bb2_i_i150_i_i:;
+    v_15_not_i_i_i62_i = v_11_i27_i_i < 9u;
+    if (v_15_not_i_i_i62_i) { goto L_bb7_i_i151_i_i; } else { goto L_EncodeValue_prepend_value_exit_i_i; }
+L_bb7_i_i151_i_i:;
+    TRAP();
+    TRAP();
+L_EncodeValue_prepend_value_exit_i_i:;
+    v_start1_i_i_i63_i = (u64)((u64)(v_11_i27_i_i) + (u64)(18446744073709551607ull));
+    v_355 = v_48_0_i_i_i + (int64_t)(v_start1_i_i_i63_i);
+    copy(v_355, AT(f_alloc_4af27385a537e9a19a48ac4200653248), 9u);
+    v_7_i31_i_i520 = (u64)((u64)(v_15_1_i_i_i500) - (u64)(v_start1_i_i_i63_i));
+    v_6_i32_i_i = (u64)((u64)(v_7_i31_i_i520) + (u64)(v_before_neg_i28_i_i));
+    v_16_i33_i_i = (u32)(v_6_i32_i_i);
+    v_4_i_i35_i_i = v_16_i33_i_i < 128u;
+    if (v_4_i_i35_i_i) { goto L_bb1_i_i118_i_i; } else { goto L_bb2_i_i36_i_i; }
+L_bb2_i_i36_i_i:;
+    v_9_i_i37_i_i = v_16_i33_i_i < 256u;
+    if (v_9_i_i37_i_i) { goto L_bb3_i_i102_i_i; } else { goto L_bb4_i_i38_i_i; }
+L_bb1_i_i118_i_i:;
+    v_15_not_i_i_i127_i_i = v_start1_i_i_i63_i < 2u;
+    if (v_15_not_i_i_i127_i_i) { goto L_bb7_i_i_i132_i_i; } else { goto L_copy_from_slice_pkcs1_c_exit155_i_i; }
+L_bb7_i_i_i132_i_i:;
+    TRAP();
+    TRAP();
+L_copy_from_slice_pkcs1_c_exit155_i_i:;
+    v_start1_i_i_i123_i_i = (u64)((u64)(v_11_i27_i_i) + (u64)(18446744073709551605ull));
+    v_8_i_i119_i_i = (u16)(v_6_i32_i_i);
+    v_356 = v_48_0_i_i_i + (int64_t)(v_start1_i_i_i123_i_i);
+    v_7_i_i25_sroa_0_sroa_4_0_insert_shift_i_i = (u16)((u32)(v_8_i_i119_i_i) << (u32)((8u & 31)));
+    v_7_i_i25_sroa_0_sroa_0_0_insert_insert_i_i = (u16)((u32)(v_7_i_i25_sroa_0_sroa_4_0_insert_shift_i_i) | (u32)(6u));
+    put_u16(v_356, v_7_i_i25_sroa_0_sroa_0_0_insert_insert_i_i);
+    { p_v_start1_i_i_i123_sink_i_i = v_start1_i_i_i123_i_i; goto L_EncodeValue_prepend_value_exit_i; }
+L_bb4_i_i38_i_i:;
+    v_14_i_i39_i_i = v_16_i33_i_i < 65536u;
+    if (v_14_i_i39_i_i) { goto L_bb5_i_i84_i_i; } else { goto L_bb6_i_i40_i_i; }
+L_bb3_i_i102_i_i:;
+    v_15_not_i15_i_i111_i_i = v_start1_i_i_i63_i < 3u;
+    if (v_15_not_i15_i_i111_i_i) { goto L_bb7_i19_i_i116_i_i; } else { goto L_copy_from_slice_pkcs1_c_exit158_i_i; }
+L_bb7_i19_i_i116_i_i:;
+    TRAP();
+    TRAP();
+L_copy_from_slice_pkcs1_c_exit158_i_i:;
+    v_start1_i11_i_i107_i_i = (u64)((u64)(v_11_i27_i_i) + (u64)(18446744073709551604ull));
+    v_13_i_i103_i_i = (u8)(v_6_i32_i_i);
+    v_357 = v_48_0_i_i_i + (int64_t)(v_start1_i11_i_i107_i_i);
+    put_u8(v_357, 6u);
+    v_12_i_i24_sroa_4_0_sroa_idx_i_i = v_357 + 1;
+    put_u8(v_12_i_i24_sroa_4_0_sroa_idx_i_i, 129u);
+    v_12_i_i24_sroa_5_0_sroa_idx_i_i = v_357 + 2;
+    put_u8(v_12_i_i24_sroa_5_0_sroa_idx_i_i, v_13_i_i103_i_i);
+    { p_v_start1_i_i_i123_sink_i_i = v_start1_i11_i_i107_i_i; goto L_EncodeValue_prepend_value_exit_i; }
+L_bb6_i_i40_i_i:;
+    v_22_i_i41_i_i = v_16_i33_i_i < 16777216u;
+    if (v_22_i_i41_i_i) { goto L_bb7_i_i64_i_i; } else { goto L_bb8_i_i42_i_i; }
+L_bb5_i_i84_i_i:;
+    v_15_not_i30_i_i95_i_i = v_start1_i_i_i63_i < 4u;
+    if (v_15_not_i30_i_i95_i_i) { goto L_bb7_i34_i_i100_i_i; } else { goto L_copy_from_slice_pkcs1_c_exit161_i_i; }
+L_bb7_i34_i_i100_i_i:;
+    TRAP();
+    TRAP();
+L_copy_from_slice_pkcs1_c_exit161_i_i:;
+    v_start1_i26_i_i91_i_i = (u64)((u64)(v_11_i27_i_i) + (u64)(18446744073709551603ull));
+    v_358 = v_48_0_i_i_i + (int64_t)(v_start1_i26_i_i91_i_i);
+    v_359 = (u32)((u32)(v_16_i33_i_i) | (u32)(109182976u));
+    v_17_i_i23_sroa_0_sroa_0_0_insert_insert_i_i = TURNED(32, v_359);
+    put_u32(v_358, v_17_i_i23_sroa_0_sroa_0_0_insert_insert_i_i);
+    { p_v_start1_i_i_i123_sink_i_i = v_start1_i26_i_i91_i_i; goto L_EncodeValue_prepend_value_exit_i; }
+L_bb8_i_i42_i_i:;
+    v_15_not_i60_i_i57_i_i = v_start1_i_i_i63_i < 6u;
+    if (v_15_not_i60_i_i57_i_i) { goto L_bb7_i64_i_i62_i_i; } else { goto L_copy_from_slice_pkcs1_c_exit164_i_i; }
+L_bb7_i64_i_i62_i_i:;
+    TRAP();
+    TRAP();
+L_copy_from_slice_pkcs1_c_exit164_i_i:;
+    v_start1_i56_i_i53_i_i = (u64)((u64)(v_11_i27_i_i) + (u64)(18446744073709551601ull));
+    v_44_i_i49_i_i = (u8)(v_6_i32_i_i);
+    v_433_i_i47_i_i = (u64)((u64)(v_6_i32_i_i) >> (u64)((8u & 63)));
+    v_41_i_i48_i_i = (u8)(v_433_i_i47_i_i);
+    v_402_i_i45_i_i = (u64)((u64)(v_6_i32_i_i) >> (u64)((16u & 63)));
+    v_38_i_i46_i_i = (u8)(v_402_i_i45_i_i);
+    v_371_i_i43_i_i = (u64)((u64)(v_6_i32_i_i) >> (u64)((24u & 63)));
+    v_36_i_i44_i_i = (u8)(v_371_i_i43_i_i);
+    v_360 = v_48_0_i_i_i + (int64_t)(v_start1_i56_i_i53_i_i);
+    put_u8(v_360, 6u);
+    v_35_i_i21_sroa_4_0_sroa_idx_i_i = v_360 + 1;
+    put_u8(v_35_i_i21_sroa_4_0_sroa_idx_i_i, 132u);
+    v_35_i_i21_sroa_5_0_sroa_idx_i_i = v_360 + 2;
+    put_u8(v_35_i_i21_sroa_5_0_sroa_idx_i_i, v_36_i_i44_i_i);
+    v_35_i_i21_sroa_6_0_sroa_idx_i_i = v_360 + 3;
+    put_u8(v_35_i_i21_sroa_6_0_sroa_idx_i_i, v_38_i_i46_i_i);
+    v_35_i_i21_sroa_7_0_sroa_idx_i_i = v_360 + 4;
+    put_u8(v_35_i_i21_sroa_7_0_sroa_idx_i_i, v_41_i_i48_i_i);
+    v_35_i_i21_sroa_8_0_sroa_idx_i_i = v_360 + 5;
+    put_u8(v_35_i_i21_sroa_8_0_sroa_idx_i_i, v_44_i_i49_i_i);
+    { p_v_start1_i_i_i123_sink_i_i = v_start1_i56_i_i53_i_i; goto L_EncodeValue_prepend_value_exit_i; }
+L_bb7_i_i64_i_i:;
+    v_15_not_i45_i_i77_i_i = v_start1_i_i_i63_i < 5u;
+    if (v_15_not_i45_i_i77_i_i) { goto L_bb7_i49_i_i82_i_i; } else { goto L_copy_from_slice_pkcs1_c_exit167_i_i; }
+L_bb7_i49_i_i82_i_i:;
+    TRAP();
+    TRAP();
+L_copy_from_slice_pkcs1_c_exit167_i_i:;
+    v_start1_i41_i_i73_i_i = (u64)((u64)(v_11_i27_i_i) + (u64)(18446744073709551602ull));
+    v_31_i_i69_i_i = (u8)(v_6_i32_i_i);
+    v_305_i_i67_i_i = (u64)((u64)(v_6_i32_i_i) >> (u64)((8u & 63)));
+    v_28_i_i68_i_i = (u8)(v_305_i_i67_i_i);
+    v_274_i_i65_i_i = (u64)((u64)(v_6_i32_i_i) >> (u64)((16u & 63)));
+    v_26_i_i66_i_i = (u8)(v_274_i_i65_i_i);
+    v_361 = v_48_0_i_i_i + (int64_t)(v_start1_i41_i_i73_i_i);
+    put_u8(v_361, 6u);
+    v_25_i_i22_sroa_4_0_sroa_idx_i_i = v_361 + 1;
+    put_u8(v_25_i_i22_sroa_4_0_sroa_idx_i_i, 131u);
+    v_25_i_i22_sroa_5_0_sroa_idx_i_i = v_361 + 2;
+    put_u8(v_25_i_i22_sroa_5_0_sroa_idx_i_i, v_26_i_i66_i_i);
+    v_25_i_i22_sroa_6_0_sroa_idx_i_i = v_361 + 3;
+    put_u8(v_25_i_i22_sroa_6_0_sroa_idx_i_i, v_28_i_i68_i_i);
+    v_25_i_i22_sroa_7_0_sroa_idx_i_i = v_361 + 4;
+    put_u8(v_25_i_i22_sroa_7_0_sroa_idx_i_i, v_31_i_i69_i_i);
+    { p_v_start1_i_i_i123_sink_i_i = v_start1_i41_i_i73_i_i; goto L_EncodeValue_prepend_value_exit_i; }
+L_EncodeValue_prepend_value_exit_i:;
+    v_start1_i_i_i123_sink_i_i = p_v_start1_i_i_i123_sink_i_i;
+    v_7_i5_i = (u64)((u64)(v_15_1_i_i_i500) - (u64)(v_start1_i_i_i123_sink_i_i));
+    v_16_i_i522 = (u32)(v_7_i5_i);
+    v_4_i_i_i523 = v_16_i_i522 < 128u;
+    if (v_4_i_i_i523) { goto L_bb1_i_i_i542; } else { goto L_bb2_i_i_i524; }
+L_bb2_i_i_i524:;
+    v_9_i_i_i525 = v_16_i_i522 < 256u;
+    if (v_9_i_i_i525) { goto L_bb3_i_i_i541; } else { goto L_bb4_i_i_i526; }
+L_bb1_i_i_i542:;
+    v_8_i_i_i543 = (u16)(v_7_i5_i);
+    v_8_not_i_i_i_i = v_start1_i_i_i123_sink_i_i > v_15_1_i_i_i500;
+    if (v_8_not_i_i_i_i) { goto L_bb4_i_i_i_i546; } else { goto L_bb2_i_i_i_i544; }
+L_bb4_i_i_i_i546:;
+    TRAP();
+    TRAP();
+L_bb2_i_i_i_i544:;
+    v_15_not_i_i_i_i = v_start1_i_i_i123_sink_i_i < 2u;
+    if (v_15_not_i_i_i_i) { goto L_bb7_i_i_i_i545; } else { goto L_copy_from_slice_pkcs1_c_exit_i; }
+L_bb7_i_i_i_i545:;
+    TRAP();
+    TRAP();
+L_copy_from_slice_pkcs1_c_exit_i:;
+    v_362 = (P)((u64)v_48_0_i_i_i + (u64)(v_start1_i_i_i123_sink_i_i));
+    v_363 = (P)((u64)v_362 + (u64)(-2));
+    v_7_i_i_sroa_0_sroa_4_0_insert_shift_i = (u16)((u32)(v_8_i_i_i543) << (u32)((8u & 31)));
+    v_7_i_i_sroa_0_sroa_0_0_insert_insert_i = (u16)((u32)(v_7_i_i_sroa_0_sroa_4_0_insert_shift_i) | (u32)(48u));
+    put_u16(v_363, v_7_i_i_sroa_0_sroa_0_0_insert_insert_i);
+    { goto L_373; }
+L_bb4_i_i_i526:;
+    v_14_i_i_i527 = v_16_i_i522 < 65536u;
+    if (v_14_i_i_i527) { goto L_bb5_i_i_i540; } else { goto L_bb6_i_i_i528; }
+L_bb3_i_i_i541:;
+    v_13_i_i_i = (u8)(v_7_i5_i);
+    v_8_not_i12_i_i_i = v_start1_i_i_i123_sink_i_i > v_15_1_i_i_i500;
+    if (v_8_not_i12_i_i_i) { goto L_bb4_i20_i_i_i; } else { goto L_bb2_i13_i_i_i; }
+L_bb4_i20_i_i_i:;
+    TRAP();
+    TRAP();
+L_bb2_i13_i_i_i:;
+    v_15_not_i15_i_i_i = v_start1_i_i_i123_sink_i_i < 3u;
+    if (v_15_not_i15_i_i_i) { goto L_bb7_i19_i_i_i; } else { goto L_copy_from_slice_pkcs1_c_exit76_i; }
+L_bb7_i19_i_i_i:;
+    TRAP();
+    TRAP();
+L_copy_from_slice_pkcs1_c_exit76_i:;
+    v_364 = (P)((u64)v_48_0_i_i_i + (u64)(v_start1_i_i_i123_sink_i_i));
+    v_365 = (P)((u64)v_364 + (u64)(-3));
+    put_u8(v_365, 48u);
+    v_12_i_i_sroa_4_0_sroa_idx_i = (P)((u64)v_364 + (u64)(-2));
+    put_u8(v_12_i_i_sroa_4_0_sroa_idx_i, 129u);
+    v_12_i_i_sroa_5_0_sroa_idx_i = (P)((u64)v_364 + (u64)(-1));
+    put_u8(v_12_i_i_sroa_5_0_sroa_idx_i, v_13_i_i_i);
+    { goto L_373; }
+L_bb6_i_i_i528:;
+    v_22_i_i_i529 = v_16_i_i522 < 16777216u;
+    if (v_22_i_i_i529) { goto L_bb7_i_i_i536; } else { goto L_bb8_i_i_i530; }
+L_bb5_i_i_i540:;
+    v_8_not_i27_i_i_i = v_start1_i_i_i123_sink_i_i > v_15_1_i_i_i500;
+    if (v_8_not_i27_i_i_i) { goto L_bb4_i35_i_i_i; } else { goto L_bb2_i28_i_i_i; }
+L_bb4_i35_i_i_i:;
+    TRAP();
+    TRAP();
+L_bb2_i28_i_i_i:;
+    v_15_not_i30_i_i_i = v_start1_i_i_i123_sink_i_i < 4u;
+    if (v_15_not_i30_i_i_i) { goto L_bb7_i34_i_i_i; } else { goto L_copy_from_slice_pkcs1_c_exit80_i; }
+L_bb7_i34_i_i_i:;
+    TRAP();
+    TRAP();
+L_copy_from_slice_pkcs1_c_exit80_i:;
+    v_366 = (P)((u64)v_48_0_i_i_i + (u64)(v_start1_i_i_i123_sink_i_i));
+    v_367 = (P)((u64)v_366 + (u64)(-4));
+    v_368 = (u32)((u32)(v_16_i_i522) | (u32)(813826048u));
+    v_17_i_i_sroa_0_sroa_0_0_insert_insert_i = TURNED(32, v_368);
+    put_u32(v_367, v_17_i_i_sroa_0_sroa_0_0_insert_insert_i);
+    { goto L_373; }
+L_bb8_i_i_i530:;
+    v_371_i_i_i = (u64)((u64)(v_7_i5_i) >> (u64)((24u & 63)));
+    v_36_i_i_i531 = (u8)(v_371_i_i_i);
+    v_402_i_i_i = (u64)((u64)(v_7_i5_i) >> (u64)((16u & 63)));
+    v_38_i_i_i532 = (u8)(v_402_i_i_i);
+    v_433_i_i_i = (u64)((u64)(v_7_i5_i) >> (u64)((8u & 63)));
+    v_41_i_i_i533 = (u8)(v_433_i_i_i);
+    v_44_i_i_i = (u8)(v_7_i5_i);
+    v_8_not_i57_i_i_i = v_start1_i_i_i123_sink_i_i > v_15_1_i_i_i500;
+    if (v_8_not_i57_i_i_i) { goto L_bb4_i65_i_i_i; } else { goto L_bb2_i58_i_i_i; }
+L_bb4_i65_i_i_i:;
+    TRAP();
+    TRAP();
+L_bb2_i58_i_i_i:;
+    v_15_not_i60_i_i_i = v_start1_i_i_i123_sink_i_i < 6u;
+    if (v_15_not_i60_i_i_i) { goto L_bb7_i64_i_i_i; } else { goto L_copy_from_slice_pkcs1_c_exit84_i; }
+L_bb7_i64_i_i_i:;
+    TRAP();
+    TRAP();
+L_copy_from_slice_pkcs1_c_exit84_i:;
+    v_369 = (P)((u64)v_48_0_i_i_i + (u64)(v_start1_i_i_i123_sink_i_i));
+    v_370 = (P)((u64)v_369 + (u64)(-6));
+    put_u8(v_370, 48u);
+    v_35_i_i_sroa_4_0_sroa_idx_i = (P)((u64)v_369 + (u64)(-5));
+    put_u8(v_35_i_i_sroa_4_0_sroa_idx_i, 132u);
+    v_35_i_i_sroa_5_0_sroa_idx_i = (P)((u64)v_369 + (u64)(-4));
+    put_u8(v_35_i_i_sroa_5_0_sroa_idx_i, v_36_i_i_i531);
+    v_35_i_i_sroa_6_0_sroa_idx_i = (P)((u64)v_369 + (u64)(-3));
+    put_u8(v_35_i_i_sroa_6_0_sroa_idx_i, v_38_i_i_i532);
+    v_35_i_i_sroa_7_0_sroa_idx_i = (P)((u64)v_369 + (u64)(-2));
+    put_u8(v_35_i_i_sroa_7_0_sroa_idx_i, v_41_i_i_i533);
+    v_35_i_i_sroa_8_0_sroa_idx_i = (P)((u64)v_369 + (u64)(-1));
+    put_u8(v_35_i_i_sroa_8_0_sroa_idx_i, v_44_i_i_i);
+    { goto L_373; }
+L_bb7_i_i_i536:;
+    v_274_i_i_i = (u64)((u64)(v_7_i5_i) >> (u64)((16u & 63)));
+    v_26_i_i_i537 = (u8)(v_274_i_i_i);
+    v_305_i_i_i = (u64)((u64)(v_7_i5_i) >> (u64)((8u & 63)));
+    v_28_i_i_i538 = (u8)(v_305_i_i_i);
+    v_31_i_i_i539 = (u8)(v_7_i5_i);
+    v_8_not_i42_i_i_i = v_start1_i_i_i123_sink_i_i > v_15_1_i_i_i500;
+    if (v_8_not_i42_i_i_i) { goto L_bb4_i50_i_i_i; } else { goto L_bb2_i43_i_i_i; }
+L_bb4_i50_i_i_i:;
+    TRAP();
+    TRAP();
+L_bb2_i43_i_i_i:;
+    v_15_not_i45_i_i_i = v_start1_i_i_i123_sink_i_i < 5u;
+    if (v_15_not_i45_i_i_i) { goto L_bb7_i49_i_i_i; } else { goto L_copy_from_slice_pkcs1_c_exit88_i; }
+L_bb7_i49_i_i_i:;
+    TRAP();
+    TRAP();
+L_copy_from_slice_pkcs1_c_exit88_i:;
+    v_371 = (P)((u64)v_48_0_i_i_i + (u64)(v_start1_i_i_i123_sink_i_i));
+    v_372 = (P)((u64)v_371 + (u64)(-5));
+    put_u8(v_372, 48u);
+    v_25_i_i_sroa_4_0_sroa_idx_i = (P)((u64)v_371 + (u64)(-4));
+    put_u8(v_25_i_i_sroa_4_0_sroa_idx_i, 131u);
+    v_25_i_i_sroa_5_0_sroa_idx_i = (P)((u64)v_371 + (u64)(-3));
+    put_u8(v_25_i_i_sroa_5_0_sroa_idx_i, v_26_i_i_i537);
+    v_25_i_i_sroa_6_0_sroa_idx_i = (P)((u64)v_371 + (u64)(-2));
+    put_u8(v_25_i_i_sroa_6_0_sroa_idx_i, v_28_i_i_i538);
+    v_25_i_i_sroa_7_0_sroa_idx_i = (P)((u64)v_371 + (u64)(-1));
+    put_u8(v_25_i_i_sroa_7_0_sroa_idx_i, v_31_i_i_i539);
+    { goto L_373; }
+L_373:;
+    { p_v_374 = 0u; goto L_any_AnyRef_exit_i; }
+L_any_AnyRef_exit_i:;
+    v_374 = p_v_374;
+    put_u64(v_len, v_sroa_5_0_extract_shift_i);
+    { p_v_0_sroa_0_0_i3 = v_374; goto L_bb8_i; }
+L_bb3_i587:;
+    v_0_sroa_0_0_insert_insert_i173_i = p_v_0_sroa_0_0_insert_insert_i173_i;
+    v_sroa_4_0_extract_shift_i588 = (u64)((u64)(v_0_sroa_0_0_insert_insert_i173_i) >> (u64)((8u & 63)));
+    v_error_sroa_0_0_extract_trunc_i = (u8)(v_sroa_4_0_extract_shift_i588);
+    switch (v_error_sroa_0_0_extract_trunc_i) {
+    case 0u: { p_v_0_sroa_0_0_i3 = 1u; goto L_bb8_i; }
+    case 1u: { goto L_bb17_i_i594; }
+    case 2u: { goto L_bb16_i_i593; }
+    case 3u: { goto L_bb15_i_i592; }
+    case 4u: { goto L_bb14_i_i591; }
+    case 5u: { goto L_bb13_i99_i; }
+    case 6u: { goto L_bb12_i_i590; }
+    case 7u: { goto L_bb11_i98_i; }
+    case 8u: { goto L_bb10_i97_i; }
+    case 9u: { goto L_bb9_i96_i; }
+    case 10u: { goto L_bb8_i95_i; }
+    case 11u: { goto L_bb7_i94_i; }
+    case 12u: { goto L_bb6_i93_i; }
+    case 13u: { goto L_bb5_i92_i; }
+    case 14u: { goto L_bb4_i91_i; }
+    case 15u: { goto L_bb3_i90_i; }
+    case 16u: { goto L_bb2_i_i589; }
+    default: { goto L_default_unreachable_i_i595; }
+    }
+L_default_unreachable_i_i595:;
+    TRAP();
+L_bb17_i_i594:;
+    { p_v_0_sroa_0_0_i3 = 2u; goto L_bb8_i; }
+L_bb16_i_i593:;
+    { p_v_0_sroa_0_0_i3 = 3u; goto L_bb8_i; }
+L_bb15_i_i592:;
+    { p_v_0_sroa_0_0_i3 = 4u; goto L_bb8_i; }
+L_bb14_i_i591:;
+    { p_v_0_sroa_0_0_i3 = 5u; goto L_bb8_i; }
+L_bb13_i99_i:;
+    { p_v_0_sroa_0_0_i3 = 6u; goto L_bb8_i; }
+L_bb12_i_i590:;
+    { p_v_0_sroa_0_0_i3 = 7u; goto L_bb8_i; }
+L_bb11_i98_i:;
+    { p_v_0_sroa_0_0_i3 = 8u; goto L_bb8_i; }
+L_bb10_i97_i:;
+    { p_v_0_sroa_0_0_i3 = 9u; goto L_bb8_i; }
+L_bb9_i96_i:;
+    { p_v_0_sroa_0_0_i3 = 10u; goto L_bb8_i; }
+L_bb8_i95_i:;
+    { p_v_0_sroa_0_0_i3 = 11u; goto L_bb8_i; }
+L_bb7_i94_i:;
+    { p_v_0_sroa_0_0_i3 = 12u; goto L_bb8_i; }
+L_bb6_i93_i:;
+    { p_v_0_sroa_0_0_i3 = 13u; goto L_bb8_i; }
+L_bb5_i92_i:;
+    { p_v_0_sroa_0_0_i3 = 14u; goto L_bb8_i; }
+L_bb4_i91_i:;
+    { p_v_0_sroa_0_0_i3 = 15u; goto L_bb8_i; }
+L_bb3_i90_i:;
+    { p_v_0_sroa_0_0_i3 = 16u; goto L_bb8_i; }
+L_bb2_i_i589:;
+    { p_v_0_sroa_0_0_i3 = 17u; goto L_bb8_i; }
+L_bb8_i:;
+    v_0_sroa_0_0_i3 = p_v_0_sroa_0_0_i3;
+    { p_v_0_sroa_0_0 = v_0_sroa_0_0_i3; goto L_bb4; }
+L_bb13_sink_split:;
+    v_start1_i_i_i_sink = p_v_start1_i_i_i_sink;
+    v_59_i_i_sink_in_in = p_v_59_i_i_sink_in_in;
+    v_0_sroa_5_0_i_ph_ph = p_v_0_sroa_5_0_i_ph_ph;
+    v_59_i_i_sink_in = (u8)(v_59_i_i_sink_in_in);
+    v_59_i_i_sink = (u8)((u32)(v_59_i_i_sink_in) + (u32)(13u));
+    v_375 = v_out_0 + (int64_t)(v_start1_i_i_i_sink);
+    put_u8(v_375, 48u);
+    v_58_i_i_sroa_4_0_sroa_idx = v_375 + 1;
+    put_u8(v_58_i_i_sroa_4_0_sroa_idx, v_59_i_i_sink);
+    v_58_i_i_sroa_5_0_sroa_idx = v_375 + 2;
+    put_u8(v_58_i_i_sroa_5_0_sroa_idx, 6u);
+    v_58_i_i_sroa_6_0_sroa_idx = v_375 + 3;
+    put_u8(v_58_i_i_sroa_6_0_sroa_idx, 9u);
+    v_58_i_i_sroa_7_0_sroa_idx = v_375 + 4;
+    put_u8(v_58_i_i_sroa_7_0_sroa_idx, 42u);
+    v_58_i_i_sroa_8_0_sroa_idx = v_375 + 5;
+    put_u8(v_58_i_i_sroa_8_0_sroa_idx, 134u);
+    v_58_i_i_sroa_9_0_sroa_idx = v_375 + 6;
+    put_u8(v_58_i_i_sroa_9_0_sroa_idx, 72u);
+    v_58_i_i_sroa_10_0_sroa_idx = v_375 + 7;
+    put_u8(v_58_i_i_sroa_10_0_sroa_idx, 134u);
+    v_58_i_i_sroa_11_0_sroa_idx = v_375 + 8;
+    put_u8(v_58_i_i_sroa_11_0_sroa_idx, 247u);
+    v_58_i_i_sroa_12_0_sroa_idx = v_375 + 9;
+    put_u8(v_58_i_i_sroa_12_0_sroa_idx, 13u);
+    v_58_i_i_sroa_13_0_sroa_idx = v_375 + 10;
+    put_u8(v_58_i_i_sroa_13_0_sroa_idx, 1u);
+    v_58_i_i_sroa_14_0_sroa_idx = v_375 + 11;
+    put_u8(v_58_i_i_sroa_14_0_sroa_idx, 1u);
+    v_58_i_i_sroa_15_0_sroa_idx = v_375 + 12;
+    put_u8(v_58_i_i_sroa_15_0_sroa_idx, 10u);
+    { p_v_0_sroa_5_0_i_ph = v_0_sroa_5_0_i_ph_ph; goto L_bb13; }
+L_bb13:;
+    v_0_sroa_5_0_i_ph = p_v_0_sroa_5_0_i_ph;
+    put_u64(v_len, v_0_sroa_5_0_i_ph);
+    { p_v_0_sroa_0_0 = 0u; goto L_bb4; }
 L_bb12:;
-    v_187 = v_15 + 8;
-    v_19_sroa_0_0_copyload = get_u8(v_187);
-    v_188 = (u8)((u32)(v_19_sroa_0_0_copyload) + (u32)(239u));
-    v_189 = (u64)v_188;
-    v_190 = v_188 < 3u;
-    v_191 = (u64)((u64)(v_189) + (u64)(1u));
-    v_2_i = v_190 ? v_191 : 0u;
-    switch (v_2_i) {
-    case 0u: { goto L_bb5_i; }
-    case 1u: { p_v_0_sroa_0_1 = 18u; goto L_bb16; }
-    case 2u: { goto L_bb3_i165; }
-    case 3u: { goto L_bb2_i; }
-    default: { goto L_bb1_i176; }
-    }
-L_bb1_i176:;
-    TRAP();
-L_bb5_i:;
-    switch (v_19_sroa_0_0_copyload) {
-    case 0u: { p_v_0_sroa_0_1 = 1u; goto L_bb16; }
-    case 1u: { goto L_bb17_i_i; }
-    case 2u: { goto L_bb16_i_i175; }
-    case 3u: { goto L_bb15_i_i174; }
-    case 4u: { goto L_bb14_i_i173; }
-    case 5u: { goto L_bb13_i_i172; }
-    case 6u: { goto L_bb12_i_i171; }
-    case 7u: { goto L_bb11_i_i170; }
-    case 8u: { goto L_bb10_i_i169; }
-    case 9u: { goto L_bb9_i_i; }
-    case 10u: { goto L_bb8_i_i; }
-    case 11u: { goto L_bb7_i_i; }
-    case 12u: { goto L_bb6_i_i; }
-    case 13u: { goto L_bb5_i_i168; }
-    case 14u: { goto L_bb4_i_i167; }
-    case 15u: { goto L_bb3_i_i166; }
-    case 16u: { goto L_bb2_i_i; }
-    default: { goto L_default_unreachable_i_i; }
-    }
-L_default_unreachable_i_i:;
-    TRAP();
-L_bb17_i_i:;
-    { p_v_0_sroa_0_1 = 2u; goto L_bb16; }
-L_bb16_i_i175:;
-    { p_v_0_sroa_0_1 = 3u; goto L_bb16; }
-L_bb15_i_i174:;
-    { p_v_0_sroa_0_1 = 4u; goto L_bb16; }
-L_bb14_i_i173:;
-    { p_v_0_sroa_0_1 = 5u; goto L_bb16; }
-L_bb13_i_i172:;
-    { p_v_0_sroa_0_1 = 6u; goto L_bb16; }
-L_bb12_i_i171:;
-    { p_v_0_sroa_0_1 = 7u; goto L_bb16; }
-L_bb11_i_i170:;
-    { p_v_0_sroa_0_1 = 8u; goto L_bb16; }
-L_bb10_i_i169:;
-    { p_v_0_sroa_0_1 = 9u; goto L_bb16; }
-L_bb9_i_i:;
-    { p_v_0_sroa_0_1 = 10u; goto L_bb16; }
-L_bb8_i_i:;
-    { p_v_0_sroa_0_1 = 11u; goto L_bb16; }
-L_bb7_i_i:;
-    { p_v_0_sroa_0_1 = 12u; goto L_bb16; }
-L_bb6_i_i:;
-    { p_v_0_sroa_0_1 = 13u; goto L_bb16; }
-L_bb5_i_i168:;
-    { p_v_0_sroa_0_1 = 14u; goto L_bb16; }
-L_bb4_i_i167:;
-    { p_v_0_sroa_0_1 = 15u; goto L_bb16; }
-L_bb3_i_i166:;
-    { p_v_0_sroa_0_1 = 16u; goto L_bb16; }
-L_bb2_i_i:;
-    { p_v_0_sroa_0_1 = 17u; goto L_bb16; }
-L_bb3_i165:;
-    { p_v_0_sroa_0_1 = 19u; goto L_bb16; }
-L_bb2_i:;
-    { p_v_0_sroa_0_1 = 20u; goto L_bb16; }
-L_bb16:;
-    v_0_sroa_0_1 = p_v_0_sroa_0_1;
-    { p_v_0_sroa_0_0 = v_0_sroa_0_1; goto L_bb4; }
+    v_0_sroa_5_0_i = p_v_0_sroa_5_0_i;
+    put_u64(v_len, v_0_sroa_5_0_i);
+    { p_v_0_sroa_0_0 = 15u; goto L_bb4; }
+L_bb4:;
+    v_0_sroa_0_0 = p_v_0_sroa_0_0;
+    return v_0_sroa_0_0;
 }
 static u32 proved_pss_params_encode(P v_params, P v_out, u64 v_out_len, P v_len) {
     u8 p_v_0_sroa_5_0_i34_i_i;
@@ -32616,7 +32537,7 @@ L_copy_from_slice_pkcs1_c_exit161:;
     put_u16(v_97, v_22_i28_i_sroa_0_sroa_0_0_insert_insert);
     { p_v_0_sroa_5_0_i = v_len_i41_i; goto L_bb13; }
 L_bb2:;
-    v_98 = f_pss_write_others(v_params, v_out, v_out_len, v_len);
+    v_98 = f_pss_write_others(v_params, 0u, v_out, v_out_len, v_len);
     { p_v_0_sroa_0_0 = v_98; goto L_bb4; }
 L_bb13:;
     v_0_sroa_5_0_i = p_v_0_sroa_5_0_i;
@@ -34683,3019 +34604,6 @@ L_bb6:;
     v_0_sroa_0_0 = p_v_0_sroa_0_0;
     return v_0_sroa_0_0;
 }
-static u32 f_pss_algorithm_write_others(P v_params, P v_out_0, u64 v_out_1, P v_len) {
-    ALIGNED(8) unsigned char m_v_writer_i_i360[24] = {0};
-    ALIGNED(8) unsigned char m_v_made_i[104] = {0};
-    ALIGNED(8) unsigned char m_v_4_i[104] = {0};
-    u32 p_v_0_sroa_5_sroa_0_0_i_i;
-    u32 p_v_0_sroa_0_0_i_i;
-    u64 p_v_writer_i_i_sroa_14_0;
-    u64 p_v_writer_i_i_sroa_14_1;
-    u64 p_v_writer_i127_i_sroa_14_0;
-    u64 p_v_writer_i127_i_sroa_14_1;
-    u64 p_v_writer_i29_i_sroa_14_0;
-    u64 p_v_writer_i29_i_sroa_14_1;
-    u1 p_v_0_sroa_0_0_shrunk_i_i_i;
-    u1 p_v_0_sroa_0_0_i;
-    u64 p_v_10_sroa_0_0_i_i_i76_i_i;
-    u64 p_v_sink_i;
-    u64 p_v_10_sroa_0_0_i_i_i209_i_i;
-    u64 p_v_sink174_i;
-    u64 p_v_0_sroa_0_0_i170_i_i;
-    u64 p_v_sink175_i;
-    u64 p_v_sink178_i;
-    u64 p_v_0_sroa_0_0_i705_i_sink_i;
-    u64 p_v_166;
-    u64 p_v_10_sroa_0_0_i_i465471;
-    u64 p_v_10_sroa_0_0_i_i_ph475478;
-    u64 p_v_10_sroa_0_0_i_i_ph_ph482485;
-    u64 p_v_10_sroa_0_0_i_i_i76_i_i_i_i;
-    u64 p_v_sink_i_i_i;
-    u64 p_v_10_sroa_0_0_i_i_i209_i_i_i_i;
-    u64 p_v_sink66_i_i_i;
-    u64 p_v_0_sroa_0_0_i170_i_i_i_i;
-    u64 p_v_sink67_i_i_i;
-    u64 p_v_sink70_i_i_i;
-    u64 p_v_0_sroa_0_0_i705_i_sink_i_i_i;
-    u64 p_v_0_sroa_0_0_i_i53_i_i_i;
-    u64 p_v_0_sroa_31_0_in_i_i_ph_i_i;
-    u64 p_v_sroa_09_0_insert_insert65_i_i_i;
-    u64 p_v_0_sroa_31_0_in_i_ph_i;
-    u64 p_v_sink_i7_i_i;
-    u64 p_v_0_sroa_0_0_insert_insert_i161_i;
-    P p_v_48_0_i_i_i;
-    u64 p_v_11_i27_i_i;
-    u64 p_v_start1_i_i_i123_sink_i_i;
-    u32 p_v_253;
-    u64 p_v_0_sroa_0_0_insert_insert_i173_i;
-    u32 p_v_0_sroa_0_1_i382;
-    u32 p_v_0_sroa_0_0_i3;
-    u64 p_v_start1_i_i_i_sink;
-    u8 p_v_59_i_i_sink;
-    u64 p_v_0_sroa_5_0_i;
-    u64 p_v_0_sroa_5_0_i_ph;
-    u32 p_v_0_sroa_0_0;
-    P v_writer_i_i360;
-    P v_made_i;
-    P v_4_i;
-    P v_0;
-    u8 v_7;
-    u1 v_1;
-    P v_10;
-    P v_2;
-    u8 v_3;
-    u1 v_6_i;
-    P v_4;
-    u8 v_5;
-    u1 v_6;
-    P v_7__2;
-    u8 v_8;
-    u1 v_9;
-    u1 v_not;
-    u1 v_10__2;
-    P v_11_0;
-    P v_11;
-    u64 v_11_1;
-    P v_12;
-    P v_12_0;
-    P v_13;
-    u64 v_12_1;
-    P v_14;
-    u8 v_13__2;
-    P v_14_0;
-    P v_15;
-    u64 v_14_1;
-    u1 v_16;
-    u8 v_21_i_i_i;
-    u1 v_20_i_i_i;
-    P v_17;
-    u8 v_23_i_i_i;
-    u1 v_22_i_i_i;
-    u1 v_19_i_i_i;
-    P v_18;
-    u8 v_25_i_i_i;
-    u1 v_24_i_i_i;
-    u1 v_18_i_i_i;
-    P v_19;
-    u8 v_27_i_i_i;
-    u1 v_26_i_i_i;
-    u1 v_17_i_i_i;
-    P v_20;
-    u8 v_29_i_i_i;
-    u1 v_28_i_i_i;
-    u1 v_16_i_i_i;
-    P v_21;
-    u8 v_31_i_i_i;
-    u1 v_30_i_i_i;
-    u1 v_15_i_i_i;
-    P v_22;
-    u8 v_33_i_i_i;
-    u1 v_32_i_i_i;
-    u1 v_14_i_i_i;
-    P v_23;
-    u8 v_35_i_i_i;
-    u1 v_34_i_i_i;
-    u1 v_front_i_i_i;
-    P v_24;
-    u8 v_36_i_i_i;
-    u1 v_25;
-    u1 v_26;
-    u1 v_or_cond;
-    u8 v_22_i37_i_i;
-    u1 v_21_i38_i_i;
-    P v_27;
-    u8 v_24_i39_i_i;
-    u1 v_23_i40_i_i;
-    u1 v_20_i41_i_i;
-    P v_28;
-    u8 v_26_i42_i_i;
-    u1 v_25_i43_i_i;
-    u1 v_19_i44_i_i;
-    P v_29;
-    u8 v_28_i45_i_i;
-    u1 v_27_i46_i_i;
-    u1 v_18_i47_i_i;
-    P v_30;
-    u8 v_30_i48_i_i;
-    u1 v_29_i49_i_i;
-    u1 v_17_i50_i_i;
-    P v_31;
-    u8 v_32_i51_i_i;
-    u1 v_31_i52_i_i;
-    u1 v_16_i53_i_i;
-    P v_32;
-    u8 v_34_i54_i_i;
-    u1 v_33_i55_i_i;
-    u1 v_15_i56_i_i;
-    P v_33;
-    u8 v_36_i57_i_i;
-    u1 v_35_i58_i_i;
-    u1 v_front_i59_i_i;
-    P v_34;
-    u8 v_38_i61_i_i;
-    u1 v_37_i62_i_i;
-    u1 v_35;
-    u1 v_or_cond458;
-    u8 v_22_i10_i_i;
-    u1 v_21_i11_i_i;
-    P v_36;
-    u8 v_24_i12_i_i;
-    u1 v_23_i13_i_i;
-    u1 v_20_i14_i_i;
-    P v_37;
-    u8 v_26_i15_i_i;
-    u1 v_25_i16_i_i;
-    u1 v_19_i17_i_i;
-    P v_38;
-    u8 v_28_i18_i_i;
-    u1 v_27_i19_i_i;
-    u1 v_18_i20_i_i;
-    P v_39;
-    u8 v_30_i21_i_i;
-    u1 v_29_i22_i_i;
-    u1 v_17_i23_i_i;
-    P v_40;
-    u8 v_32_i24_i_i;
-    u1 v_31_i25_i_i;
-    u1 v_16_i26_i_i;
-    P v_41;
-    u8 v_34_i27_i_i;
-    u1 v_33_i28_i_i;
-    u1 v_15_i29_i_i;
-    P v_42;
-    u8 v_36_i30_i_i;
-    u1 v_35_i31_i_i;
-    u1 v_front_i32_i_i;
-    P v_43;
-    u8 v_38_i_i_i;
-    u1 v_37_i_i_i;
-    u32 v_12_sroa_4_1_insert_ext_i_i;
-    u32 v_12_sroa_4_3_insert_ext_i_i;
-    u32 v_44;
-    u32 v_45;
-    u32 v_46;
-    u32 v_47;
-    u32 v_0_sroa_5_sroa_0_0_i_i;
-    u32 v_0_sroa_0_0_i_i;
-    u32 v_0_sroa_0_0_insert_insert_i_i;
-    u32 v_sroa_4_0_extract_shift_i;
-    u8 v_sroa_4_0_extract_trunc_i;
-    u32 v_sroa_6_0_extract_shift_i;
-    u8 v_sroa_6_0_extract_trunc_i;
-    u32 v_48;
-    u1 v_49;
-    u1 v_hash_02_i;
-    u32 v_50;
-    u1 v_under_04_i_not_not;
-    u1 v_10_i;
-    u1 v_12_i;
-    u64 v_spec_select_i33_i;
-    u64 v_28_sroa_0_0_i36_i;
-    u64 v_10_i37_i;
-    u64 v_spec_select_i_i;
-    u64 v_28_sroa_0_0_i_i;
-    u64 v_10_i_i;
-    u64 v_len_i_i;
-    u1 v_16_i_i;
-    u64 v_start1_i5_i;
-    u1 v_15_not_i9_i;
-    P v_51;
-    P v_9_i_sroa_4_0_sroa_idx;
-    P v_9_i_sroa_5_0_sroa_idx;
-    P v_9_i_sroa_6_0_sroa_idx;
-    P v_9_i_sroa_7_0_sroa_idx;
-    P v_9_i_sroa_8_0_sroa_idx;
-    P v_9_i_sroa_9_0_sroa_idx;
-    P v_9_i_sroa_10_0_sroa_idx;
-    P v_9_i_sroa_11_0_sroa_idx;
-    P v_9_i_sroa_12_0_sroa_idx;
-    P v_9_i_sroa_13_0_sroa_idx;
-    P v_9_i_sroa_14_0_sroa_idx;
-    P v_9_i_sroa_15_0_sroa_idx;
-    P v_9_i_sroa_16_0_sroa_idx;
-    P v_9_i_sroa_17_0_sroa_idx;
-    P v_9_i_sroa_18_0_sroa_idx;
-    P v_9_i_sroa_19_0_sroa_idx;
-    P v_9_i_sroa_20_0_sroa_idx;
-    P v_9_i_sroa_21_0_sroa_idx;
-    P v_9_i_sroa_22_0_sroa_idx;
-    P v_9_i_sroa_23_0_sroa_idx;
-    P v_9_i_sroa_24_0_sroa_idx;
-    P v_9_i_sroa_25_0_sroa_idx;
-    P v_9_i_sroa_26_0_sroa_idx;
-    P v_9_i_sroa_27_0_sroa_idx;
-    P v_9_i_sroa_28_0_sroa_idx;
-    P v_9_i_sroa_29_0_sroa_idx;
-    P v_9_i_sroa_30_0_sroa_idx;
-    u64 v_writer_i_i_sroa_14_0;
-    u1 v_15_not_i9_i68;
-    u64 v_start1_i5_i64;
-    P v_52;
-    P v_9_i59_sroa_4_0_sroa_idx;
-    P v_9_i59_sroa_5_0_sroa_idx;
-    P v_9_i59_sroa_6_0_sroa_idx;
-    P v_9_i59_sroa_7_0_sroa_idx;
-    P v_9_i59_sroa_8_0_sroa_idx;
-    P v_9_i59_sroa_9_0_sroa_idx;
-    P v_9_i59_sroa_10_0_sroa_idx;
-    P v_9_i59_sroa_11_0_sroa_idx;
-    P v_9_i59_sroa_12_0_sroa_idx;
-    P v_9_i59_sroa_13_0_sroa_idx;
-    P v_9_i59_sroa_14_0_sroa_idx;
-    P v_9_i59_sroa_15_0_sroa_idx;
-    P v_9_i59_sroa_16_0_sroa_idx;
-    P v_9_i59_sroa_17_0_sroa_idx;
-    u64 v_writer_i_i_sroa_14_1;
-    u8 v_23_i_i;
-    u64 v_start1_i17_i_i;
-    u1 v_8_not_i18_i_i;
-    u1 v_15_not_i21_i_i;
-    P v_53;
-    u16 v_54;
-    u16 v_22_i_i_sroa_0_sroa_4_0_insert_shift;
-    u16 v_22_i_i_sroa_0_sroa_0_0_insert_insert;
-    u1 v_8_not_i_i_i;
-    u64 v_start1_i_i_i;
-    u8 v_59_i_i;
-    u1 v_15_not_i_i_i;
-    u64 v_len_i140_i;
-    u1 v_16_i141_i;
-    u64 v_start1_i32_i153_i;
-    P v_55;
-    P v_salt1_i_sroa_4_0_sroa_idx;
-    P v_salt1_i_sroa_5_0_sroa_idx;
-    P v_salt1_i_sroa_6_0_sroa_idx;
-    P v_salt1_i_sroa_7_0_sroa_idx;
-    P v_salt1_i_sroa_8_0_sroa_idx;
-    u64 v_start1_i5_i42;
-    u1 v_15_not_i9_i46;
-    P v_56;
-    P v_9_i37_sroa_4_0_sroa_idx;
-    P v_9_i37_sroa_5_0_sroa_idx;
-    P v_9_i37_sroa_6_0_sroa_idx;
-    P v_9_i37_sroa_7_0_sroa_idx;
-    P v_9_i37_sroa_8_0_sroa_idx;
-    P v_9_i37_sroa_9_0_sroa_idx;
-    P v_9_i37_sroa_10_0_sroa_idx;
-    P v_9_i37_sroa_11_0_sroa_idx;
-    P v_9_i37_sroa_12_0_sroa_idx;
-    P v_9_i37_sroa_13_0_sroa_idx;
-    P v_9_i37_sroa_14_0_sroa_idx;
-    P v_9_i37_sroa_15_0_sroa_idx;
-    P v_9_i37_sroa_16_0_sroa_idx;
-    P v_9_i37_sroa_17_0_sroa_idx;
-    P v_9_i37_sroa_18_0_sroa_idx;
-    P v_9_i37_sroa_19_0_sroa_idx;
-    P v_9_i37_sroa_20_0_sroa_idx;
-    P v_9_i37_sroa_21_0_sroa_idx;
-    P v_9_i37_sroa_22_0_sroa_idx;
-    P v_9_i37_sroa_23_0_sroa_idx;
-    P v_9_i37_sroa_24_0_sroa_idx;
-    P v_9_i37_sroa_25_0_sroa_idx;
-    P v_9_i37_sroa_26_0_sroa_idx;
-    P v_9_i37_sroa_27_0_sroa_idx;
-    P v_9_i37_sroa_28_0_sroa_idx;
-    P v_9_i37_sroa_29_0_sroa_idx;
-    P v_9_i37_sroa_30_0_sroa_idx;
-    u64 v_writer_i127_i_sroa_14_0;
-    u64 v_start1_i5_i107;
-    u1 v_8_not_i6_i108;
-    u1 v_15_not_i9_i111;
-    P v_57;
-    P v_9_i102_sroa_4_0_sroa_idx;
-    P v_9_i102_sroa_5_0_sroa_idx;
-    P v_9_i102_sroa_6_0_sroa_idx;
-    P v_9_i102_sroa_7_0_sroa_idx;
-    P v_9_i102_sroa_8_0_sroa_idx;
-    P v_9_i102_sroa_9_0_sroa_idx;
-    P v_9_i102_sroa_10_0_sroa_idx;
-    P v_9_i102_sroa_11_0_sroa_idx;
-    P v_9_i102_sroa_12_0_sroa_idx;
-    P v_9_i102_sroa_13_0_sroa_idx;
-    P v_9_i102_sroa_14_0_sroa_idx;
-    P v_9_i102_sroa_15_0_sroa_idx;
-    P v_9_i102_sroa_16_0_sroa_idx;
-    P v_9_i102_sroa_17_0_sroa_idx;
-    u64 v_writer_i127_i_sroa_14_1;
-    u8 v_58;
-    u8 v_23_i168_i;
-    u64 v_start1_i17_i172_i;
-    u1 v_8_not_i18_i173_i;
-    u1 v_15_not_i21_i176_i;
-    P v_59;
-    u16 v_22_i126_i_sroa_0_sroa_4_0_insert_ext;
-    u16 v_22_i126_i_sroa_0_sroa_4_0_insert_shift;
-    u16 v_22_i126_i_sroa_0_sroa_0_0_insert_insert;
-    u1 v_8_not_i_i191_i;
-    u64 v_start1_i_i190_i;
-    u8 v_59_i186_i;
-    u1 v_15_not_i_i194_i;
-    u64 v_len_i41_i;
-    u1 v_16_i42_i;
-    u64 v_start1_i32_i_i;
-    P v_60;
-    P v_salt_i_sroa_4_0_sroa_idx;
-    P v_salt_i_sroa_5_0_sroa_idx;
-    P v_salt_i_sroa_6_0_sroa_idx;
-    P v_salt_i_sroa_7_0_sroa_idx;
-    u64 v_start1_i5_i20;
-    u1 v_15_not_i9_i24;
-    P v_61;
-    P v_9_i15_sroa_4_0_sroa_idx;
-    P v_9_i15_sroa_5_0_sroa_idx;
-    P v_9_i15_sroa_6_0_sroa_idx;
-    P v_9_i15_sroa_7_0_sroa_idx;
-    P v_9_i15_sroa_8_0_sroa_idx;
-    P v_9_i15_sroa_9_0_sroa_idx;
-    P v_9_i15_sroa_10_0_sroa_idx;
-    P v_9_i15_sroa_11_0_sroa_idx;
-    P v_9_i15_sroa_12_0_sroa_idx;
-    P v_9_i15_sroa_13_0_sroa_idx;
-    P v_9_i15_sroa_14_0_sroa_idx;
-    P v_9_i15_sroa_15_0_sroa_idx;
-    P v_9_i15_sroa_16_0_sroa_idx;
-    P v_9_i15_sroa_17_0_sroa_idx;
-    P v_9_i15_sroa_18_0_sroa_idx;
-    P v_9_i15_sroa_19_0_sroa_idx;
-    P v_9_i15_sroa_20_0_sroa_idx;
-    P v_9_i15_sroa_21_0_sroa_idx;
-    P v_9_i15_sroa_22_0_sroa_idx;
-    P v_9_i15_sroa_23_0_sroa_idx;
-    P v_9_i15_sroa_24_0_sroa_idx;
-    P v_9_i15_sroa_25_0_sroa_idx;
-    P v_9_i15_sroa_26_0_sroa_idx;
-    P v_9_i15_sroa_27_0_sroa_idx;
-    P v_9_i15_sroa_28_0_sroa_idx;
-    P v_9_i15_sroa_29_0_sroa_idx;
-    P v_9_i15_sroa_30_0_sroa_idx;
-    u64 v_writer_i29_i_sroa_14_0;
-    u64 v_start1_i5_i85;
-    u1 v_8_not_i6_i86;
-    u1 v_15_not_i9_i89;
-    P v_62;
-    P v_9_i80_sroa_4_0_sroa_idx;
-    P v_9_i80_sroa_5_0_sroa_idx;
-    P v_9_i80_sroa_6_0_sroa_idx;
-    P v_9_i80_sroa_7_0_sroa_idx;
-    P v_9_i80_sroa_8_0_sroa_idx;
-    P v_9_i80_sroa_9_0_sroa_idx;
-    P v_9_i80_sroa_10_0_sroa_idx;
-    P v_9_i80_sroa_11_0_sroa_idx;
-    P v_9_i80_sroa_12_0_sroa_idx;
-    P v_9_i80_sroa_13_0_sroa_idx;
-    P v_9_i80_sroa_14_0_sroa_idx;
-    P v_9_i80_sroa_15_0_sroa_idx;
-    P v_9_i80_sroa_16_0_sroa_idx;
-    P v_9_i80_sroa_17_0_sroa_idx;
-    u64 v_writer_i29_i_sroa_14_1;
-    u8 v_63;
-    u8 v_23_i68_i;
-    u64 v_start1_i17_i72_i;
-    u1 v_8_not_i18_i73_i;
-    u1 v_15_not_i21_i76_i;
-    P v_64;
-    u16 v_22_i28_i_sroa_0_sroa_4_0_insert_ext;
-    u16 v_22_i28_i_sroa_0_sroa_4_0_insert_shift;
-    u16 v_22_i28_i_sroa_0_sroa_0_0_insert_insert;
-    u1 v_8_not_i_i91_i;
-    u64 v_start1_i_i90_i;
-    u8 v_59_i86_i;
-    u1 v_15_not_i_i94_i;
-    P v_65;
-    u1 v_66;
-    P v_6_i175;
-    P v_67;
-    u8 v_9_i176;
-    P v_68;
-    P v_69;
-    u1 v_70;
-    P v_0_0_i_i;
-    P v_71;
-    u64 v_0_1_i_i;
-    u1 v_72;
-    u8 v_73;
-    u1 v_74;
-    P v_75;
-    u8 v_76;
-    u1 v_77;
-    P v_78;
-    u8 v_79;
-    u1 v_80;
-    P v_81;
-    u8 v_82;
-    u1 v_83;
-    P v_84;
-    u8 v_10_i180;
-    u1 v_6_i181;
-    P v_8_sroa_3_0_sroa_idx_i;
-    u64 v_8_sroa_3_0_copyload_i;
-    P v_8_sroa_4_0_sroa_idx_i;
-    u64 v_8_sroa_4_0_copyload_i;
-    u64 v_85;
-    u1 v_86;
-    u1 v_87;
-    u1 v_0_sroa_0_1_i;
-    u1 v_0_sroa_0_0_shrunk_i_i_i;
-    u1 v_3_i_i;
-    u8 v_2_i_i;
-    P v_88;
-    P v_89;
-    u1 v_90;
-    P v_0_0_i_i521;
-    P v_91;
-    u64 v_0_1_i_i522;
-    u1 v_92;
-    u8 v_21_i_i;
-    u1 v_20_i_i;
-    P v_93;
-    u8 v_23_i_i523;
-    u1 v_22_i_i;
-    u1 v_19_i_i;
-    P v_94;
-    u8 v_25_i_i;
-    u1 v_24_i_i;
-    u1 v_18_i_i;
-    P v_95;
-    u8 v_27_i_i;
-    u1 v_26_i_i;
-    u1 v_17_i_i;
-    P v_96;
-    u8 v_29_i_i;
-    u1 v_28_i_i;
-    u1 v_16_i_i524;
-    P v_97;
-    u8 v_31_i_i;
-    u1 v_30_i_i;
-    u1 v_15_i_i;
-    P v_98;
-    u8 v_33_i_i;
-    u1 v_32_i_i;
-    u1 v_14_i_i;
-    P v_99;
-    u8 v_35_i_i;
-    u1 v_34_i_i;
-    u1 v_front_i_i;
-    P v_100;
-    u8 v_36_i_i;
-    u1 v_101;
-    P v_102;
-    P v_103;
-    u1 v_104;
-    P v_105;
-    u64 v_0_1_i_i_i;
-    u1 v_106;
-    u1 v_or_cond_i;
-    u8 v_107;
-    u1 v_108;
-    P v_109;
-    u8 v_110;
-    u1 v_111;
-    P v_112;
-    u8 v_113;
-    u1 v_114;
-    P v_115;
-    u8 v_116;
-    u1 v_117;
-    P v_118;
-    u8 v_10_i_i530;
-    u1 v_6_i_i531;
-    P v_8_sroa_3_0_sroa_idx_i_i;
-    u64 v_8_sroa_3_0_copyload_i_i;
-    P v_8_sroa_4_0_sroa_idx_i_i;
-    u64 v_8_sroa_4_0_copyload_i_i;
-    u64 v_119;
-    u1 v_120;
-    u1 v_121;
-    u1 v_0_sroa_0_1_i_i;
-    u1 v_0_sroa_0_0_i;
-    u1 v_3_i4_i;
-    u8 v_2_i5_i;
-    u1 v_not__2;
-    u8 v_6_i8_i;
-    u8 v_0_i9_i;
-    u8 v_6_i_i;
-    u8 v_0_i_i;
-    u1 v_29_i_i578_i_i;
-    u64 v_122;
-    u1 v_29_i_i712_i_i;
-    u64 v_i_i713_i_i;
-    u64 v_123;
-    P v_124;
-    u64 v_0_1_i97_i_i49_i_i;
-    P v_125;
-    u64 v_0_1_i95_i_i53_i_i;
-    P v_126;
-    P v_127;
-    u1 v_128;
-    P v_129;
-    u64 v_4_1_i89_i_i56_i_i;
-    u1 v_5_i90_i_i57_i_i;
-    u64 v_130;
-    u64 v_0_sroa_0_0_i91_i_i58_i_i;
-    u64 v_10_sroa_0_0_i59_i_i60_i_i;
-    u64 v_0_i102_i_i62_i_i;
-    u1 v_3_i_i61_i_i63_i_i;
-    u64 v_0_sroa_0_0_i_i62_i_i64_i_v_i;
-    u64 v_0_sroa_0_0_i_i62_i_i64_i_i;
-    u64 v_131;
-    u1 v_3_i_i_i_i65_i_i;
-    u1 v_4_i_i_i_i67_i_i;
-    u64 v_132;
-    u1 v_5_i_i_i_i69_i_i;
-    u64 v_133;
-    u1 v_6_i_i_i_i71_i_i;
-    u64 v_134;
-    u64 v_135;
-    u64 v_136;
-    u64 v_10_sroa_0_0_i_i_i76_i_i;
-    u64 v_0_i104_i_i78_i_i;
-    u1 v_3_i2_i_i_i79_i_i;
-    u64 v_0_sroa_0_0_i3_i_i_i80_i_v_i;
-    u64 v_0_sroa_0_0_i3_i_i_i80_i_i;
-    u64 v_137;
-    u1 v_3_i_i_i81_i_i;
-    u1 v_4_i_i_i83_i_i;
-    u1 v_5_i_i_i85_i_i;
-    u1 v_6_i_i_i87_i_i;
-    u64 v_i;
-    u64 v_sink_i;
-    u64 v_138;
-    u1 v_29_i_i311_i_i;
-    u64 v_i_i312_i_i;
-    u1 v_29_i_i444_i_i;
-    u64 v_i_i445_i_i;
-    u64 v_139;
-    P v_140;
-    u64 v_0_1_i97_i_i182_i_i;
-    P v_141;
-    u64 v_0_1_i95_i_i186_i_i;
-    P v_142;
-    P v_143;
-    u1 v_144;
-    P v_145;
-    u64 v_4_1_i89_i_i189_i_i;
-    u1 v_5_i90_i_i190_i_i;
-    u64 v_146;
-    u64 v_0_sroa_0_0_i91_i_i191_i_i;
-    u64 v_10_sroa_0_0_i59_i_i193_i_i;
-    u64 v_0_i102_i_i195_i_i;
-    u1 v_3_i_i61_i_i196_i_i;
-    u64 v_0_sroa_0_0_i_i62_i_i197_i_v_i;
-    u64 v_0_sroa_0_0_i_i62_i_i197_i_i;
-    u64 v_147;
-    u1 v_3_i_i_i_i198_i_i;
-    u1 v_4_i_i_i_i200_i_i;
-    u64 v_148;
-    u1 v_5_i_i_i_i202_i_i;
-    u64 v_149;
-    u1 v_6_i_i_i_i204_i_i;
-    u64 v_150;
-    u64 v_151;
-    u64 v_152;
-    u64 v_10_sroa_0_0_i_i_i209_i_i;
-    u64 v_0_i104_i_i211_i_i;
-    u1 v_3_i2_i_i_i212_i_i;
-    u64 v_0_sroa_0_0_i3_i_i_i213_i_v_i;
-    u64 v_0_sroa_0_0_i3_i_i_i213_i_i;
-    u64 v_153;
-    u1 v_3_i_i_i214_i_i;
-    u1 v_4_i_i_i216_i_i;
-    u1 v_5_i_i_i218_i_i;
-    u1 v_6_i_i_i220_i_i;
-    u64 v_179_i;
-    u64 v_sink174_i;
-    u64 v_154;
-    u1 v_31_i_i224_i_i;
-    u64 v_155;
-    u64 v_spec_select19_i_i225_i_i;
-    u64 v_156;
-    u64 v_0_sroa_0_0_i170_i_i;
-    P v_157;
-    u64 v_0_1_i93_i_i_i_i;
-    P v_158;
-    u64 v_4_1_i86_i_i_i_i;
-    u1 v_5_i87_i_i_i_i;
-    u64 v_159;
-    u64 v_0_sroa_0_0_i88_i_i_i_i;
-    u64 v_10_sroa_0_0_i69_i_i_i_i;
-    u64 v_0_i100_i_i_i_i;
-    u1 v_3_i_i70_i_i_i_i;
-    u64 v_0_sroa_0_0_i_i71_i_i_i_v_i;
-    u64 v_0_sroa_0_0_i_i71_i_i_i_i;
-    u64 v_160;
-    u1 v_3_i36_i_i_i_i;
-    u1 v_4_i38_i_i_i_i;
-    u1 v_5_i40_i_i_i_i;
-    u1 v_6_i42_i_i_i_i;
-    u64 v_180_i;
-    u64 v_sink175_i;
-    u64 v_161;
-    u64 v_sink178_i;
-    u64 v_0_sroa_0_0_i705_i_sink_i;
-    u1 v_31_i_i91_i_i;
-    u64 v_162;
-    u64 v_spec_select19_i_i92_i_i;
-    u64 v_163;
-    u1 v_3_i_i_i;
-    u1 v_4_i_i10_i;
-    u1 v_5_i_i_i;
-    u1 v_6_i_i_i;
-    u64 v_164;
-    u1 v_6_i_i365;
-    u64 v_165;
-    u1 v_7_i_i;
-    u64 v_166;
-    u64 v_167;
-    u64 v_168;
-    u1 v_8_i_i366;
-    u64 v_10_sroa_0_0_i_i465471;
-    u64 v_169;
-    u64 v_170;
-    u1 v_9_i_i367;
-    u64 v_171;
-    u64 v_10_sroa_0_0_i_i_ph475478;
-    u64 v_172;
-    u64 v_10_sroa_0_0_i_i_ph_ph482485;
-    u64 v_173;
-    u64 v_174;
-    u1 v_10_i_i368;
-    u1 v_29_i_i578_i_i_i_i;
-    u64 v_i_i579_i_i_i_i;
-    u1 v_29_i_i712_i_i_i_i;
-    u64 v_i_i713_i_i_i_i;
-    u64 v_175;
-    P v_176;
-    u64 v_0_1_i97_i_i49_i_i_i_i;
-    P v_177;
-    u64 v_0_1_i95_i_i53_i_i_i_i;
-    P v_178;
-    P v_179;
-    u1 v_180;
-    P v_181;
-    u64 v_4_1_i89_i_i56_i_i_i_i;
-    u1 v_5_i90_i_i57_i_i_i_i;
-    u64 v_182;
-    u64 v_0_sroa_0_0_i91_i_i58_i_i_i_i;
-    u64 v_10_sroa_0_0_i59_i_i60_i_i_i_i;
-    u64 v_0_i102_i_i62_i_i_i_i;
-    u1 v_3_i_i61_i_i63_i_i_i_i;
-    u64 v_0_sroa_0_0_i_i62_i_i64_i_v_i_i_i;
-    u64 v_0_sroa_0_0_i_i62_i_i64_i_i_i_i;
-    u64 v_183;
-    u1 v_3_i_i_i_i65_i_i_i_i;
-    u1 v_4_i_i_i_i67_i_i_i_i;
-    u64 v_184;
-    u1 v_5_i_i_i_i69_i_i_i_i;
-    u64 v_185;
-    u1 v_6_i_i_i_i71_i_i_i_i;
-    u64 v_186;
-    u64 v_187;
-    u64 v_188;
-    u64 v_10_sroa_0_0_i_i_i76_i_i_i_i;
-    u64 v_0_i104_i_i78_i_i_i_i;
-    u1 v_3_i2_i_i_i79_i_i_i_i;
-    u64 v_0_sroa_0_0_i3_i_i_i80_i_v_i_i_i;
-    u64 v_0_sroa_0_0_i3_i_i_i80_i_i_i_i;
-    u64 v_189;
-    u1 v_3_i_i_i81_i_i_i_i;
-    u1 v_4_i_i_i83_i_i_i_i;
-    u1 v_5_i_i_i85_i_i_i_i;
-    u1 v_6_i_i_i87_i_i_i_i;
-    u64 v_i_i_i;
-    u64 v_sink_i_i_i;
-    u64 v_190;
-    u1 v_29_i_i311_i_i_i_i;
-    u64 v_i_i312_i_i_i_i;
-    u1 v_29_i_i444_i_i_i_i;
-    u64 v_i_i445_i_i_i_i;
-    u64 v_191;
-    P v_192;
-    u64 v_0_1_i97_i_i182_i_i_i_i;
-    P v_193;
-    u64 v_0_1_i95_i_i186_i_i_i_i;
-    P v_194;
-    P v_195;
-    u1 v_196;
-    P v_197;
-    u64 v_4_1_i89_i_i189_i_i_i_i;
-    u1 v_5_i90_i_i190_i_i_i_i;
-    u64 v_198;
-    u64 v_0_sroa_0_0_i91_i_i191_i_i_i_i;
-    u64 v_10_sroa_0_0_i59_i_i193_i_i_i_i;
-    u64 v_0_i102_i_i195_i_i_i_i;
-    u1 v_3_i_i61_i_i196_i_i_i_i;
-    u64 v_0_sroa_0_0_i_i62_i_i197_i_v_i_i_i;
-    u64 v_0_sroa_0_0_i_i62_i_i197_i_i_i_i;
-    u64 v_199;
-    u1 v_3_i_i_i_i198_i_i_i_i;
-    u1 v_4_i_i_i_i200_i_i_i_i;
-    u64 v_200;
-    u1 v_5_i_i_i_i202_i_i_i_i;
-    u64 v_201;
-    u1 v_6_i_i_i_i204_i_i_i_i;
-    u64 v_202;
-    u64 v_203;
-    u64 v_204;
-    u64 v_10_sroa_0_0_i_i_i209_i_i_i_i;
-    u64 v_0_i104_i_i211_i_i_i_i;
-    u1 v_3_i2_i_i_i212_i_i_i_i;
-    u64 v_0_sroa_0_0_i3_i_i_i213_i_v_i_i_i;
-    u64 v_0_sroa_0_0_i3_i_i_i213_i_i_i_i;
-    u64 v_205;
-    u1 v_3_i_i_i214_i_i_i_i;
-    u1 v_4_i_i_i216_i_i_i_i;
-    u1 v_5_i_i_i218_i_i_i_i;
-    u1 v_6_i_i_i220_i_i_i_i;
-    u64 v_71_i_i_i;
-    u64 v_sink66_i_i_i;
-    u64 v_206;
-    u1 v_31_i_i224_i_i_i_i;
-    u64 v_207;
-    u64 v_spec_select19_i_i225_i_i_i_i;
-    u64 v_208;
-    u64 v_0_sroa_0_0_i170_i_i_i_i;
-    P v_209;
-    u64 v_0_1_i93_i_i_i_i_i_i;
-    P v_210;
-    u64 v_4_1_i86_i_i_i_i_i_i;
-    u1 v_5_i87_i_i_i_i_i_i;
-    u64 v_211;
-    u64 v_0_sroa_0_0_i88_i_i_i_i_i_i;
-    u64 v_10_sroa_0_0_i69_i_i_i_i_i_i;
-    u64 v_0_i100_i_i_i_i_i_i;
-    u1 v_3_i_i70_i_i_i_i_i_i;
-    u64 v_0_sroa_0_0_i_i71_i_i_i_v_i_i_i;
-    u64 v_0_sroa_0_0_i_i71_i_i_i_i_i_i;
-    u64 v_212;
-    u1 v_3_i36_i_i_i_i_i_i;
-    u1 v_4_i38_i_i_i_i_i_i;
-    u1 v_5_i40_i_i_i_i_i_i;
-    u1 v_6_i42_i_i_i_i_i_i;
-    u64 v_72_i_i_i;
-    u64 v_sink67_i_i_i;
-    u64 v_213;
-    u64 v_sink70_i_i_i;
-    u64 v_0_sroa_0_0_i705_i_sink_i_i_i;
-    u1 v_31_i_i91_i_i_i_i;
-    u64 v_214;
-    u64 v_spec_select19_i_i92_i_i_i_i;
-    u64 v_215;
-    u1 v_6_i_i_i_i;
-    u1 v_7_i_i_i30_i;
-    u64 v_0_sroa_0_0_i_i53_i_i_i;
-    u64 v_216;
-    u1 v_8_i_i_i_i;
-    u64 v_217;
-    u1 v_9_i_i_i_i;
-    u64 v_218;
-    u64 v_219;
-    u64 v_220;
-    u1 v_10_i_i_i32_i;
-    u64 v_0_sroa_31_0_in_i_i_ph_i_i;
-    u64 v_0_sroa_31_0_insert_shift_i_i11_i_i;
-    u64 v_221;
-    u1 v_trunc18_i_i_i_i;
-    u64 v_sroa_09_0_insert_insert65_i_i_i;
-    u64 v_sroa_57_0_extract_shift_i_i_i_i;
-    u1 v_11_1_i_i_i_i_i;
-    u64 v_222;
-    u64 v_0_sroa_0_0_insert_insert_i_i_i_i_i;
-    u64 v_sroa_4_0_extract_shift14_i_i_i_i;
-    u1 v_trunc_i_i;
-    u64 v_sroa_5_0_extract_shift_i35_i;
-    u1 v_10_i_i_i369;
-    u1 v_11_i_i37_i;
-    u1 v_12_i_i39_i;
-    u1 v_13_i_i40_i;
-    u64 v_i6_i_i;
-    u64 v_0_sroa_31_0_in_i_ph_i;
-    u64 v_0_sroa_31_0_insert_shift_i157_i;
-    u64 v_sink_i7_i_i;
-    u64 v_223;
-    u1 v_14_i_i41_i;
-    u64 v_224;
-    u64 v_225;
-    u64 v_0_sroa_0_0_insert_insert_i_i_i;
-    u1 v_trunc_i;
-    u64 v_0_sroa_0_0_insert_insert_i161_i;
-    u64 v_sroa_5_0_extract_shift_i;
-    u1 v_4_i_i;
-    P v_226;
-    P v_227;
-    u64 v_15_1_i_i_i;
-    u64 v_14_i_i51_i;
-    u64 v_7_i_i52_i;
-    u32 v_16_i_i_i371;
-    u1 v_4_i_i_i_i;
-    u1 v_9_i_i_i55_i;
-    u16 v_8_i_i_i69_i;
-    P v_48_0_i_i_i_i;
-    u64 v_start1_i_i_i_i_i;
-    u1 v_8_not_i_i_i_i_i;
-    u1 v_15_not_i_i_i_i_i;
-    P v_228;
-    u16 v_7_i_i_sroa_0_sroa_4_0_insert_shift_i_i;
-    u16 v_7_i_i_sroa_0_sroa_0_0_insert_insert_i_i;
-    u1 v_14_i_i_i57_i;
-    u8 v_13_i_i_i_i;
-    P v_51_0_i_i_i_i;
-    u64 v_start1_i11_i_i_i_i;
-    u1 v_8_not_i12_i_i_i_i;
-    u1 v_15_not_i15_i_i_i_i;
-    P v_229;
-    P v_12_i_i_sroa_4_0_sroa_idx_i_i;
-    P v_12_i_i_sroa_5_0_sroa_idx_i_i;
-    u1 v_22_i_i_i_i;
-    P v_54_0_i_i_i_i;
-    u64 v_start1_i26_i_i_i_i;
-    u1 v_8_not_i27_i_i_i_i;
-    u1 v_15_not_i30_i_i_i_i;
-    P v_230;
-    u32 v_231;
-    u32 v_17_i_i_sroa_0_sroa_0_0_insert_insert_i_i;
-    u64 v_371_i_i_i_i;
-    u8 v_36_i_i_i_i;
-    u64 v_402_i_i_i_i;
-    u8 v_38_i_i_i_i;
-    u64 v_433_i_i_i_i;
-    u8 v_41_i_i_i_i;
-    u8 v_44_i_i_i_i;
-    P v_60_0_i_i_i_i;
-    u64 v_start1_i56_i_i_i_i;
-    u1 v_8_not_i57_i_i_i_i;
-    u1 v_15_not_i60_i_i_i_i;
-    P v_232;
-    P v_35_i_i_sroa_4_0_sroa_idx_i_i;
-    P v_35_i_i_sroa_5_0_sroa_idx_i_i;
-    P v_35_i_i_sroa_6_0_sroa_idx_i_i;
-    P v_35_i_i_sroa_7_0_sroa_idx_i_i;
-    P v_35_i_i_sroa_8_0_sroa_idx_i_i;
-    u64 v_274_i_i_i_i;
-    u8 v_26_i_i_i_i;
-    u64 v_305_i_i_i_i;
-    u8 v_28_i_i_i_i;
-    u8 v_31_i_i_i65_i;
-    P v_57_0_i_i_i_i;
-    u64 v_start1_i41_i_i_i_i;
-    u1 v_8_not_i42_i_i_i_i;
-    u1 v_15_not_i45_i_i_i_i;
-    P v_233;
-    P v_25_i_i_sroa_4_0_sroa_idx_i_i;
-    P v_25_i_i_sroa_5_0_sroa_idx_i_i;
-    P v_25_i_i_sroa_6_0_sroa_idx_i_i;
-    P v_25_i_i_sroa_7_0_sroa_idx_i_i;
-    P v_48_0_i_i_i;
-    u64 v_11_i27_i_i;
-    u64 v_before_neg_i28_i_i;
-    u1 v_8_not_i_i_i61_i;
-    u1 v_15_not_i_i_i62_i;
-    u64 v_start1_i_i_i63_i;
-    P v_234;
-    u64 v_7_i31_i_i372;
-    u64 v_6_i32_i_i;
-    u32 v_16_i33_i_i;
-    u1 v_4_i_i35_i_i;
-    u1 v_9_i_i37_i_i;
-    u1 v_15_not_i_i_i127_i_i;
-    u64 v_start1_i_i_i123_i_i;
-    u16 v_8_i_i119_i_i;
-    P v_235;
-    u16 v_7_i_i25_sroa_0_sroa_4_0_insert_shift_i_i;
-    u16 v_7_i_i25_sroa_0_sroa_0_0_insert_insert_i_i;
-    u1 v_14_i_i39_i_i;
-    u1 v_15_not_i15_i_i111_i_i;
-    u64 v_start1_i11_i_i107_i_i;
-    u8 v_13_i_i103_i_i;
-    P v_236;
-    P v_12_i_i24_sroa_4_0_sroa_idx_i_i;
-    P v_12_i_i24_sroa_5_0_sroa_idx_i_i;
-    u1 v_22_i_i41_i_i;
-    u1 v_15_not_i30_i_i95_i_i;
-    u64 v_start1_i26_i_i91_i_i;
-    P v_237;
-    u32 v_238;
-    u32 v_17_i_i23_sroa_0_sroa_0_0_insert_insert_i_i;
-    u1 v_15_not_i60_i_i57_i_i;
-    u64 v_start1_i56_i_i53_i_i;
-    u8 v_44_i_i49_i_i;
-    u64 v_433_i_i47_i_i;
-    u8 v_41_i_i48_i_i;
-    u64 v_402_i_i45_i_i;
-    u8 v_38_i_i46_i_i;
-    u64 v_371_i_i43_i_i;
-    u8 v_36_i_i44_i_i;
-    P v_239;
-    P v_35_i_i21_sroa_4_0_sroa_idx_i_i;
-    P v_35_i_i21_sroa_5_0_sroa_idx_i_i;
-    P v_35_i_i21_sroa_6_0_sroa_idx_i_i;
-    P v_35_i_i21_sroa_7_0_sroa_idx_i_i;
-    P v_35_i_i21_sroa_8_0_sroa_idx_i_i;
-    u1 v_15_not_i45_i_i77_i_i;
-    u64 v_start1_i41_i_i73_i_i;
-    u8 v_31_i_i69_i_i;
-    u64 v_305_i_i67_i_i;
-    u8 v_28_i_i68_i_i;
-    u64 v_274_i_i65_i_i;
-    u8 v_26_i_i66_i_i;
-    P v_240;
-    P v_25_i_i22_sroa_4_0_sroa_idx_i_i;
-    P v_25_i_i22_sroa_5_0_sroa_idx_i_i;
-    P v_25_i_i22_sroa_6_0_sroa_idx_i_i;
-    P v_25_i_i22_sroa_7_0_sroa_idx_i_i;
-    u64 v_start1_i_i_i123_sink_i_i;
-    u64 v_7_i5_i;
-    u32 v_16_i_i373;
-    u1 v_4_i_i_i;
-    u1 v_9_i_i_i;
-    u16 v_8_i_i_i;
-    u1 v_8_not_i_i_i_i;
-    u1 v_15_not_i_i_i_i;
-    P v_241;
-    P v_242;
-    u16 v_7_i_i_sroa_0_sroa_4_0_insert_shift_i;
-    u16 v_7_i_i_sroa_0_sroa_0_0_insert_insert_i;
-    u1 v_14_i_i_i376;
-    u8 v_13_i_i_i;
-    u1 v_8_not_i12_i_i_i;
-    u1 v_15_not_i15_i_i_i;
-    P v_243;
-    P v_244;
-    P v_12_i_i_sroa_4_0_sroa_idx_i;
-    P v_12_i_i_sroa_5_0_sroa_idx_i;
-    u1 v_22_i_i_i378;
-    u1 v_8_not_i27_i_i_i;
-    u1 v_15_not_i30_i_i_i;
-    P v_245;
-    P v_246;
-    u32 v_247;
-    u32 v_17_i_i_sroa_0_sroa_0_0_insert_insert_i;
-    u64 v_371_i_i_i;
-    u8 v_36_i_i_i379;
-    u64 v_402_i_i_i;
-    u8 v_38_i_i_i380;
-    u64 v_433_i_i_i;
-    u8 v_41_i_i_i;
-    u8 v_44_i_i_i;
-    u1 v_8_not_i57_i_i_i;
-    u1 v_15_not_i60_i_i_i;
-    P v_248;
-    P v_249;
-    P v_35_i_i_sroa_4_0_sroa_idx_i;
-    P v_35_i_i_sroa_5_0_sroa_idx_i;
-    P v_35_i_i_sroa_6_0_sroa_idx_i;
-    P v_35_i_i_sroa_7_0_sroa_idx_i;
-    P v_35_i_i_sroa_8_0_sroa_idx_i;
-    u64 v_274_i_i_i;
-    u8 v_26_i_i_i384;
-    u64 v_305_i_i_i;
-    u8 v_28_i_i_i385;
-    u8 v_31_i_i_i386;
-    u1 v_8_not_i42_i_i_i;
-    u1 v_15_not_i45_i_i_i;
-    P v_250;
-    P v_251;
-    P v_25_i_i_sroa_4_0_sroa_idx_i;
-    P v_25_i_i_sroa_5_0_sroa_idx_i;
-    P v_25_i_i_sroa_6_0_sroa_idx_i;
-    P v_25_i_i_sroa_7_0_sroa_idx_i;
-    u32 v_253;
-    u64 v_0_sroa_0_0_insert_insert_i173_i;
-    u64 v_sroa_4_0_extract_shift_i390;
-    u8 v_error_sroa_0_0_extract_trunc_i;
-    u32 v_0_sroa_0_1_i382;
-    P v_254;
-    u8 v_failure_i_sroa_0_0_copyload;
-    u8 v_255;
-    u64 v_256;
-    u1 v_257;
-    u64 v_258;
-    u64 v_2_i;
-    u32 v_0_sroa_0_0_i3;
-    u64 v_start1_i_i_i_sink;
-    u8 v_59_i_i_sink;
-    u64 v_0_sroa_5_0_i;
-    P v_259;
-    P v_58_i_i_sroa_4_0_sroa_idx;
-    P v_58_i_i_sroa_5_0_sroa_idx;
-    P v_58_i_i_sroa_6_0_sroa_idx;
-    P v_58_i_i_sroa_7_0_sroa_idx;
-    P v_58_i_i_sroa_8_0_sroa_idx;
-    P v_58_i_i_sroa_9_0_sroa_idx;
-    P v_58_i_i_sroa_10_0_sroa_idx;
-    P v_58_i_i_sroa_11_0_sroa_idx;
-    P v_58_i_i_sroa_12_0_sroa_idx;
-    P v_58_i_i_sroa_13_0_sroa_idx;
-    P v_58_i_i_sroa_14_0_sroa_idx;
-    P v_58_i_i_sroa_15_0_sroa_idx;
-    u64 v_0_sroa_5_0_i_ph;
-    u32 v_0_sroa_0_0;
-    v_writer_i_i360 = AT(m_v_writer_i_i360);
-    v_made_i = AT(m_v_made_i);
-    v_4_i = AT(m_v_4_i);
-    v_0 = v_params + 105;
-    v_7 = get_u8(v_0);
-    v_1 = v_7 == 1u;
-    if (v_1) { goto L_bb7; } else { goto L_bb2; }
-L_bb7:;
-    v_10 = v_params + 40;
-    v_2 = v_params + 16;
-    v_3 = get_u8(v_2);
-    v_6_i = (u1)((v_3) & 1);
-    if (v_6_i) { goto L_bb2; } else { goto L_bb19_i; }
-L_bb19_i:;
-    v_4 = v_params + 56;
-    v_5 = get_u8(v_4);
-    v_6 = (u1)((v_5) & 1);
-    v_7__2 = v_params + 80;
-    v_8 = get_u8(v_7__2);
-    v_9 = (u1)((v_8) & 1);
-    v_not = (u1)(((u32)(v_6) ^ (u32)(1u)) & 1);
-    v_10__2 = v_not ? 1u : v_9;
-    if (v_10__2) { goto L_bb2; } else { goto L_bb9; }
-L_bb9:;
-    v_11_0 = get_P(v_params);
-    v_11 = v_params + 8;
-    v_11_1 = get_u64(v_11);
-    v_12 = v_params + 64;
-    v_12_0 = get_P(v_12);
-    v_13 = v_params + 72;
-    v_12_1 = get_u64(v_13);
-    v_14 = v_params + 104;
-    v_13__2 = get_u8(v_14);
-    v_14_0 = get_P(v_10);
-    v_15 = v_params + 48;
-    v_14_1 = get_u64(v_15);
-    v_16 = v_14_1 == 9u;
-    if (v_16) { goto L_bb2_i_i_i; } else { p_v_0_sroa_5_sroa_0_0_i_i = 0u; p_v_0_sroa_0_0_i_i = 2u; goto L_known_known_hashes_exit_i; }
-L_bb2_i_i_i:;
-    v_21_i_i_i = get_u8(v_14_0);
-    v_20_i_i_i = v_21_i_i_i == 42u;
-    v_17 = v_14_0 + 1;
-    v_23_i_i_i = get_u8(v_17);
-    v_22_i_i_i = v_23_i_i_i == 134u;
-    v_19_i_i_i = (u1)(((u32)(v_20_i_i_i) & (u32)(v_22_i_i_i)) & 1);
-    v_18 = v_14_0 + 2;
-    v_25_i_i_i = get_u8(v_18);
-    v_24_i_i_i = v_25_i_i_i == 72u;
-    v_18_i_i_i = (u1)(((u32)(v_19_i_i_i) & (u32)(v_24_i_i_i)) & 1);
-    v_19 = v_14_0 + 3;
-    v_27_i_i_i = get_u8(v_19);
-    v_26_i_i_i = v_27_i_i_i == 134u;
-    v_17_i_i_i = (u1)(((u32)(v_18_i_i_i) & (u32)(v_26_i_i_i)) & 1);
-    v_20 = v_14_0 + 4;
-    v_29_i_i_i = get_u8(v_20);
-    v_28_i_i_i = v_29_i_i_i == 247u;
-    v_16_i_i_i = (u1)(((u32)(v_17_i_i_i) & (u32)(v_28_i_i_i)) & 1);
-    v_21 = v_14_0 + 5;
-    v_31_i_i_i = get_u8(v_21);
-    v_30_i_i_i = v_31_i_i_i == 13u;
-    v_15_i_i_i = (u1)(((u32)(v_16_i_i_i) & (u32)(v_30_i_i_i)) & 1);
-    v_22 = v_14_0 + 6;
-    v_33_i_i_i = get_u8(v_22);
-    v_32_i_i_i = v_33_i_i_i == 1u;
-    v_14_i_i_i = (u1)(((u32)(v_15_i_i_i) & (u32)(v_32_i_i_i)) & 1);
-    v_23 = v_14_0 + 7;
-    v_35_i_i_i = get_u8(v_23);
-    v_34_i_i_i = v_35_i_i_i == 1u;
-    v_front_i_i_i = (u1)(((u32)(v_14_i_i_i) & (u32)(v_34_i_i_i)) & 1);
-    if (v_front_i_i_i) { goto L_hash_fields_is_pkcs1_exit_i_i; } else { p_v_0_sroa_5_sroa_0_0_i_i = 0u; p_v_0_sroa_0_0_i_i = 2u; goto L_known_known_hashes_exit_i; }
-L_hash_fields_is_pkcs1_exit_i_i:;
-    v_24 = v_14_0 + 8;
-    v_36_i_i_i = get_u8(v_24);
-    v_25 = v_36_i_i_i == 8u;
-    v_26 = v_11_1 == 9u;
-    v_or_cond = (u1)(((u32)(v_26) & (u32)(v_25)) & 1);
-    if (v_or_cond) { goto L_bb5_i36_i_i; } else { p_v_0_sroa_5_sroa_0_0_i_i = 0u; p_v_0_sroa_0_0_i_i = 2u; goto L_known_known_hashes_exit_i; }
-L_bb5_i36_i_i:;
-    v_22_i37_i_i = get_u8(v_11_0);
-    v_21_i38_i_i = v_22_i37_i_i == 96u;
-    v_27 = v_11_0 + 1;
-    v_24_i39_i_i = get_u8(v_27);
-    v_23_i40_i_i = v_24_i39_i_i == 134u;
-    v_20_i41_i_i = (u1)(((u32)(v_21_i38_i_i) & (u32)(v_23_i40_i_i)) & 1);
-    v_28 = v_11_0 + 2;
-    v_26_i42_i_i = get_u8(v_28);
-    v_25_i43_i_i = v_26_i42_i_i == 72u;
-    v_19_i44_i_i = (u1)(((u32)(v_20_i41_i_i) & (u32)(v_25_i43_i_i)) & 1);
-    v_29 = v_11_0 + 3;
-    v_28_i45_i_i = get_u8(v_29);
-    v_27_i46_i_i = v_28_i45_i_i == 1u;
-    v_18_i47_i_i = (u1)(((u32)(v_19_i44_i_i) & (u32)(v_27_i46_i_i)) & 1);
-    v_30 = v_11_0 + 4;
-    v_30_i48_i_i = get_u8(v_30);
-    v_29_i49_i_i = v_30_i48_i_i == 101u;
-    v_17_i50_i_i = (u1)(((u32)(v_18_i47_i_i) & (u32)(v_29_i49_i_i)) & 1);
-    v_31 = v_11_0 + 5;
-    v_32_i51_i_i = get_u8(v_31);
-    v_31_i52_i_i = v_32_i51_i_i == 3u;
-    v_16_i53_i_i = (u1)(((u32)(v_17_i50_i_i) & (u32)(v_31_i52_i_i)) & 1);
-    v_32 = v_11_0 + 6;
-    v_34_i54_i_i = get_u8(v_32);
-    v_33_i55_i_i = v_34_i54_i_i == 4u;
-    v_15_i56_i_i = (u1)(((u32)(v_16_i53_i_i) & (u32)(v_33_i55_i_i)) & 1);
-    v_33 = v_11_0 + 7;
-    v_36_i57_i_i = get_u8(v_33);
-    v_35_i58_i_i = v_36_i57_i_i == 2u;
-    v_front_i59_i_i = (u1)(((u32)(v_15_i56_i_i) & (u32)(v_35_i58_i_i)) & 1);
-    if (v_front_i59_i_i) { goto L_bb6_i60_i_i; } else { p_v_0_sroa_5_sroa_0_0_i_i = 0u; p_v_0_sroa_0_0_i_i = 2u; goto L_known_known_hashes_exit_i; }
-L_bb6_i60_i_i:;
-    v_34 = v_11_0 + 8;
-    v_38_i61_i_i = get_u8(v_34);
-    v_37_i62_i_i = (u8)(v_38_i61_i_i ^ ((u8)1 << 7)) > (u8)(255u ^ ((u8)1 << 7));
-    v_35 = v_12_1 == 9u;
-    v_or_cond458 = (u1)(((u32)(v_35) & (u32)(v_37_i62_i_i)) & 1);
-    if (v_or_cond458) { goto L_bb5_i_i_i; } else { p_v_0_sroa_5_sroa_0_0_i_i = 0u; p_v_0_sroa_0_0_i_i = 2u; goto L_known_known_hashes_exit_i; }
-L_bb5_i_i_i:;
-    v_22_i10_i_i = get_u8(v_12_0);
-    v_21_i11_i_i = v_22_i10_i_i == 96u;
-    v_36 = v_12_0 + 1;
-    v_24_i12_i_i = get_u8(v_36);
-    v_23_i13_i_i = v_24_i12_i_i == 134u;
-    v_20_i14_i_i = (u1)(((u32)(v_21_i11_i_i) & (u32)(v_23_i13_i_i)) & 1);
-    v_37 = v_12_0 + 2;
-    v_26_i15_i_i = get_u8(v_37);
-    v_25_i16_i_i = v_26_i15_i_i == 72u;
-    v_19_i17_i_i = (u1)(((u32)(v_20_i14_i_i) & (u32)(v_25_i16_i_i)) & 1);
-    v_38 = v_12_0 + 3;
-    v_28_i18_i_i = get_u8(v_38);
-    v_27_i19_i_i = v_28_i18_i_i == 1u;
-    v_18_i20_i_i = (u1)(((u32)(v_19_i17_i_i) & (u32)(v_27_i19_i_i)) & 1);
-    v_39 = v_12_0 + 4;
-    v_30_i21_i_i = get_u8(v_39);
-    v_29_i22_i_i = v_30_i21_i_i == 101u;
-    v_17_i23_i_i = (u1)(((u32)(v_18_i20_i_i) & (u32)(v_29_i22_i_i)) & 1);
-    v_40 = v_12_0 + 5;
-    v_32_i24_i_i = get_u8(v_40);
-    v_31_i25_i_i = v_32_i24_i_i == 3u;
-    v_16_i26_i_i = (u1)(((u32)(v_17_i23_i_i) & (u32)(v_31_i25_i_i)) & 1);
-    v_41 = v_12_0 + 6;
-    v_34_i27_i_i = get_u8(v_41);
-    v_33_i28_i_i = v_34_i27_i_i == 4u;
-    v_15_i29_i_i = (u1)(((u32)(v_16_i26_i_i) & (u32)(v_33_i28_i_i)) & 1);
-    v_42 = v_12_0 + 7;
-    v_36_i30_i_i = get_u8(v_42);
-    v_35_i31_i_i = v_36_i30_i_i == 2u;
-    v_front_i32_i_i = (u1)(((u32)(v_15_i29_i_i) & (u32)(v_35_i31_i_i)) & 1);
-    if (v_front_i32_i_i) { goto L_bb6_i_i_i; } else { p_v_0_sroa_5_sroa_0_0_i_i = 0u; p_v_0_sroa_0_0_i_i = 2u; goto L_known_known_hashes_exit_i; }
-L_bb6_i_i_i:;
-    v_43 = v_12_0 + 8;
-    v_38_i_i_i = get_u8(v_43);
-    v_37_i_i_i = (u8)(v_38_i_i_i ^ ((u8)1 << 7)) > (u8)(255u ^ ((u8)1 << 7));
-    if (v_37_i_i_i) { goto L_bb12_i_i; } else { p_v_0_sroa_5_sroa_0_0_i_i = 0u; p_v_0_sroa_0_0_i_i = 2u; goto L_known_known_hashes_exit_i; }
-L_bb12_i_i:;
-    v_12_sroa_4_1_insert_ext_i_i = (u32)v_38_i61_i_i;
-    v_12_sroa_4_3_insert_ext_i_i = (u32)v_38_i_i_i;
-    v_44 = (u32)((u32)(v_12_sroa_4_3_insert_ext_i_i) << (u32)((24u & 31)));
-    v_45 = (u32)((u32)(v_12_sroa_4_1_insert_ext_i_i) << (u32)((8u & 31)));
-    v_46 = (u32)((u32)(v_45) | (u32)(65536u));
-    v_47 = (u32)((u32)(v_44) | (u32)(v_46));
-    { p_v_0_sroa_5_sroa_0_0_i_i = v_47; p_v_0_sroa_0_0_i_i = 1u; goto L_known_known_hashes_exit_i; }
-L_known_known_hashes_exit_i:;
-    v_0_sroa_5_sroa_0_0_i_i = p_v_0_sroa_5_sroa_0_0_i_i;
-    v_0_sroa_0_0_i_i = p_v_0_sroa_0_0_i_i;
-    v_0_sroa_0_0_insert_insert_i_i = (u32)((u32)(v_0_sroa_0_0_i_i) | (u32)(v_0_sroa_5_sroa_0_0_i_i));
-    v_sroa_4_0_extract_shift_i = (u32)((u32)(v_0_sroa_5_sroa_0_0_i_i) >> (u32)((8u & 31)));
-    v_sroa_4_0_extract_trunc_i = (u8)(v_sroa_4_0_extract_shift_i);
-    v_sroa_6_0_extract_shift_i = (u32)((u32)(v_0_sroa_5_sroa_0_0_i_i) >> (u32)((24u & 31)));
-    v_sroa_6_0_extract_trunc_i = (u8)(v_sroa_6_0_extract_shift_i);
-    v_48 = (u32)((u32)(v_0_sroa_0_0_insert_insert_i_i) & (u32)(255u));
-    v_49 = v_48 == 2u;
-    if (v_49) { goto L_bb2; } else { goto L_bb13_i; }
-L_bb13_i:;
-    v_hash_02_i = (u1)((v_0_sroa_0_0_insert_insert_i_i) & 1);
-    v_50 = (u32)((u32)(v_0_sroa_5_sroa_0_0_i_i) & (u32)(65536u));
-    v_under_04_i_not_not = v_50 == 0u;
-    v_10_i = v_13__2 == 20u;
-    if (v_10_i) { goto L_bb3_i6; } else { goto L_bb4_i4; }
-L_bb4_i4:;
-    v_12_i = (u8)(v_13__2 ^ ((u8)1 << 7)) > (u8)(255u ^ ((u8)1 << 7));
-    v_spec_select_i33_i = v_hash_02_i ? 15u : 0u;
-    v_28_sroa_0_0_i36_i = v_under_04_i_not_not ? 0u : 28u;
-    v_10_i37_i = (u64)((u64)(v_spec_select_i33_i) + (u64)(v_28_sroa_0_0_i36_i));
-    if (v_12_i) { goto L_bb6_i; } else { goto L_bb7_i; }
-L_bb3_i6:;
-    v_spec_select_i_i = v_hash_02_i ? 15u : 0u;
-    v_28_sroa_0_0_i_i = v_under_04_i_not_not ? 0u : 28u;
-    v_10_i_i = (u64)((u64)(v_spec_select_i_i) + (u64)(v_28_sroa_0_0_i_i));
-    v_len_i_i = (u64)((u64)(v_10_i_i) + (u64)(15u));
-    v_16_i_i = v_len_i_i > v_out_1;
-    if (v_16_i_i) { p_v_0_sroa_5_0_i_ph = v_len_i_i; goto L_bb12; } else { goto L_copy_from_slice_pkcs1_c_exit126; }
-L_copy_from_slice_pkcs1_c_exit126:;
-    if (v_under_04_i_not_not) { p_v_writer_i_i_sroa_14_0 = v_len_i_i; goto L_bb23_i_i; } else { goto L_bb2_i7_i; }
-L_bb2_i7_i:;
-    v_start1_i5_i = (u64)((u64)(v_10_i_i) + (u64)(18446744073709551603ull));
-    v_15_not_i9_i = v_start1_i5_i > v_len_i_i;
-    if (v_15_not_i9_i) { goto L_bb7_i13_i; } else { goto L_copy_from_slice_pkcs1_c_exit129; }
-L_bb7_i13_i:;
-    TRAP();
-    TRAP();
-L_copy_from_slice_pkcs1_c_exit129:;
-    v_51 = v_out_0 + (int64_t)(v_start1_i5_i);
-    put_u8(v_51, 161u);
-    v_9_i_sroa_4_0_sroa_idx = v_51 + 1;
-    put_u8(v_9_i_sroa_4_0_sroa_idx, 26u);
-    v_9_i_sroa_5_0_sroa_idx = v_51 + 2;
-    put_u8(v_9_i_sroa_5_0_sroa_idx, 48u);
-    v_9_i_sroa_6_0_sroa_idx = v_51 + 3;
-    put_u8(v_9_i_sroa_6_0_sroa_idx, 24u);
-    v_9_i_sroa_7_0_sroa_idx = v_51 + 4;
-    put_u8(v_9_i_sroa_7_0_sroa_idx, 6u);
-    v_9_i_sroa_8_0_sroa_idx = v_51 + 5;
-    put_u8(v_9_i_sroa_8_0_sroa_idx, 9u);
-    v_9_i_sroa_9_0_sroa_idx = v_51 + 6;
-    put_u8(v_9_i_sroa_9_0_sroa_idx, 42u);
-    v_9_i_sroa_10_0_sroa_idx = v_51 + 7;
-    put_u8(v_9_i_sroa_10_0_sroa_idx, 134u);
-    v_9_i_sroa_11_0_sroa_idx = v_51 + 8;
-    put_u8(v_9_i_sroa_11_0_sroa_idx, 72u);
-    v_9_i_sroa_12_0_sroa_idx = v_51 + 9;
-    put_u8(v_9_i_sroa_12_0_sroa_idx, 134u);
-    v_9_i_sroa_13_0_sroa_idx = v_51 + 10;
-    put_u8(v_9_i_sroa_13_0_sroa_idx, 247u);
-    v_9_i_sroa_14_0_sroa_idx = v_51 + 11;
-    put_u8(v_9_i_sroa_14_0_sroa_idx, 13u);
-    v_9_i_sroa_15_0_sroa_idx = v_51 + 12;
-    put_u8(v_9_i_sroa_15_0_sroa_idx, 1u);
-    v_9_i_sroa_16_0_sroa_idx = v_out_0 + (int64_t)(v_10_i_i);
-    put_u8(v_9_i_sroa_16_0_sroa_idx, 1u);
-    v_9_i_sroa_17_0_sroa_idx = v_51 + 14;
-    put_u8(v_9_i_sroa_17_0_sroa_idx, 8u);
-    v_9_i_sroa_18_0_sroa_idx = v_51 + 15;
-    put_u8(v_9_i_sroa_18_0_sroa_idx, 48u);
-    v_9_i_sroa_19_0_sroa_idx = v_51 + 16;
-    put_u8(v_9_i_sroa_19_0_sroa_idx, 11u);
-    v_9_i_sroa_20_0_sroa_idx = v_51 + 17;
-    put_u8(v_9_i_sroa_20_0_sroa_idx, 6u);
-    v_9_i_sroa_21_0_sroa_idx = v_51 + 18;
-    put_u8(v_9_i_sroa_21_0_sroa_idx, 9u);
-    v_9_i_sroa_22_0_sroa_idx = v_51 + 19;
-    put_u8(v_9_i_sroa_22_0_sroa_idx, 96u);
-    v_9_i_sroa_23_0_sroa_idx = v_51 + 20;
-    put_u8(v_9_i_sroa_23_0_sroa_idx, 134u);
-    v_9_i_sroa_24_0_sroa_idx = v_51 + 21;
-    put_u8(v_9_i_sroa_24_0_sroa_idx, 72u);
-    v_9_i_sroa_25_0_sroa_idx = v_51 + 22;
-    put_u8(v_9_i_sroa_25_0_sroa_idx, 1u);
-    v_9_i_sroa_26_0_sroa_idx = v_51 + 23;
-    put_u8(v_9_i_sroa_26_0_sroa_idx, 101u);
-    v_9_i_sroa_27_0_sroa_idx = v_51 + 24;
-    put_u8(v_9_i_sroa_27_0_sroa_idx, 3u);
-    v_9_i_sroa_28_0_sroa_idx = v_51 + 25;
-    put_u8(v_9_i_sroa_28_0_sroa_idx, 4u);
-    v_9_i_sroa_29_0_sroa_idx = v_51 + 26;
-    put_u8(v_9_i_sroa_29_0_sroa_idx, 2u);
-    v_9_i_sroa_30_0_sroa_idx = v_51 + 27;
-    put_u8(v_9_i_sroa_30_0_sroa_idx, v_sroa_6_0_extract_trunc_i);
-    { p_v_writer_i_i_sroa_14_0 = v_start1_i5_i; goto L_bb23_i_i; }
-L_bb23_i_i:;
-    v_writer_i_i_sroa_14_0 = p_v_writer_i_i_sroa_14_0;
-    if (v_hash_02_i) { goto L_bb24_i_i; } else { p_v_writer_i_i_sroa_14_1 = v_writer_i_i_sroa_14_0; goto L_bb21_i_i; }
-L_bb24_i_i:;
-    v_15_not_i9_i68 = v_writer_i_i_sroa_14_0 < 15u;
-    if (v_15_not_i9_i68) { goto L_bb7_i13_i73; } else { goto L_copy_from_slice_pkcs1_c_exit132; }
-L_bb7_i13_i73:;
-    TRAP();
-    TRAP();
-L_copy_from_slice_pkcs1_c_exit132:;
-    v_start1_i5_i64 = (u64)((u64)(v_writer_i_i_sroa_14_0) + (u64)(18446744073709551601ull));
-    v_52 = v_out_0 + (int64_t)(v_start1_i5_i64);
-    put_u8(v_52, 160u);
-    v_9_i59_sroa_4_0_sroa_idx = v_52 + 1;
-    put_u8(v_9_i59_sroa_4_0_sroa_idx, 13u);
-    v_9_i59_sroa_5_0_sroa_idx = v_52 + 2;
-    put_u8(v_9_i59_sroa_5_0_sroa_idx, 48u);
-    v_9_i59_sroa_6_0_sroa_idx = v_52 + 3;
-    put_u8(v_9_i59_sroa_6_0_sroa_idx, 11u);
-    v_9_i59_sroa_7_0_sroa_idx = v_52 + 4;
-    put_u8(v_9_i59_sroa_7_0_sroa_idx, 6u);
-    v_9_i59_sroa_8_0_sroa_idx = v_52 + 5;
-    put_u8(v_9_i59_sroa_8_0_sroa_idx, 9u);
-    v_9_i59_sroa_9_0_sroa_idx = v_52 + 6;
-    put_u8(v_9_i59_sroa_9_0_sroa_idx, 96u);
-    v_9_i59_sroa_10_0_sroa_idx = v_52 + 7;
-    put_u8(v_9_i59_sroa_10_0_sroa_idx, 134u);
-    v_9_i59_sroa_11_0_sroa_idx = v_52 + 8;
-    put_u8(v_9_i59_sroa_11_0_sroa_idx, 72u);
-    v_9_i59_sroa_12_0_sroa_idx = v_52 + 9;
-    put_u8(v_9_i59_sroa_12_0_sroa_idx, 1u);
-    v_9_i59_sroa_13_0_sroa_idx = v_52 + 10;
-    put_u8(v_9_i59_sroa_13_0_sroa_idx, 101u);
-    v_9_i59_sroa_14_0_sroa_idx = v_52 + 11;
-    put_u8(v_9_i59_sroa_14_0_sroa_idx, 3u);
-    v_9_i59_sroa_15_0_sroa_idx = v_52 + 12;
-    put_u8(v_9_i59_sroa_15_0_sroa_idx, 4u);
-    v_9_i59_sroa_16_0_sroa_idx = v_52 + 13;
-    put_u8(v_9_i59_sroa_16_0_sroa_idx, 2u);
-    v_9_i59_sroa_17_0_sroa_idx = v_52 + 14;
-    put_u8(v_9_i59_sroa_17_0_sroa_idx, v_sroa_4_0_extract_trunc_i);
-    { p_v_writer_i_i_sroa_14_1 = v_start1_i5_i64; goto L_bb21_i_i; }
-L_bb21_i_i:;
-    v_writer_i_i_sroa_14_1 = p_v_writer_i_i_sroa_14_1;
-    v_23_i_i = (u8)(v_10_i_i);
-    v_start1_i17_i_i = (u64)((u64)(v_writer_i_i_sroa_14_1) + (u64)(18446744073709551614ull));
-    v_8_not_i18_i_i = v_writer_i_i_sroa_14_1 > v_len_i_i;
-    if (v_8_not_i18_i_i) { goto L_bb4_i26_i_i; } else { goto L_bb2_i19_i_i; }
-L_bb4_i26_i_i:;
-    TRAP();
-    TRAP();
-L_bb2_i19_i_i:;
-    v_15_not_i21_i_i = v_writer_i_i_sroa_14_1 < 2u;
-    if (v_15_not_i21_i_i) { goto L_bb7_i25_i_i; } else { goto L_copy_from_slice_pkcs1_c_exit135; }
-L_bb7_i25_i_i:;
-    TRAP();
-    TRAP();
-L_copy_from_slice_pkcs1_c_exit135:;
-    v_53 = v_out_0 + (int64_t)(v_start1_i17_i_i);
-    v_54 = (u16)(v_10_i_i);
-    v_22_i_i_sroa_0_sroa_4_0_insert_shift = (u16)((u32)(v_54) << (u32)((8u & 31)));
-    v_22_i_i_sroa_0_sroa_0_0_insert_insert = (u16)((u32)(v_22_i_i_sroa_0_sroa_4_0_insert_shift) | (u32)(48u));
-    put_u16(v_53, v_22_i_i_sroa_0_sroa_0_0_insert_insert);
-    v_8_not_i_i_i = v_start1_i17_i_i > v_len_i_i;
-    if (v_8_not_i_i_i) { goto L_bb4_i_i_i; } else { goto L_bb2_i_i10_i; }
-L_bb4_i_i_i:;
-    TRAP();
-    TRAP();
-L_bb2_i_i10_i:;
-    v_start1_i_i_i = (u64)((u64)(v_writer_i_i_sroa_14_1) + (u64)(18446744073709551601ull));
-    v_59_i_i = (u8)((u32)(v_23_i_i) + (u32)(13u));
-    v_15_not_i_i_i = v_start1_i_i_i > v_start1_i17_i_i;
-    if (v_15_not_i_i_i) { goto L_bb7_i_i_i; } else { p_v_start1_i_i_i_sink = v_start1_i_i_i; p_v_59_i_i_sink = v_59_i_i; p_v_0_sroa_5_0_i = v_len_i_i; goto L_bb13; }
-L_bb7_i_i_i:;
-    TRAP();
-    TRAP();
-L_bb7_i:;
-    v_len_i140_i = (u64)((u64)(v_10_i37_i) + (u64)(21u));
-    v_16_i141_i = v_len_i140_i > v_out_1;
-    if (v_16_i141_i) { p_v_0_sroa_5_0_i_ph = v_len_i140_i; goto L_bb12; } else { goto L_bb2_i34_i155_i; }
-L_bb2_i34_i155_i:;
-    v_start1_i32_i153_i = (u64)((u64)(v_10_i37_i) + (u64)(15u));
-    v_55 = v_out_0 + (int64_t)(v_start1_i32_i153_i);
-    put_u8(v_55, 162u);
-    v_salt1_i_sroa_4_0_sroa_idx = v_55 + 1;
-    put_u8(v_salt1_i_sroa_4_0_sroa_idx, 4u);
-    v_salt1_i_sroa_5_0_sroa_idx = v_55 + 2;
-    put_u8(v_salt1_i_sroa_5_0_sroa_idx, 2u);
-    v_salt1_i_sroa_6_0_sroa_idx = v_55 + 3;
-    put_u8(v_salt1_i_sroa_6_0_sroa_idx, 2u);
-    v_salt1_i_sroa_7_0_sroa_idx = v_55 + 4;
-    put_u8(v_salt1_i_sroa_7_0_sroa_idx, 0u);
-    v_salt1_i_sroa_8_0_sroa_idx = v_55 + 5;
-    put_u8(v_salt1_i_sroa_8_0_sroa_idx, v_13__2);
-    if (v_under_04_i_not_not) { p_v_writer_i127_i_sroa_14_0 = v_start1_i32_i153_i; goto L_bb23_i164_i; } else { goto L_bb2_i7_i44; }
-L_bb2_i7_i44:;
-    v_start1_i5_i42 = (u64)((u64)(v_10_i37_i) + (u64)(18446744073709551603ull));
-    v_15_not_i9_i46 = v_start1_i5_i42 > v_start1_i32_i153_i;
-    if (v_15_not_i9_i46) { goto L_bb7_i13_i51; } else { goto L_copy_from_slice_pkcs1_c_exit147; }
-L_bb7_i13_i51:;
-    TRAP();
-    TRAP();
-L_copy_from_slice_pkcs1_c_exit147:;
-    v_56 = v_out_0 + (int64_t)(v_start1_i5_i42);
-    put_u8(v_56, 161u);
-    v_9_i37_sroa_4_0_sroa_idx = v_56 + 1;
-    put_u8(v_9_i37_sroa_4_0_sroa_idx, 26u);
-    v_9_i37_sroa_5_0_sroa_idx = v_56 + 2;
-    put_u8(v_9_i37_sroa_5_0_sroa_idx, 48u);
-    v_9_i37_sroa_6_0_sroa_idx = v_56 + 3;
-    put_u8(v_9_i37_sroa_6_0_sroa_idx, 24u);
-    v_9_i37_sroa_7_0_sroa_idx = v_56 + 4;
-    put_u8(v_9_i37_sroa_7_0_sroa_idx, 6u);
-    v_9_i37_sroa_8_0_sroa_idx = v_56 + 5;
-    put_u8(v_9_i37_sroa_8_0_sroa_idx, 9u);
-    v_9_i37_sroa_9_0_sroa_idx = v_56 + 6;
-    put_u8(v_9_i37_sroa_9_0_sroa_idx, 42u);
-    v_9_i37_sroa_10_0_sroa_idx = v_56 + 7;
-    put_u8(v_9_i37_sroa_10_0_sroa_idx, 134u);
-    v_9_i37_sroa_11_0_sroa_idx = v_56 + 8;
-    put_u8(v_9_i37_sroa_11_0_sroa_idx, 72u);
-    v_9_i37_sroa_12_0_sroa_idx = v_56 + 9;
-    put_u8(v_9_i37_sroa_12_0_sroa_idx, 134u);
-    v_9_i37_sroa_13_0_sroa_idx = v_56 + 10;
-    put_u8(v_9_i37_sroa_13_0_sroa_idx, 247u);
-    v_9_i37_sroa_14_0_sroa_idx = v_56 + 11;
-    put_u8(v_9_i37_sroa_14_0_sroa_idx, 13u);
-    v_9_i37_sroa_15_0_sroa_idx = v_56 + 12;
-    put_u8(v_9_i37_sroa_15_0_sroa_idx, 1u);
-    v_9_i37_sroa_16_0_sroa_idx = v_out_0 + (int64_t)(v_10_i37_i);
-    put_u8(v_9_i37_sroa_16_0_sroa_idx, 1u);
-    v_9_i37_sroa_17_0_sroa_idx = v_56 + 14;
-    put_u8(v_9_i37_sroa_17_0_sroa_idx, 8u);
-    v_9_i37_sroa_18_0_sroa_idx = v_56 + 15;
-    put_u8(v_9_i37_sroa_18_0_sroa_idx, 48u);
-    v_9_i37_sroa_19_0_sroa_idx = v_56 + 16;
-    put_u8(v_9_i37_sroa_19_0_sroa_idx, 11u);
-    v_9_i37_sroa_20_0_sroa_idx = v_56 + 17;
-    put_u8(v_9_i37_sroa_20_0_sroa_idx, 6u);
-    v_9_i37_sroa_21_0_sroa_idx = v_56 + 18;
-    put_u8(v_9_i37_sroa_21_0_sroa_idx, 9u);
-    v_9_i37_sroa_22_0_sroa_idx = v_56 + 19;
-    put_u8(v_9_i37_sroa_22_0_sroa_idx, 96u);
-    v_9_i37_sroa_23_0_sroa_idx = v_56 + 20;
-    put_u8(v_9_i37_sroa_23_0_sroa_idx, 134u);
-    v_9_i37_sroa_24_0_sroa_idx = v_56 + 21;
-    put_u8(v_9_i37_sroa_24_0_sroa_idx, 72u);
-    v_9_i37_sroa_25_0_sroa_idx = v_56 + 22;
-    put_u8(v_9_i37_sroa_25_0_sroa_idx, 1u);
-    v_9_i37_sroa_26_0_sroa_idx = v_56 + 23;
-    put_u8(v_9_i37_sroa_26_0_sroa_idx, 101u);
-    v_9_i37_sroa_27_0_sroa_idx = v_56 + 24;
-    put_u8(v_9_i37_sroa_27_0_sroa_idx, 3u);
-    v_9_i37_sroa_28_0_sroa_idx = v_56 + 25;
-    put_u8(v_9_i37_sroa_28_0_sroa_idx, 4u);
-    v_9_i37_sroa_29_0_sroa_idx = v_56 + 26;
-    put_u8(v_9_i37_sroa_29_0_sroa_idx, 2u);
-    v_9_i37_sroa_30_0_sroa_idx = v_56 + 27;
-    put_u8(v_9_i37_sroa_30_0_sroa_idx, v_sroa_6_0_extract_trunc_i);
-    { p_v_writer_i127_i_sroa_14_0 = v_start1_i5_i42; goto L_bb23_i164_i; }
-L_bb23_i164_i:;
-    v_writer_i127_i_sroa_14_0 = p_v_writer_i127_i_sroa_14_0;
-    if (v_hash_02_i) { goto L_bb24_i203_i; } else { p_v_writer_i127_i_sroa_14_1 = v_writer_i127_i_sroa_14_0; goto L_bb21_i167_i; }
-L_bb24_i203_i:;
-    v_start1_i5_i107 = (u64)((u64)(v_writer_i127_i_sroa_14_0) + (u64)(18446744073709551601ull));
-    v_8_not_i6_i108 = v_writer_i127_i_sroa_14_0 > v_len_i140_i;
-    if (v_8_not_i6_i108) { goto L_bb4_i14_i117; } else { goto L_bb2_i7_i109; }
-L_bb4_i14_i117:;
-    TRAP();
-    TRAP();
-L_bb2_i7_i109:;
-    v_15_not_i9_i111 = v_writer_i127_i_sroa_14_0 < 15u;
-    if (v_15_not_i9_i111) { goto L_bb7_i13_i116; } else { goto L_copy_from_slice_pkcs1_c_exit150; }
-L_bb7_i13_i116:;
-    TRAP();
-    TRAP();
-L_copy_from_slice_pkcs1_c_exit150:;
-    v_57 = v_out_0 + (int64_t)(v_start1_i5_i107);
-    put_u8(v_57, 160u);
-    v_9_i102_sroa_4_0_sroa_idx = v_57 + 1;
-    put_u8(v_9_i102_sroa_4_0_sroa_idx, 13u);
-    v_9_i102_sroa_5_0_sroa_idx = v_57 + 2;
-    put_u8(v_9_i102_sroa_5_0_sroa_idx, 48u);
-    v_9_i102_sroa_6_0_sroa_idx = v_57 + 3;
-    put_u8(v_9_i102_sroa_6_0_sroa_idx, 11u);
-    v_9_i102_sroa_7_0_sroa_idx = v_57 + 4;
-    put_u8(v_9_i102_sroa_7_0_sroa_idx, 6u);
-    v_9_i102_sroa_8_0_sroa_idx = v_57 + 5;
-    put_u8(v_9_i102_sroa_8_0_sroa_idx, 9u);
-    v_9_i102_sroa_9_0_sroa_idx = v_57 + 6;
-    put_u8(v_9_i102_sroa_9_0_sroa_idx, 96u);
-    v_9_i102_sroa_10_0_sroa_idx = v_57 + 7;
-    put_u8(v_9_i102_sroa_10_0_sroa_idx, 134u);
-    v_9_i102_sroa_11_0_sroa_idx = v_57 + 8;
-    put_u8(v_9_i102_sroa_11_0_sroa_idx, 72u);
-    v_9_i102_sroa_12_0_sroa_idx = v_57 + 9;
-    put_u8(v_9_i102_sroa_12_0_sroa_idx, 1u);
-    v_9_i102_sroa_13_0_sroa_idx = v_57 + 10;
-    put_u8(v_9_i102_sroa_13_0_sroa_idx, 101u);
-    v_9_i102_sroa_14_0_sroa_idx = v_57 + 11;
-    put_u8(v_9_i102_sroa_14_0_sroa_idx, 3u);
-    v_9_i102_sroa_15_0_sroa_idx = v_57 + 12;
-    put_u8(v_9_i102_sroa_15_0_sroa_idx, 4u);
-    v_9_i102_sroa_16_0_sroa_idx = v_57 + 13;
-    put_u8(v_9_i102_sroa_16_0_sroa_idx, 2u);
-    v_9_i102_sroa_17_0_sroa_idx = v_57 + 14;
-    put_u8(v_9_i102_sroa_17_0_sroa_idx, v_sroa_4_0_extract_trunc_i);
-    { p_v_writer_i127_i_sroa_14_1 = v_start1_i5_i107; goto L_bb21_i167_i; }
-L_bb21_i167_i:;
-    v_writer_i127_i_sroa_14_1 = p_v_writer_i127_i_sroa_14_1;
-    v_58 = (u8)(v_10_i37_i);
-    v_23_i168_i = (u8)((u32)(v_58) + (u32)(6u));
-    v_start1_i17_i172_i = (u64)((u64)(v_writer_i127_i_sroa_14_1) + (u64)(18446744073709551614ull));
-    v_8_not_i18_i173_i = v_writer_i127_i_sroa_14_1 > v_len_i140_i;
-    if (v_8_not_i18_i173_i) { goto L_bb4_i26_i202_i; } else { goto L_bb2_i19_i174_i; }
-L_bb4_i26_i202_i:;
-    TRAP();
-    TRAP();
-L_bb2_i19_i174_i:;
-    v_15_not_i21_i176_i = v_writer_i127_i_sroa_14_1 < 2u;
-    if (v_15_not_i21_i176_i) { goto L_bb7_i25_i201_i; } else { goto L_copy_from_slice_pkcs1_c_exit153; }
-L_bb7_i25_i201_i:;
-    TRAP();
-    TRAP();
-L_copy_from_slice_pkcs1_c_exit153:;
-    v_59 = v_out_0 + (int64_t)(v_start1_i17_i172_i);
-    v_22_i126_i_sroa_0_sroa_4_0_insert_ext = (u16)v_23_i168_i;
-    v_22_i126_i_sroa_0_sroa_4_0_insert_shift = (u16)((u32)(v_22_i126_i_sroa_0_sroa_4_0_insert_ext) << (u32)((8u & 31)));
-    v_22_i126_i_sroa_0_sroa_0_0_insert_insert = (u16)((u32)(v_22_i126_i_sroa_0_sroa_4_0_insert_shift) | (u32)(48u));
-    put_u16(v_59, v_22_i126_i_sroa_0_sroa_0_0_insert_insert);
-    v_8_not_i_i191_i = v_start1_i17_i172_i > v_len_i140_i;
-    if (v_8_not_i_i191_i) { goto L_bb4_i_i200_i; } else { goto L_bb2_i_i192_i; }
-L_bb4_i_i200_i:;
-    TRAP();
-    TRAP();
-L_bb2_i_i192_i:;
-    v_start1_i_i190_i = (u64)((u64)(v_writer_i127_i_sroa_14_1) + (u64)(18446744073709551601ull));
-    v_59_i186_i = (u8)((u32)(v_58) + (u32)(19u));
-    v_15_not_i_i194_i = v_start1_i_i190_i > v_start1_i17_i172_i;
-    if (v_15_not_i_i194_i) { goto L_bb7_i_i199_i; } else { p_v_start1_i_i_i_sink = v_start1_i_i190_i; p_v_59_i_i_sink = v_59_i186_i; p_v_0_sroa_5_0_i = v_len_i140_i; goto L_bb13; }
-L_bb7_i_i199_i:;
-    TRAP();
-    TRAP();
-L_bb6_i:;
-    v_len_i41_i = (u64)((u64)(v_10_i37_i) + (u64)(20u));
-    v_16_i42_i = v_len_i41_i > v_out_1;
-    if (v_16_i42_i) { p_v_0_sroa_5_0_i_ph = v_len_i41_i; goto L_bb12; } else { goto L_bb2_i34_i55_i; }
-L_bb2_i34_i55_i:;
-    v_start1_i32_i_i = (u64)((u64)(v_10_i37_i) + (u64)(15u));
-    v_60 = v_out_0 + (int64_t)(v_start1_i32_i_i);
-    put_u8(v_60, 162u);
-    v_salt_i_sroa_4_0_sroa_idx = v_60 + 1;
-    put_u8(v_salt_i_sroa_4_0_sroa_idx, 3u);
-    v_salt_i_sroa_5_0_sroa_idx = v_60 + 2;
-    put_u8(v_salt_i_sroa_5_0_sroa_idx, 2u);
-    v_salt_i_sroa_6_0_sroa_idx = v_60 + 3;
-    put_u8(v_salt_i_sroa_6_0_sroa_idx, 1u);
-    v_salt_i_sroa_7_0_sroa_idx = v_60 + 4;
-    put_u8(v_salt_i_sroa_7_0_sroa_idx, v_13__2);
-    if (v_under_04_i_not_not) { p_v_writer_i29_i_sroa_14_0 = v_start1_i32_i_i; goto L_bb23_i64_i; } else { goto L_bb2_i7_i22; }
-L_bb2_i7_i22:;
-    v_start1_i5_i20 = (u64)((u64)(v_10_i37_i) + (u64)(18446744073709551603ull));
-    v_15_not_i9_i24 = v_start1_i5_i20 > v_start1_i32_i_i;
-    if (v_15_not_i9_i24) { goto L_bb7_i13_i29; } else { goto L_copy_from_slice_pkcs1_c_exit165; }
-L_bb7_i13_i29:;
-    TRAP();
-    TRAP();
-L_copy_from_slice_pkcs1_c_exit165:;
-    v_61 = v_out_0 + (int64_t)(v_start1_i5_i20);
-    put_u8(v_61, 161u);
-    v_9_i15_sroa_4_0_sroa_idx = v_61 + 1;
-    put_u8(v_9_i15_sroa_4_0_sroa_idx, 26u);
-    v_9_i15_sroa_5_0_sroa_idx = v_61 + 2;
-    put_u8(v_9_i15_sroa_5_0_sroa_idx, 48u);
-    v_9_i15_sroa_6_0_sroa_idx = v_61 + 3;
-    put_u8(v_9_i15_sroa_6_0_sroa_idx, 24u);
-    v_9_i15_sroa_7_0_sroa_idx = v_61 + 4;
-    put_u8(v_9_i15_sroa_7_0_sroa_idx, 6u);
-    v_9_i15_sroa_8_0_sroa_idx = v_61 + 5;
-    put_u8(v_9_i15_sroa_8_0_sroa_idx, 9u);
-    v_9_i15_sroa_9_0_sroa_idx = v_61 + 6;
-    put_u8(v_9_i15_sroa_9_0_sroa_idx, 42u);
-    v_9_i15_sroa_10_0_sroa_idx = v_61 + 7;
-    put_u8(v_9_i15_sroa_10_0_sroa_idx, 134u);
-    v_9_i15_sroa_11_0_sroa_idx = v_61 + 8;
-    put_u8(v_9_i15_sroa_11_0_sroa_idx, 72u);
-    v_9_i15_sroa_12_0_sroa_idx = v_61 + 9;
-    put_u8(v_9_i15_sroa_12_0_sroa_idx, 134u);
-    v_9_i15_sroa_13_0_sroa_idx = v_61 + 10;
-    put_u8(v_9_i15_sroa_13_0_sroa_idx, 247u);
-    v_9_i15_sroa_14_0_sroa_idx = v_61 + 11;
-    put_u8(v_9_i15_sroa_14_0_sroa_idx, 13u);
-    v_9_i15_sroa_15_0_sroa_idx = v_61 + 12;
-    put_u8(v_9_i15_sroa_15_0_sroa_idx, 1u);
-    v_9_i15_sroa_16_0_sroa_idx = v_out_0 + (int64_t)(v_10_i37_i);
-    put_u8(v_9_i15_sroa_16_0_sroa_idx, 1u);
-    v_9_i15_sroa_17_0_sroa_idx = v_61 + 14;
-    put_u8(v_9_i15_sroa_17_0_sroa_idx, 8u);
-    v_9_i15_sroa_18_0_sroa_idx = v_61 + 15;
-    put_u8(v_9_i15_sroa_18_0_sroa_idx, 48u);
-    v_9_i15_sroa_19_0_sroa_idx = v_61 + 16;
-    put_u8(v_9_i15_sroa_19_0_sroa_idx, 11u);
-    v_9_i15_sroa_20_0_sroa_idx = v_61 + 17;
-    put_u8(v_9_i15_sroa_20_0_sroa_idx, 6u);
-    v_9_i15_sroa_21_0_sroa_idx = v_61 + 18;
-    put_u8(v_9_i15_sroa_21_0_sroa_idx, 9u);
-    v_9_i15_sroa_22_0_sroa_idx = v_61 + 19;
-    put_u8(v_9_i15_sroa_22_0_sroa_idx, 96u);
-    v_9_i15_sroa_23_0_sroa_idx = v_61 + 20;
-    put_u8(v_9_i15_sroa_23_0_sroa_idx, 134u);
-    v_9_i15_sroa_24_0_sroa_idx = v_61 + 21;
-    put_u8(v_9_i15_sroa_24_0_sroa_idx, 72u);
-    v_9_i15_sroa_25_0_sroa_idx = v_61 + 22;
-    put_u8(v_9_i15_sroa_25_0_sroa_idx, 1u);
-    v_9_i15_sroa_26_0_sroa_idx = v_61 + 23;
-    put_u8(v_9_i15_sroa_26_0_sroa_idx, 101u);
-    v_9_i15_sroa_27_0_sroa_idx = v_61 + 24;
-    put_u8(v_9_i15_sroa_27_0_sroa_idx, 3u);
-    v_9_i15_sroa_28_0_sroa_idx = v_61 + 25;
-    put_u8(v_9_i15_sroa_28_0_sroa_idx, 4u);
-    v_9_i15_sroa_29_0_sroa_idx = v_61 + 26;
-    put_u8(v_9_i15_sroa_29_0_sroa_idx, 2u);
-    v_9_i15_sroa_30_0_sroa_idx = v_61 + 27;
-    put_u8(v_9_i15_sroa_30_0_sroa_idx, v_sroa_6_0_extract_trunc_i);
-    { p_v_writer_i29_i_sroa_14_0 = v_start1_i5_i20; goto L_bb23_i64_i; }
-L_bb23_i64_i:;
-    v_writer_i29_i_sroa_14_0 = p_v_writer_i29_i_sroa_14_0;
-    if (v_hash_02_i) { goto L_bb24_i103_i; } else { p_v_writer_i29_i_sroa_14_1 = v_writer_i29_i_sroa_14_0; goto L_bb21_i67_i; }
-L_bb24_i103_i:;
-    v_start1_i5_i85 = (u64)((u64)(v_writer_i29_i_sroa_14_0) + (u64)(18446744073709551601ull));
-    v_8_not_i6_i86 = v_writer_i29_i_sroa_14_0 > v_len_i41_i;
-    if (v_8_not_i6_i86) { goto L_bb4_i14_i95; } else { goto L_bb2_i7_i87; }
-L_bb4_i14_i95:;
-    TRAP();
-    TRAP();
-L_bb2_i7_i87:;
-    v_15_not_i9_i89 = v_writer_i29_i_sroa_14_0 < 15u;
-    if (v_15_not_i9_i89) { goto L_bb7_i13_i94; } else { goto L_copy_from_slice_pkcs1_c_exit168; }
-L_bb7_i13_i94:;
-    TRAP();
-    TRAP();
-L_copy_from_slice_pkcs1_c_exit168:;
-    v_62 = v_out_0 + (int64_t)(v_start1_i5_i85);
-    put_u8(v_62, 160u);
-    v_9_i80_sroa_4_0_sroa_idx = v_62 + 1;
-    put_u8(v_9_i80_sroa_4_0_sroa_idx, 13u);
-    v_9_i80_sroa_5_0_sroa_idx = v_62 + 2;
-    put_u8(v_9_i80_sroa_5_0_sroa_idx, 48u);
-    v_9_i80_sroa_6_0_sroa_idx = v_62 + 3;
-    put_u8(v_9_i80_sroa_6_0_sroa_idx, 11u);
-    v_9_i80_sroa_7_0_sroa_idx = v_62 + 4;
-    put_u8(v_9_i80_sroa_7_0_sroa_idx, 6u);
-    v_9_i80_sroa_8_0_sroa_idx = v_62 + 5;
-    put_u8(v_9_i80_sroa_8_0_sroa_idx, 9u);
-    v_9_i80_sroa_9_0_sroa_idx = v_62 + 6;
-    put_u8(v_9_i80_sroa_9_0_sroa_idx, 96u);
-    v_9_i80_sroa_10_0_sroa_idx = v_62 + 7;
-    put_u8(v_9_i80_sroa_10_0_sroa_idx, 134u);
-    v_9_i80_sroa_11_0_sroa_idx = v_62 + 8;
-    put_u8(v_9_i80_sroa_11_0_sroa_idx, 72u);
-    v_9_i80_sroa_12_0_sroa_idx = v_62 + 9;
-    put_u8(v_9_i80_sroa_12_0_sroa_idx, 1u);
-    v_9_i80_sroa_13_0_sroa_idx = v_62 + 10;
-    put_u8(v_9_i80_sroa_13_0_sroa_idx, 101u);
-    v_9_i80_sroa_14_0_sroa_idx = v_62 + 11;
-    put_u8(v_9_i80_sroa_14_0_sroa_idx, 3u);
-    v_9_i80_sroa_15_0_sroa_idx = v_62 + 12;
-    put_u8(v_9_i80_sroa_15_0_sroa_idx, 4u);
-    v_9_i80_sroa_16_0_sroa_idx = v_62 + 13;
-    put_u8(v_9_i80_sroa_16_0_sroa_idx, 2u);
-    v_9_i80_sroa_17_0_sroa_idx = v_62 + 14;
-    put_u8(v_9_i80_sroa_17_0_sroa_idx, v_sroa_4_0_extract_trunc_i);
-    { p_v_writer_i29_i_sroa_14_1 = v_start1_i5_i85; goto L_bb21_i67_i; }
-L_bb21_i67_i:;
-    v_writer_i29_i_sroa_14_1 = p_v_writer_i29_i_sroa_14_1;
-    v_63 = (u8)(v_10_i37_i);
-    v_23_i68_i = (u8)((u32)(v_63) + (u32)(5u));
-    v_start1_i17_i72_i = (u64)((u64)(v_writer_i29_i_sroa_14_1) + (u64)(18446744073709551614ull));
-    v_8_not_i18_i73_i = v_writer_i29_i_sroa_14_1 > v_len_i41_i;
-    if (v_8_not_i18_i73_i) { goto L_bb4_i26_i102_i; } else { goto L_bb2_i19_i74_i; }
-L_bb4_i26_i102_i:;
-    TRAP();
-    TRAP();
-L_bb2_i19_i74_i:;
-    v_15_not_i21_i76_i = v_writer_i29_i_sroa_14_1 < 2u;
-    if (v_15_not_i21_i76_i) { goto L_bb7_i25_i101_i; } else { goto L_copy_from_slice_pkcs1_c_exit171; }
-L_bb7_i25_i101_i:;
-    TRAP();
-    TRAP();
-L_copy_from_slice_pkcs1_c_exit171:;
-    v_64 = v_out_0 + (int64_t)(v_start1_i17_i72_i);
-    v_22_i28_i_sroa_0_sroa_4_0_insert_ext = (u16)v_23_i68_i;
-    v_22_i28_i_sroa_0_sroa_4_0_insert_shift = (u16)((u32)(v_22_i28_i_sroa_0_sroa_4_0_insert_ext) << (u32)((8u & 31)));
-    v_22_i28_i_sroa_0_sroa_0_0_insert_insert = (u16)((u32)(v_22_i28_i_sroa_0_sroa_4_0_insert_shift) | (u32)(48u));
-    put_u16(v_64, v_22_i28_i_sroa_0_sroa_0_0_insert_insert);
-    v_8_not_i_i91_i = v_start1_i17_i72_i > v_len_i41_i;
-    if (v_8_not_i_i91_i) { goto L_bb4_i_i100_i; } else { goto L_bb2_i_i92_i; }
-L_bb4_i_i100_i:;
-    TRAP();
-    TRAP();
-L_bb2_i_i92_i:;
-    v_start1_i_i90_i = (u64)((u64)(v_writer_i29_i_sroa_14_1) + (u64)(18446744073709551601ull));
-    v_59_i86_i = (u8)((u32)(v_63) + (u32)(18u));
-    v_15_not_i_i94_i = v_start1_i_i90_i > v_start1_i17_i72_i;
-    if (v_15_not_i_i94_i) { goto L_bb7_i_i99_i; } else { p_v_start1_i_i_i_sink = v_start1_i_i90_i; p_v_59_i_i_sink = v_59_i86_i; p_v_0_sroa_5_0_i = v_len_i41_i; goto L_bb13; }
-L_bb7_i_i99_i:;
-    TRAP();
-    TRAP();
-L_bb2:;
-    f_pss_from_c_pss(v_4_i, v_params);
-    v_65 = get_P(v_4_i);
-    v_66 = v_65 == (P)0;
-    if (v_66) { goto L_bb3_i; } else { goto L_bb6_i_i_i123; }
-L_bb6_i_i_i123:;
-    copy(v_made_i, v_4_i, 104u);
-    v_6_i175 = v_made_i + 40;
-    v_67 = v_made_i + 96;
-    v_9_i176 = get_u8(v_67);
-    v_68 = v_made_i + 16;
-    v_69 = get_P(v_68);
-    v_70 = v_69 == (P)0;
-    if (v_70) { p_v_0_sroa_0_0_shrunk_i_i_i = 0u; goto L_bb10_i8_i; } else { goto L_bb3_i177; }
-L_bb3_i177:;
-    v_0_0_i_i = get_P(v_made_i);
-    v_71 = v_made_i + 8;
-    v_0_1_i_i = get_u64(v_71);
-    v_72 = v_0_1_i_i == 5u;
-    if (v_72) { goto L_bb11_i; } else { p_v_0_sroa_0_0_shrunk_i_i_i = 0u; goto L_bb10_i8_i; }
-L_bb11_i:;
-    v_73 = get_u8(v_0_0_i_i);
-    v_74 = v_73 == 43u;
-    if (v_74) { goto L_bb12_i; } else { p_v_0_sroa_0_0_shrunk_i_i_i = 0u; goto L_bb10_i8_i; }
-L_bb12_i:;
-    v_75 = v_0_0_i_i + 1;
-    v_76 = get_u8(v_75);
-    v_77 = v_76 == 14u;
-    if (v_77) { goto L_bb13_i179; } else { p_v_0_sroa_0_0_shrunk_i_i_i = 0u; goto L_bb10_i8_i; }
-L_bb13_i179:;
-    v_78 = v_0_0_i_i + 2;
-    v_79 = get_u8(v_78);
-    v_80 = v_79 == 3u;
-    if (v_80) { goto L_bb14_i; } else { p_v_0_sroa_0_0_shrunk_i_i_i = 0u; goto L_bb10_i8_i; }
-L_bb14_i:;
-    v_81 = v_0_0_i_i + 3;
-    v_82 = get_u8(v_81);
-    v_83 = v_82 == 2u;
-    if (v_83) { goto L_bb15_i; } else { p_v_0_sroa_0_0_shrunk_i_i_i = 0u; goto L_bb10_i8_i; }
-L_bb15_i:;
-    v_84 = v_0_0_i_i + 4;
-    v_10_i180 = get_u8(v_84);
-    v_6_i181 = v_10_i180 == 26u;
-    if (v_6_i181) { goto L_bb5_i; } else { p_v_0_sroa_0_0_shrunk_i_i_i = 0u; goto L_bb10_i8_i; }
-L_bb5_i:;
-    v_8_sroa_3_0_sroa_idx_i = v_made_i + 24;
-    v_8_sroa_3_0_copyload_i = get_u64(v_8_sroa_3_0_sroa_idx_i);
-    v_8_sroa_4_0_sroa_idx_i = v_made_i + 32;
-    v_8_sroa_4_0_copyload_i = get_u64(v_8_sroa_4_0_sroa_idx_i);
-    v_85 = (u64)((u64)(v_8_sroa_4_0_copyload_i) & (u64)(255u));
-    v_86 = v_85 == 5u;
-    v_87 = v_8_sroa_3_0_copyload_i == 0u;
-    v_0_sroa_0_1_i = v_86 ? v_87 : 0u;
-    { p_v_0_sroa_0_0_shrunk_i_i_i = v_0_sroa_0_1_i; goto L_bb10_i8_i; }
-L_bb10_i8_i:;
-    v_0_sroa_0_0_shrunk_i_i_i = p_v_0_sroa_0_0_shrunk_i_i_i;
-    v_3_i_i = (u1)(((u32)(v_0_sroa_0_0_shrunk_i_i_i) ^ (u32)(1u)) & 1);
-    v_2_i_i = (u8)v_3_i_i;
-    v_88 = v_made_i + 56;
-    v_89 = get_P(v_88);
-    v_90 = v_89 == (P)0;
-    if (v_90) { p_v_0_sroa_0_0_i = 0u; goto L_MaskHolder_is_default_exit; } else { goto L_bb3_i520; }
-L_bb3_i520:;
-    v_0_0_i_i521 = get_P(v_6_i175);
-    v_91 = v_made_i + 48;
-    v_0_1_i_i522 = get_u64(v_91);
-    v_92 = v_0_1_i_i522 == 9u;
-    if (v_92) { goto L_bb2_i_i; } else { p_v_0_sroa_0_0_i = 0u; goto L_MaskHolder_is_default_exit; }
-L_bb2_i_i:;
-    v_21_i_i = get_u8(v_0_0_i_i521);
-    v_20_i_i = v_21_i_i == 42u;
-    v_93 = v_0_0_i_i521 + 1;
-    v_23_i_i523 = get_u8(v_93);
-    v_22_i_i = v_23_i_i523 == 134u;
-    v_19_i_i = (u1)(((u32)(v_20_i_i) & (u32)(v_22_i_i)) & 1);
-    v_94 = v_0_0_i_i521 + 2;
-    v_25_i_i = get_u8(v_94);
-    v_24_i_i = v_25_i_i == 72u;
-    v_18_i_i = (u1)(((u32)(v_19_i_i) & (u32)(v_24_i_i)) & 1);
-    v_95 = v_0_0_i_i521 + 3;
-    v_27_i_i = get_u8(v_95);
-    v_26_i_i = v_27_i_i == 134u;
-    v_17_i_i = (u1)(((u32)(v_18_i_i) & (u32)(v_26_i_i)) & 1);
-    v_96 = v_0_0_i_i521 + 4;
-    v_29_i_i = get_u8(v_96);
-    v_28_i_i = v_29_i_i == 247u;
-    v_16_i_i524 = (u1)(((u32)(v_17_i_i) & (u32)(v_28_i_i)) & 1);
-    v_97 = v_0_0_i_i521 + 5;
-    v_31_i_i = get_u8(v_97);
-    v_30_i_i = v_31_i_i == 13u;
-    v_15_i_i = (u1)(((u32)(v_16_i_i524) & (u32)(v_30_i_i)) & 1);
-    v_98 = v_0_0_i_i521 + 6;
-    v_33_i_i = get_u8(v_98);
-    v_32_i_i = v_33_i_i == 1u;
-    v_14_i_i = (u1)(((u32)(v_15_i_i) & (u32)(v_32_i_i)) & 1);
-    v_99 = v_0_0_i_i521 + 7;
-    v_35_i_i = get_u8(v_99);
-    v_34_i_i = v_35_i_i == 1u;
-    v_front_i_i = (u1)(((u32)(v_14_i_i) & (u32)(v_34_i_i)) & 1);
-    if (v_front_i_i) { goto L_hash_fields_is_pkcs1_exit_i; } else { p_v_0_sroa_0_0_i = 0u; goto L_MaskHolder_is_default_exit; }
-L_hash_fields_is_pkcs1_exit_i:;
-    v_100 = v_0_0_i_i521 + 8;
-    v_36_i_i = get_u8(v_100);
-    v_101 = v_36_i_i == 8u;
-    if (v_101) { goto L_bb5_i525; } else { p_v_0_sroa_0_0_i = 0u; goto L_MaskHolder_is_default_exit; }
-L_bb5_i525:;
-    v_102 = v_made_i + 72;
-    v_103 = get_P(v_102);
-    v_104 = v_103 != (P)0;
-    v_105 = v_made_i + 64;
-    v_0_1_i_i_i = get_u64(v_105);
-    v_106 = v_0_1_i_i_i == 5u;
-    v_or_cond_i = v_104 ? v_106 : 0u;
-    if (v_or_cond_i) { goto L_bb11_i_i526; } else { p_v_0_sroa_0_0_i = 0u; goto L_MaskHolder_is_default_exit; }
-L_bb11_i_i526:;
-    v_107 = get_u8(v_89);
-    v_108 = v_107 == 43u;
-    if (v_108) { goto L_bb12_i_i527; } else { p_v_0_sroa_0_0_i = 0u; goto L_MaskHolder_is_default_exit; }
-L_bb12_i_i527:;
-    v_109 = v_89 + 1;
-    v_110 = get_u8(v_109);
-    v_111 = v_110 == 14u;
-    if (v_111) { goto L_bb13_i_i; } else { p_v_0_sroa_0_0_i = 0u; goto L_MaskHolder_is_default_exit; }
-L_bb13_i_i:;
-    v_112 = v_89 + 2;
-    v_113 = get_u8(v_112);
-    v_114 = v_113 == 3u;
-    if (v_114) { goto L_bb14_i_i528; } else { p_v_0_sroa_0_0_i = 0u; goto L_MaskHolder_is_default_exit; }
-L_bb14_i_i528:;
-    v_115 = v_89 + 3;
-    v_116 = get_u8(v_115);
-    v_117 = v_116 == 2u;
-    if (v_117) { goto L_bb15_i_i529; } else { p_v_0_sroa_0_0_i = 0u; goto L_MaskHolder_is_default_exit; }
-L_bb15_i_i529:;
-    v_118 = v_89 + 4;
-    v_10_i_i530 = get_u8(v_118);
-    v_6_i_i531 = v_10_i_i530 == 26u;
-    if (v_6_i_i531) { goto L_bb5_i_i; } else { p_v_0_sroa_0_0_i = 0u; goto L_MaskHolder_is_default_exit; }
-L_bb5_i_i:;
-    v_8_sroa_3_0_sroa_idx_i_i = v_made_i + 80;
-    v_8_sroa_3_0_copyload_i_i = get_u64(v_8_sroa_3_0_sroa_idx_i_i);
-    v_8_sroa_4_0_sroa_idx_i_i = v_made_i + 88;
-    v_8_sroa_4_0_copyload_i_i = get_u64(v_8_sroa_4_0_sroa_idx_i_i);
-    v_119 = (u64)((u64)(v_8_sroa_4_0_copyload_i_i) & (u64)(255u));
-    v_120 = v_119 == 5u;
-    v_121 = v_8_sroa_3_0_copyload_i_i == 0u;
-    v_0_sroa_0_1_i_i = v_120 ? v_121 : 0u;
-    { p_v_0_sroa_0_0_i = v_0_sroa_0_1_i_i; goto L_MaskHolder_is_default_exit; }
-L_MaskHolder_is_default_exit:;
-    v_0_sroa_0_0_i = p_v_0_sroa_0_0_i;
-    v_3_i4_i = (u1)(((u32)(v_0_sroa_0_0_i) ^ (u32)(1u)) & 1);
-    v_2_i5_i = (u8)v_3_i4_i;
-    v_not__2 = v_9_i176 == 20u;
-    v_6_i8_i = v_not__2 ? 0u : 2u;
-    v_0_i9_i = (u8)((u32)(v_6_i8_i) | (u32)(v_2_i5_i));
-    v_6_i_i = (u8)((u32)(v_0_i9_i) << (u32)((1u & 31)));
-    v_0_i_i = (u8)((u32)(v_6_i_i) | (u32)(v_2_i_i));
-    if (v_0_sroa_0_0_shrunk_i_i_i) { goto L_bb6_i_i23_i; } else { goto L_bb7_i_i18_i; }
-L_bb6_i_i23_i:;
-    if (v_0_sroa_0_0_i) { goto L_bb6_i133_i_i; } else { goto L_bb7_i7_i_i; }
-L_bb6_i133_i_i:;
-    if (v_not__2) { p_v_166 = 2u; goto L_bb4_i_i; } else { goto L_EncodeValue_quick_value_len_exit_i_thread; }
-L_EncodeValue_quick_value_len_exit_i_thread:;
-    v_29_i_i578_i_i = (u8)(v_9_i176 ^ ((u8)1 << 7)) > (u8)(255u ^ ((u8)1 << 7));
-    v_122 = v_29_i_i578_i_i ? 7u : 8u;
-    { p_v_166 = v_122; goto L_bb4_i_i; }
-L_bb7_i7_i_i:;
-    v_29_i_i712_i_i = (u8)(v_9_i176 ^ ((u8)1 << 7)) > (u8)(255u ^ ((u8)1 << 7));
-    v_i_i713_i_i = v_29_i_i712_i_i ? 5u : 6u;
-    v_123 = v_not__2 ? 0u : v_i_i713_i_i;
-    v_124 = v_made_i + 48;
-    v_0_1_i97_i_i49_i_i = get_u64(v_124);
-    if (v_90) { p_v_10_sroa_0_0_i_i_i76_i_i = 0u; goto L_EncodeValue_quick_value_len_exit_i_i75_i_i; } else { goto L_bb10_i51_i_i51_i_i; }
-L_bb10_i51_i_i51_i_i:;
-    v_125 = v_made_i + 64;
-    v_0_1_i95_i_i53_i_i = get_u64(v_125);
-    v_126 = v_made_i + 72;
-    v_127 = get_P(v_126);
-    v_128 = v_127 == (P)0;
-    v_129 = v_made_i + 80;
-    v_4_1_i89_i_i56_i_i = get_u64(v_129);
-    v_5_i90_i_i57_i_i = v_4_1_i89_i_i56_i_i < 128u;
-    v_130 = (u64)((u64)(v_4_1_i89_i_i56_i_i) + (u64)(2u));
-    v_0_sroa_0_0_i91_i_i58_i_i = v_5_i90_i_i57_i_i ? v_130 : 4294967296ull;
-    v_10_sroa_0_0_i59_i_i60_i_i = v_128 ? 0u : v_0_sroa_0_0_i91_i_i58_i_i;
-    v_0_i102_i_i62_i_i = (u64)((u64)(v_0_1_i95_i_i53_i_i) & (u64)(255u));
-    v_3_i_i61_i_i63_i_i = v_0_i102_i_i62_i_i < 128u;
-    v_0_sroa_0_0_i_i62_i_i64_i_v_i = v_3_i_i61_i_i63_i_i ? 2u : 3u;
-    v_0_sroa_0_0_i_i62_i_i64_i_i = (u64)((u64)(v_0_sroa_0_0_i_i62_i_i64_i_v_i) + (u64)(v_0_i102_i_i62_i_i));
-    v_131 = (u64)((u64)(v_0_sroa_0_0_i_i62_i_i64_i_i) + (u64)(v_10_sroa_0_0_i59_i_i60_i_i));
-    v_3_i_i_i_i65_i_i = v_131 < 128u;
-    if (v_3_i_i_i_i65_i_i) { goto L_bb3_i_i_i_i100_i_i; } else { goto L_bb4_i_i_i_i66_i_i; }
-L_bb4_i_i_i_i66_i_i:;
-    v_4_i_i_i_i67_i_i = v_131 < 256u;
-    if (v_4_i_i_i_i67_i_i) { goto L_bb5_i_i_i_i99_i_i; } else { goto L_bb6_i_i_i_i68_i_i; }
-L_bb3_i_i_i_i100_i_i:;
-    v_132 = (u64)((u64)(v_131) + (u64)(2u));
-    { p_v_10_sroa_0_0_i_i_i76_i_i = v_132; goto L_EncodeValue_quick_value_len_exit_i_i75_i_i; }
-L_bb6_i_i_i_i68_i_i:;
-    v_5_i_i_i_i69_i_i = v_131 < 65536u;
-    if (v_5_i_i_i_i69_i_i) { goto L_bb7_i_i_i_i98_i_i; } else { goto L_bb8_i_i_i_i70_i_i; }
-L_bb5_i_i_i_i99_i_i:;
-    v_133 = (u64)((u64)(v_131) + (u64)(3u));
-    { p_v_10_sroa_0_0_i_i_i76_i_i = v_133; goto L_EncodeValue_quick_value_len_exit_i_i75_i_i; }
-L_bb8_i_i_i_i70_i_i:;
-    v_6_i_i_i_i71_i_i = v_131 < 16777216u;
-    if (v_6_i_i_i_i71_i_i) { goto L_bb9_i_i_i_i97_i_i; } else { goto L_bb10_i_i_i_i72_i_i; }
-L_bb7_i_i_i_i98_i_i:;
-    v_134 = (u64)((u64)(v_131) + (u64)(4u));
-    { p_v_10_sroa_0_0_i_i_i76_i_i = v_134; goto L_EncodeValue_quick_value_len_exit_i_i75_i_i; }
-L_bb10_i_i_i_i72_i_i:;
-    v_135 = (u64)((u64)(v_131) + (u64)(6u));
-    { p_v_10_sroa_0_0_i_i_i76_i_i = v_135; goto L_EncodeValue_quick_value_len_exit_i_i75_i_i; }
-L_bb9_i_i_i_i97_i_i:;
-    v_136 = (u64)((u64)(v_131) + (u64)(5u));
-    { p_v_10_sroa_0_0_i_i_i76_i_i = v_136; goto L_EncodeValue_quick_value_len_exit_i_i75_i_i; }
-L_EncodeValue_quick_value_len_exit_i_i75_i_i:;
-    v_10_sroa_0_0_i_i_i76_i_i = p_v_10_sroa_0_0_i_i_i76_i_i;
-    v_0_i104_i_i78_i_i = (u64)((u64)(v_0_1_i97_i_i49_i_i) & (u64)(255u));
-    v_3_i2_i_i_i79_i_i = v_0_i104_i_i78_i_i < 128u;
-    v_0_sroa_0_0_i3_i_i_i80_i_v_i = v_3_i2_i_i_i79_i_i ? 2u : 3u;
-    v_0_sroa_0_0_i3_i_i_i80_i_i = (u64)((u64)(v_0_sroa_0_0_i3_i_i_i80_i_v_i) + (u64)(v_0_i104_i_i78_i_i));
-    v_137 = (u64)((u64)(v_0_sroa_0_0_i3_i_i_i80_i_i) + (u64)(v_10_sroa_0_0_i_i_i76_i_i));
-    v_3_i_i_i81_i_i = v_137 < 128u;
-    if (v_3_i_i_i81_i_i) { p_v_sink_i = 2u; goto L_AnyRef_quick_len_exit_i35_i_i; } else { goto L_bb4_i_i_i82_i_i; }
-L_bb4_i_i_i82_i_i:;
-    v_4_i_i_i83_i_i = v_137 < 256u;
-    if (v_4_i_i_i83_i_i) { p_v_sink_i = 3u; goto L_AnyRef_quick_len_exit_i35_i_i; } else { goto L_bb6_i_i_i84_i_i; }
-L_bb6_i_i_i84_i_i:;
-    v_5_i_i_i85_i_i = v_137 < 65536u;
-    if (v_5_i_i_i85_i_i) { p_v_sink_i = 4u; goto L_AnyRef_quick_len_exit_i35_i_i; } else { goto L_bb8_i_i_i86_i_i; }
-L_bb8_i_i_i86_i_i:;
-    v_6_i_i_i87_i_i = v_137 < 16777216u;
-    v_i = v_6_i_i_i87_i_i ? 5u : 6u;
-    { p_v_sink_i = v_i; goto L_AnyRef_quick_len_exit_i35_i_i; }
-L_AnyRef_quick_len_exit_i35_i_i:;
-    v_sink_i = p_v_sink_i;
-    v_138 = (u64)((u64)(v_sink_i) + (u64)(v_137));
-    { p_v_sink178_i = v_138; p_v_0_sroa_0_0_i705_i_sink_i = v_123; goto L_EncodeValue_quick_value_len_exit_i; }
-L_bb7_i_i18_i:;
-    if (v_0_sroa_0_0_i) { goto L_bb6_i266_i_i; } else { goto L_bb7_i140_i_i; }
-L_bb6_i266_i_i:;
-    if (v_not__2) { p_v_0_sroa_0_0_i170_i_i = 0u; goto L_bb6_i_i_i_i; } else { goto L_bb7_i274_i_i; }
-L_bb7_i274_i_i:;
-    v_29_i_i311_i_i = (u8)(v_9_i176 ^ ((u8)1 << 7)) > (u8)(255u ^ ((u8)1 << 7));
-    v_i_i312_i_i = v_29_i_i311_i_i ? 5u : 6u;
-    { p_v_0_sroa_0_0_i170_i_i = v_i_i312_i_i; goto L_bb6_i_i_i_i; }
-L_bb7_i140_i_i:;
-    v_29_i_i444_i_i = (u8)(v_9_i176 ^ ((u8)1 << 7)) > (u8)(255u ^ ((u8)1 << 7));
-    v_i_i445_i_i = v_29_i_i444_i_i ? 5u : 6u;
-    v_139 = v_not__2 ? 0u : v_i_i445_i_i;
-    v_140 = v_made_i + 48;
-    v_0_1_i97_i_i182_i_i = get_u64(v_140);
-    if (v_90) { p_v_10_sroa_0_0_i_i_i209_i_i = 0u; goto L_EncodeValue_quick_value_len_exit_i_i208_i_i; } else { goto L_bb10_i51_i_i184_i_i; }
-L_bb10_i51_i_i184_i_i:;
-    v_141 = v_made_i + 64;
-    v_0_1_i95_i_i186_i_i = get_u64(v_141);
-    v_142 = v_made_i + 72;
-    v_143 = get_P(v_142);
-    v_144 = v_143 == (P)0;
-    v_145 = v_made_i + 80;
-    v_4_1_i89_i_i189_i_i = get_u64(v_145);
-    v_5_i90_i_i190_i_i = v_4_1_i89_i_i189_i_i < 128u;
-    v_146 = (u64)((u64)(v_4_1_i89_i_i189_i_i) + (u64)(2u));
-    v_0_sroa_0_0_i91_i_i191_i_i = v_5_i90_i_i190_i_i ? v_146 : 4294967296ull;
-    v_10_sroa_0_0_i59_i_i193_i_i = v_144 ? 0u : v_0_sroa_0_0_i91_i_i191_i_i;
-    v_0_i102_i_i195_i_i = (u64)((u64)(v_0_1_i95_i_i186_i_i) & (u64)(255u));
-    v_3_i_i61_i_i196_i_i = v_0_i102_i_i195_i_i < 128u;
-    v_0_sroa_0_0_i_i62_i_i197_i_v_i = v_3_i_i61_i_i196_i_i ? 2u : 3u;
-    v_0_sroa_0_0_i_i62_i_i197_i_i = (u64)((u64)(v_0_sroa_0_0_i_i62_i_i197_i_v_i) + (u64)(v_0_i102_i_i195_i_i));
-    v_147 = (u64)((u64)(v_0_sroa_0_0_i_i62_i_i197_i_i) + (u64)(v_10_sroa_0_0_i59_i_i193_i_i));
-    v_3_i_i_i_i198_i_i = v_147 < 128u;
-    if (v_3_i_i_i_i198_i_i) { goto L_bb3_i_i_i_i233_i_i; } else { goto L_bb4_i_i_i_i199_i_i; }
-L_bb4_i_i_i_i199_i_i:;
-    v_4_i_i_i_i200_i_i = v_147 < 256u;
-    if (v_4_i_i_i_i200_i_i) { goto L_bb5_i_i_i_i232_i_i; } else { goto L_bb6_i_i_i_i201_i_i; }
-L_bb3_i_i_i_i233_i_i:;
-    v_148 = (u64)((u64)(v_147) + (u64)(2u));
-    { p_v_10_sroa_0_0_i_i_i209_i_i = v_148; goto L_EncodeValue_quick_value_len_exit_i_i208_i_i; }
-L_bb6_i_i_i_i201_i_i:;
-    v_5_i_i_i_i202_i_i = v_147 < 65536u;
-    if (v_5_i_i_i_i202_i_i) { goto L_bb7_i_i_i_i231_i_i; } else { goto L_bb8_i_i_i_i203_i_i; }
-L_bb5_i_i_i_i232_i_i:;
-    v_149 = (u64)((u64)(v_147) + (u64)(3u));
-    { p_v_10_sroa_0_0_i_i_i209_i_i = v_149; goto L_EncodeValue_quick_value_len_exit_i_i208_i_i; }
-L_bb8_i_i_i_i203_i_i:;
-    v_6_i_i_i_i204_i_i = v_147 < 16777216u;
-    if (v_6_i_i_i_i204_i_i) { goto L_bb9_i_i_i_i230_i_i; } else { goto L_bb10_i_i_i_i205_i_i; }
-L_bb7_i_i_i_i231_i_i:;
-    v_150 = (u64)((u64)(v_147) + (u64)(4u));
-    { p_v_10_sroa_0_0_i_i_i209_i_i = v_150; goto L_EncodeValue_quick_value_len_exit_i_i208_i_i; }
-L_bb10_i_i_i_i205_i_i:;
-    v_151 = (u64)((u64)(v_147) + (u64)(6u));
-    { p_v_10_sroa_0_0_i_i_i209_i_i = v_151; goto L_EncodeValue_quick_value_len_exit_i_i208_i_i; }
-L_bb9_i_i_i_i230_i_i:;
-    v_152 = (u64)((u64)(v_147) + (u64)(5u));
-    { p_v_10_sroa_0_0_i_i_i209_i_i = v_152; goto L_EncodeValue_quick_value_len_exit_i_i208_i_i; }
-L_EncodeValue_quick_value_len_exit_i_i208_i_i:;
-    v_10_sroa_0_0_i_i_i209_i_i = p_v_10_sroa_0_0_i_i_i209_i_i;
-    v_0_i104_i_i211_i_i = (u64)((u64)(v_0_1_i97_i_i182_i_i) & (u64)(255u));
-    v_3_i2_i_i_i212_i_i = v_0_i104_i_i211_i_i < 128u;
-    v_0_sroa_0_0_i3_i_i_i213_i_v_i = v_3_i2_i_i_i212_i_i ? 2u : 3u;
-    v_0_sroa_0_0_i3_i_i_i213_i_i = (u64)((u64)(v_0_sroa_0_0_i3_i_i_i213_i_v_i) + (u64)(v_0_i104_i_i211_i_i));
-    v_153 = (u64)((u64)(v_0_sroa_0_0_i3_i_i_i213_i_i) + (u64)(v_10_sroa_0_0_i_i_i209_i_i));
-    v_3_i_i_i214_i_i = v_153 < 128u;
-    if (v_3_i_i_i214_i_i) { p_v_sink174_i = 2u; goto L_AnyRef_quick_len_exit_i168_i_i; } else { goto L_bb4_i_i_i215_i_i; }
-L_bb4_i_i_i215_i_i:;
-    v_4_i_i_i216_i_i = v_153 < 256u;
-    if (v_4_i_i_i216_i_i) { p_v_sink174_i = 3u; goto L_AnyRef_quick_len_exit_i168_i_i; } else { goto L_bb6_i_i_i217_i_i; }
-L_bb6_i_i_i217_i_i:;
-    v_5_i_i_i218_i_i = v_153 < 65536u;
-    if (v_5_i_i_i218_i_i) { p_v_sink174_i = 4u; goto L_AnyRef_quick_len_exit_i168_i_i; } else { goto L_bb8_i_i_i219_i_i; }
-L_bb8_i_i_i219_i_i:;
-    v_6_i_i_i220_i_i = v_153 < 16777216u;
-    v_179_i = v_6_i_i_i220_i_i ? 5u : 6u;
-    { p_v_sink174_i = v_179_i; goto L_AnyRef_quick_len_exit_i168_i_i; }
-L_AnyRef_quick_len_exit_i168_i_i:;
-    v_sink174_i = p_v_sink174_i;
-    v_154 = (u64)((u64)(v_sink174_i) + (u64)(v_153));
-    v_31_i_i224_i_i = v_154 < 128u;
-    v_155 = (u64)((u64)(v_154) + (u64)(2u));
-    v_spec_select19_i_i225_i_i = v_31_i_i224_i_i ? v_155 : 4294967296ull;
-    v_156 = (u64)((u64)(v_spec_select19_i_i225_i_i) + (u64)(v_139));
-    { p_v_0_sroa_0_0_i170_i_i = v_156; goto L_bb6_i_i_i_i; }
-L_bb6_i_i_i_i:;
-    v_0_sroa_0_0_i170_i_i = p_v_0_sroa_0_0_i170_i_i;
-    v_157 = v_made_i + 8;
-    v_0_1_i93_i_i_i_i = get_u64(v_157);
-    v_158 = v_made_i + 24;
-    v_4_1_i86_i_i_i_i = get_u64(v_158);
-    v_5_i87_i_i_i_i = v_4_1_i86_i_i_i_i < 128u;
-    v_159 = (u64)((u64)(v_4_1_i86_i_i_i_i) + (u64)(2u));
-    v_0_sroa_0_0_i88_i_i_i_i = v_5_i87_i_i_i_i ? v_159 : 4294967296ull;
-    v_10_sroa_0_0_i69_i_i_i_i = v_70 ? 0u : v_0_sroa_0_0_i88_i_i_i_i;
-    v_0_i100_i_i_i_i = (u64)((u64)(v_0_1_i93_i_i_i_i) & (u64)(255u));
-    v_3_i_i70_i_i_i_i = v_0_i100_i_i_i_i < 128u;
-    v_0_sroa_0_0_i_i71_i_i_i_v_i = v_3_i_i70_i_i_i_i ? 2u : 3u;
-    v_0_sroa_0_0_i_i71_i_i_i_i = (u64)((u64)(v_0_sroa_0_0_i_i71_i_i_i_v_i) + (u64)(v_0_i100_i_i_i_i));
-    v_160 = (u64)((u64)(v_0_sroa_0_0_i_i71_i_i_i_i) + (u64)(v_10_sroa_0_0_i69_i_i_i_i));
-    v_3_i36_i_i_i_i = v_160 < 128u;
-    if (v_3_i36_i_i_i_i) { p_v_sink175_i = 2u; goto L_AnyRef_quick_len_exit_i_i_i; } else { goto L_bb4_i37_i_i_i_i; }
-L_bb4_i37_i_i_i_i:;
-    v_4_i38_i_i_i_i = v_160 < 256u;
-    if (v_4_i38_i_i_i_i) { p_v_sink175_i = 3u; goto L_AnyRef_quick_len_exit_i_i_i; } else { goto L_bb6_i39_i_i_i_i; }
-L_bb6_i39_i_i_i_i:;
-    v_5_i40_i_i_i_i = v_160 < 65536u;
-    if (v_5_i40_i_i_i_i) { p_v_sink175_i = 4u; goto L_AnyRef_quick_len_exit_i_i_i; } else { goto L_bb8_i41_i_i_i_i; }
-L_bb8_i41_i_i_i_i:;
-    v_6_i42_i_i_i_i = v_160 < 16777216u;
-    v_180_i = v_6_i42_i_i_i_i ? 5u : 6u;
-    { p_v_sink175_i = v_180_i; goto L_AnyRef_quick_len_exit_i_i_i; }
-L_AnyRef_quick_len_exit_i_i_i:;
-    v_sink175_i = p_v_sink175_i;
-    v_161 = (u64)((u64)(v_sink175_i) + (u64)(v_160));
-    { p_v_sink178_i = v_161; p_v_0_sroa_0_0_i705_i_sink_i = v_0_sroa_0_0_i170_i_i; goto L_EncodeValue_quick_value_len_exit_i; }
-L_EncodeValue_quick_value_len_exit_i:;
-    v_sink178_i = p_v_sink178_i;
-    v_0_sroa_0_0_i705_i_sink_i = p_v_0_sroa_0_0_i705_i_sink_i;
-    v_31_i_i91_i_i = v_sink178_i < 128u;
-    v_162 = (u64)((u64)(v_sink178_i) + (u64)(2u));
-    v_spec_select19_i_i92_i_i = v_31_i_i91_i_i ? v_162 : 4294967296ull;
-    v_163 = (u64)((u64)(v_spec_select19_i_i92_i_i) + (u64)(v_0_sroa_0_0_i705_i_sink_i));
-    v_3_i_i_i = v_163 < 128u;
-    if (v_3_i_i_i) { goto L_EncodeValue_quick_value_len_exit_i__2; } else { goto L_bb4_i_i9_i; }
-L_bb4_i_i9_i:;
-    v_4_i_i10_i = v_163 < 256u;
-    if (v_4_i_i10_i) { goto L_bb5_i3_i; } else { goto L_bb6_i_i11_i; }
-L_bb6_i_i11_i:;
-    v_5_i_i_i = v_163 < 65536u;
-    if (v_5_i_i_i) { goto L_bb7_i_i; } else { goto L_bb8_i_i12_i; }
-L_bb8_i_i12_i:;
-    v_6_i_i_i = v_163 < 16777216u;
-    if (v_6_i_i_i) { goto L_bb9_i_i; } else { goto L_bb3_i_i; }
-L_EncodeValue_quick_value_len_exit_i__2:;
-    v_164 = (u64)((u64)(v_163) + (u64)(2u));
-    v_6_i_i365 = v_163 < 115u;
-    if (v_6_i_i365) { p_v_166 = v_164; goto L_bb4_i_i; } else { p_v_10_sroa_0_0_i_i465471 = v_164; goto L_bb6_i_i; }
-L_bb5_i3_i:;
-    v_165 = (u64)((u64)(v_163) + (u64)(3u));
-    v_7_i_i = v_163 < 242u;
-    if (v_7_i_i) { p_v_10_sroa_0_0_i_i465471 = v_165; goto L_bb6_i_i; } else { p_v_10_sroa_0_0_i_i_ph475478 = v_165; goto L_bb8_i_i; }
-L_bb4_i_i:;
-    v_166 = p_v_166;
-    v_167 = (u64)((u64)(v_166) + (u64)(13u));
-    { p_v_0_sroa_31_0_in_i_ph_i = v_167; goto L_Encode_encoded_len_exit_thread_i; }
-L_bb7_i_i:;
-    v_168 = (u64)((u64)(v_163) + (u64)(4u));
-    v_8_i_i366 = v_163 < 65521u;
-    if (v_8_i_i366) { p_v_10_sroa_0_0_i_i_ph475478 = v_168; goto L_bb8_i_i; } else { p_v_10_sroa_0_0_i_i_ph_ph482485 = v_168; goto L_bb10_i_i394; }
-L_bb6_i_i:;
-    v_10_sroa_0_0_i_i465471 = p_v_10_sroa_0_0_i_i465471;
-    v_169 = (u64)((u64)(v_10_sroa_0_0_i_i465471) + (u64)(14u));
-    { p_v_0_sroa_31_0_in_i_ph_i = v_169; goto L_Encode_encoded_len_exit_thread_i; }
-L_bb9_i_i:;
-    v_170 = (u64)((u64)(v_163) + (u64)(5u));
-    v_9_i_i367 = v_163 < 16777200u;
-    if (v_9_i_i367) { p_v_10_sroa_0_0_i_i_ph_ph482485 = v_170; goto L_bb10_i_i394; } else { goto L_bb3_i_i_thread; }
-L_bb3_i_i_thread:;
-    v_171 = (u64)((u64)(v_163) + (u64)(22u));
-    { p_v_0_sroa_31_0_in_i_ph_i = v_171; goto L_Encode_encoded_len_exit_thread_i; }
-L_bb8_i_i:;
-    v_10_sroa_0_0_i_i_ph475478 = p_v_10_sroa_0_0_i_i_ph475478;
-    v_172 = (u64)((u64)(v_10_sroa_0_0_i_i_ph475478) + (u64)(15u));
-    { p_v_0_sroa_31_0_in_i_ph_i = v_172; goto L_Encode_encoded_len_exit_thread_i; }
-L_bb10_i_i394:;
-    v_10_sroa_0_0_i_i_ph_ph482485 = p_v_10_sroa_0_0_i_i_ph_ph482485;
-    v_173 = (u64)((u64)(v_10_sroa_0_0_i_i_ph_ph482485) + (u64)(16u));
-    { p_v_0_sroa_31_0_in_i_ph_i = v_173; goto L_Encode_encoded_len_exit_thread_i; }
-L_bb3_i_i:;
-    v_174 = (u64)((u64)(v_163) + (u64)(23u));
-    v_10_i_i368 = v_163 < 4294967273ull;
-    if (v_10_i_i368) { p_v_0_sroa_31_0_in_i_ph_i = v_174; goto L_Encode_encoded_len_exit_thread_i; } else { goto L_bb10_i_i26_i; }
-L_bb10_i_i26_i:;
-    if (v_0_sroa_0_0_shrunk_i_i_i) { goto L_bb6_i_i_i_i48_i; } else { goto L_bb7_i_i_i_i27_i; }
-L_bb6_i_i_i_i48_i:;
-    if (v_0_sroa_0_0_i) { goto L_bb6_i133_i_i_i_i; } else { goto L_bb7_i7_i_i_i_i; }
-L_bb6_i133_i_i_i_i:;
-    if (v_not__2) { p_v_0_sroa_0_0_i_i53_i_i_i = 0u; goto L_bb4_i_i_i47_i; } else { goto L_bb7_i541_i_i_i_i; }
-L_bb7_i541_i_i_i_i:;
-    v_29_i_i578_i_i_i_i = (u8)(v_9_i176 ^ ((u8)1 << 7)) > (u8)(255u ^ ((u8)1 << 7));
-    v_i_i579_i_i_i_i = v_29_i_i578_i_i_i_i ? 5u : 6u;
-    { p_v_0_sroa_0_0_i_i53_i_i_i = v_i_i579_i_i_i_i; goto L_bb4_i_i_i47_i; }
-L_bb7_i7_i_i_i_i:;
-    v_29_i_i712_i_i_i_i = (u8)(v_9_i176 ^ ((u8)1 << 7)) > (u8)(255u ^ ((u8)1 << 7));
-    v_i_i713_i_i_i_i = v_29_i_i712_i_i_i_i ? 5u : 6u;
-    v_175 = v_not__2 ? 0u : v_i_i713_i_i_i_i;
-    v_176 = v_made_i + 48;
-    v_0_1_i97_i_i49_i_i_i_i = get_u64(v_176);
-    if (v_90) { p_v_10_sroa_0_0_i_i_i76_i_i_i_i = 0u; goto L_EncodeValue_quick_value_len_exit_i_i75_i_i_i_i; } else { goto L_bb10_i51_i_i51_i_i_i_i; }
-L_bb10_i51_i_i51_i_i_i_i:;
-    v_177 = v_made_i + 64;
-    v_0_1_i95_i_i53_i_i_i_i = get_u64(v_177);
-    v_178 = v_made_i + 72;
-    v_179 = get_P(v_178);
-    v_180 = v_179 == (P)0;
-    v_181 = v_made_i + 80;
-    v_4_1_i89_i_i56_i_i_i_i = get_u64(v_181);
-    v_5_i90_i_i57_i_i_i_i = v_4_1_i89_i_i56_i_i_i_i < 128u;
-    v_182 = (u64)((u64)(v_4_1_i89_i_i56_i_i_i_i) + (u64)(2u));
-    v_0_sroa_0_0_i91_i_i58_i_i_i_i = v_5_i90_i_i57_i_i_i_i ? v_182 : 4294967296ull;
-    v_10_sroa_0_0_i59_i_i60_i_i_i_i = v_180 ? 0u : v_0_sroa_0_0_i91_i_i58_i_i_i_i;
-    v_0_i102_i_i62_i_i_i_i = (u64)((u64)(v_0_1_i95_i_i53_i_i_i_i) & (u64)(255u));
-    v_3_i_i61_i_i63_i_i_i_i = v_0_i102_i_i62_i_i_i_i < 128u;
-    v_0_sroa_0_0_i_i62_i_i64_i_v_i_i_i = v_3_i_i61_i_i63_i_i_i_i ? 2u : 3u;
-    v_0_sroa_0_0_i_i62_i_i64_i_i_i_i = (u64)((u64)(v_0_sroa_0_0_i_i62_i_i64_i_v_i_i_i) + (u64)(v_0_i102_i_i62_i_i_i_i));
-    v_183 = (u64)((u64)(v_0_sroa_0_0_i_i62_i_i64_i_i_i_i) + (u64)(v_10_sroa_0_0_i59_i_i60_i_i_i_i));
-    v_3_i_i_i_i65_i_i_i_i = v_183 < 128u;
-    if (v_3_i_i_i_i65_i_i_i_i) { goto L_bb3_i_i_i_i100_i_i_i_i; } else { goto L_bb4_i_i_i_i66_i_i_i_i; }
-L_bb4_i_i_i_i66_i_i_i_i:;
-    v_4_i_i_i_i67_i_i_i_i = v_183 < 256u;
-    if (v_4_i_i_i_i67_i_i_i_i) { goto L_bb5_i_i_i_i99_i_i_i_i; } else { goto L_bb6_i_i_i_i68_i_i_i_i; }
-L_bb3_i_i_i_i100_i_i_i_i:;
-    v_184 = (u64)((u64)(v_183) + (u64)(2u));
-    { p_v_10_sroa_0_0_i_i_i76_i_i_i_i = v_184; goto L_EncodeValue_quick_value_len_exit_i_i75_i_i_i_i; }
-L_bb6_i_i_i_i68_i_i_i_i:;
-    v_5_i_i_i_i69_i_i_i_i = v_183 < 65536u;
-    if (v_5_i_i_i_i69_i_i_i_i) { goto L_bb7_i_i_i_i98_i_i_i_i; } else { goto L_bb8_i_i_i_i70_i_i_i_i; }
-L_bb5_i_i_i_i99_i_i_i_i:;
-    v_185 = (u64)((u64)(v_183) + (u64)(3u));
-    { p_v_10_sroa_0_0_i_i_i76_i_i_i_i = v_185; goto L_EncodeValue_quick_value_len_exit_i_i75_i_i_i_i; }
-L_bb8_i_i_i_i70_i_i_i_i:;
-    v_6_i_i_i_i71_i_i_i_i = v_183 < 16777216u;
-    if (v_6_i_i_i_i71_i_i_i_i) { goto L_bb9_i_i_i_i97_i_i_i_i; } else { goto L_bb10_i_i_i_i72_i_i_i_i; }
-L_bb7_i_i_i_i98_i_i_i_i:;
-    v_186 = (u64)((u64)(v_183) + (u64)(4u));
-    { p_v_10_sroa_0_0_i_i_i76_i_i_i_i = v_186; goto L_EncodeValue_quick_value_len_exit_i_i75_i_i_i_i; }
-L_bb10_i_i_i_i72_i_i_i_i:;
-    v_187 = (u64)((u64)(v_183) + (u64)(6u));
-    { p_v_10_sroa_0_0_i_i_i76_i_i_i_i = v_187; goto L_EncodeValue_quick_value_len_exit_i_i75_i_i_i_i; }
-L_bb9_i_i_i_i97_i_i_i_i:;
-    v_188 = (u64)((u64)(v_183) + (u64)(5u));
-    { p_v_10_sroa_0_0_i_i_i76_i_i_i_i = v_188; goto L_EncodeValue_quick_value_len_exit_i_i75_i_i_i_i; }
-L_EncodeValue_quick_value_len_exit_i_i75_i_i_i_i:;
-    v_10_sroa_0_0_i_i_i76_i_i_i_i = p_v_10_sroa_0_0_i_i_i76_i_i_i_i;
-    v_0_i104_i_i78_i_i_i_i = (u64)((u64)(v_0_1_i97_i_i49_i_i_i_i) & (u64)(255u));
-    v_3_i2_i_i_i79_i_i_i_i = v_0_i104_i_i78_i_i_i_i < 128u;
-    v_0_sroa_0_0_i3_i_i_i80_i_v_i_i_i = v_3_i2_i_i_i79_i_i_i_i ? 2u : 3u;
-    v_0_sroa_0_0_i3_i_i_i80_i_i_i_i = (u64)((u64)(v_0_sroa_0_0_i3_i_i_i80_i_v_i_i_i) + (u64)(v_0_i104_i_i78_i_i_i_i));
-    v_189 = (u64)((u64)(v_0_sroa_0_0_i3_i_i_i80_i_i_i_i) + (u64)(v_10_sroa_0_0_i_i_i76_i_i_i_i));
-    v_3_i_i_i81_i_i_i_i = v_189 < 128u;
-    if (v_3_i_i_i81_i_i_i_i) { p_v_sink_i_i_i = 2u; goto L_AnyRef_quick_len_exit_i35_i_i_i_i; } else { goto L_bb4_i_i_i82_i_i_i_i; }
-L_bb4_i_i_i82_i_i_i_i:;
-    v_4_i_i_i83_i_i_i_i = v_189 < 256u;
-    if (v_4_i_i_i83_i_i_i_i) { p_v_sink_i_i_i = 3u; goto L_AnyRef_quick_len_exit_i35_i_i_i_i; } else { goto L_bb6_i_i_i84_i_i_i_i; }
-L_bb6_i_i_i84_i_i_i_i:;
-    v_5_i_i_i85_i_i_i_i = v_189 < 65536u;
-    if (v_5_i_i_i85_i_i_i_i) { p_v_sink_i_i_i = 4u; goto L_AnyRef_quick_len_exit_i35_i_i_i_i; } else { goto L_bb8_i_i_i86_i_i_i_i; }
-L_bb8_i_i_i86_i_i_i_i:;
-    v_6_i_i_i87_i_i_i_i = v_189 < 16777216u;
-    v_i_i_i = v_6_i_i_i87_i_i_i_i ? 5u : 6u;
-    { p_v_sink_i_i_i = v_i_i_i; goto L_AnyRef_quick_len_exit_i35_i_i_i_i; }
-L_AnyRef_quick_len_exit_i35_i_i_i_i:;
-    v_sink_i_i_i = p_v_sink_i_i_i;
-    v_190 = (u64)((u64)(v_sink_i_i_i) + (u64)(v_189));
-    { p_v_sink70_i_i_i = v_190; p_v_0_sroa_0_0_i705_i_sink_i_i_i = v_175; goto L_EncodeValue_quick_value_len_exit_i_i_i; }
-L_bb7_i_i_i_i27_i:;
-    if (v_0_sroa_0_0_i) { goto L_bb6_i266_i_i_i_i; } else { goto L_bb7_i140_i_i_i_i; }
-L_bb6_i266_i_i_i_i:;
-    if (v_not__2) { p_v_0_sroa_0_0_i170_i_i_i_i = 0u; goto L_bb6_i_i_i_i_i28_i; } else { goto L_bb7_i274_i_i_i_i; }
-L_bb7_i274_i_i_i_i:;
-    v_29_i_i311_i_i_i_i = (u8)(v_9_i176 ^ ((u8)1 << 7)) > (u8)(255u ^ ((u8)1 << 7));
-    v_i_i312_i_i_i_i = v_29_i_i311_i_i_i_i ? 5u : 6u;
-    { p_v_0_sroa_0_0_i170_i_i_i_i = v_i_i312_i_i_i_i; goto L_bb6_i_i_i_i_i28_i; }
-L_bb7_i140_i_i_i_i:;
-    v_29_i_i444_i_i_i_i = (u8)(v_9_i176 ^ ((u8)1 << 7)) > (u8)(255u ^ ((u8)1 << 7));
-    v_i_i445_i_i_i_i = v_29_i_i444_i_i_i_i ? 5u : 6u;
-    v_191 = v_not__2 ? 0u : v_i_i445_i_i_i_i;
-    v_192 = v_made_i + 48;
-    v_0_1_i97_i_i182_i_i_i_i = get_u64(v_192);
-    if (v_90) { p_v_10_sroa_0_0_i_i_i209_i_i_i_i = 0u; goto L_EncodeValue_quick_value_len_exit_i_i208_i_i_i_i; } else { goto L_bb10_i51_i_i184_i_i_i_i; }
-L_bb10_i51_i_i184_i_i_i_i:;
-    v_193 = v_made_i + 64;
-    v_0_1_i95_i_i186_i_i_i_i = get_u64(v_193);
-    v_194 = v_made_i + 72;
-    v_195 = get_P(v_194);
-    v_196 = v_195 == (P)0;
-    v_197 = v_made_i + 80;
-    v_4_1_i89_i_i189_i_i_i_i = get_u64(v_197);
-    v_5_i90_i_i190_i_i_i_i = v_4_1_i89_i_i189_i_i_i_i < 128u;
-    v_198 = (u64)((u64)(v_4_1_i89_i_i189_i_i_i_i) + (u64)(2u));
-    v_0_sroa_0_0_i91_i_i191_i_i_i_i = v_5_i90_i_i190_i_i_i_i ? v_198 : 4294967296ull;
-    v_10_sroa_0_0_i59_i_i193_i_i_i_i = v_196 ? 0u : v_0_sroa_0_0_i91_i_i191_i_i_i_i;
-    v_0_i102_i_i195_i_i_i_i = (u64)((u64)(v_0_1_i95_i_i186_i_i_i_i) & (u64)(255u));
-    v_3_i_i61_i_i196_i_i_i_i = v_0_i102_i_i195_i_i_i_i < 128u;
-    v_0_sroa_0_0_i_i62_i_i197_i_v_i_i_i = v_3_i_i61_i_i196_i_i_i_i ? 2u : 3u;
-    v_0_sroa_0_0_i_i62_i_i197_i_i_i_i = (u64)((u64)(v_0_sroa_0_0_i_i62_i_i197_i_v_i_i_i) + (u64)(v_0_i102_i_i195_i_i_i_i));
-    v_199 = (u64)((u64)(v_0_sroa_0_0_i_i62_i_i197_i_i_i_i) + (u64)(v_10_sroa_0_0_i59_i_i193_i_i_i_i));
-    v_3_i_i_i_i198_i_i_i_i = v_199 < 128u;
-    if (v_3_i_i_i_i198_i_i_i_i) { goto L_bb3_i_i_i_i233_i_i_i_i; } else { goto L_bb4_i_i_i_i199_i_i_i_i; }
-L_bb4_i_i_i_i199_i_i_i_i:;
-    v_4_i_i_i_i200_i_i_i_i = v_199 < 256u;
-    if (v_4_i_i_i_i200_i_i_i_i) { goto L_bb5_i_i_i_i232_i_i_i_i; } else { goto L_bb6_i_i_i_i201_i_i_i_i; }
-L_bb3_i_i_i_i233_i_i_i_i:;
-    v_200 = (u64)((u64)(v_199) + (u64)(2u));
-    { p_v_10_sroa_0_0_i_i_i209_i_i_i_i = v_200; goto L_EncodeValue_quick_value_len_exit_i_i208_i_i_i_i; }
-L_bb6_i_i_i_i201_i_i_i_i:;
-    v_5_i_i_i_i202_i_i_i_i = v_199 < 65536u;
-    if (v_5_i_i_i_i202_i_i_i_i) { goto L_bb7_i_i_i_i231_i_i_i_i; } else { goto L_bb8_i_i_i_i203_i_i_i_i; }
-L_bb5_i_i_i_i232_i_i_i_i:;
-    v_201 = (u64)((u64)(v_199) + (u64)(3u));
-    { p_v_10_sroa_0_0_i_i_i209_i_i_i_i = v_201; goto L_EncodeValue_quick_value_len_exit_i_i208_i_i_i_i; }
-L_bb8_i_i_i_i203_i_i_i_i:;
-    v_6_i_i_i_i204_i_i_i_i = v_199 < 16777216u;
-    if (v_6_i_i_i_i204_i_i_i_i) { goto L_bb9_i_i_i_i230_i_i_i_i; } else { goto L_bb10_i_i_i_i205_i_i_i_i; }
-L_bb7_i_i_i_i231_i_i_i_i:;
-    v_202 = (u64)((u64)(v_199) + (u64)(4u));
-    { p_v_10_sroa_0_0_i_i_i209_i_i_i_i = v_202; goto L_EncodeValue_quick_value_len_exit_i_i208_i_i_i_i; }
-L_bb10_i_i_i_i205_i_i_i_i:;
-    v_203 = (u64)((u64)(v_199) + (u64)(6u));
-    { p_v_10_sroa_0_0_i_i_i209_i_i_i_i = v_203; goto L_EncodeValue_quick_value_len_exit_i_i208_i_i_i_i; }
-L_bb9_i_i_i_i230_i_i_i_i:;
-    v_204 = (u64)((u64)(v_199) + (u64)(5u));
-    { p_v_10_sroa_0_0_i_i_i209_i_i_i_i = v_204; goto L_EncodeValue_quick_value_len_exit_i_i208_i_i_i_i; }
-L_EncodeValue_quick_value_len_exit_i_i208_i_i_i_i:;
-    v_10_sroa_0_0_i_i_i209_i_i_i_i = p_v_10_sroa_0_0_i_i_i209_i_i_i_i;
-    v_0_i104_i_i211_i_i_i_i = (u64)((u64)(v_0_1_i97_i_i182_i_i_i_i) & (u64)(255u));
-    v_3_i2_i_i_i212_i_i_i_i = v_0_i104_i_i211_i_i_i_i < 128u;
-    v_0_sroa_0_0_i3_i_i_i213_i_v_i_i_i = v_3_i2_i_i_i212_i_i_i_i ? 2u : 3u;
-    v_0_sroa_0_0_i3_i_i_i213_i_i_i_i = (u64)((u64)(v_0_sroa_0_0_i3_i_i_i213_i_v_i_i_i) + (u64)(v_0_i104_i_i211_i_i_i_i));
-    v_205 = (u64)((u64)(v_0_sroa_0_0_i3_i_i_i213_i_i_i_i) + (u64)(v_10_sroa_0_0_i_i_i209_i_i_i_i));
-    v_3_i_i_i214_i_i_i_i = v_205 < 128u;
-    if (v_3_i_i_i214_i_i_i_i) { p_v_sink66_i_i_i = 2u; goto L_AnyRef_quick_len_exit_i168_i_i_i_i; } else { goto L_bb4_i_i_i215_i_i_i_i; }
-L_bb4_i_i_i215_i_i_i_i:;
-    v_4_i_i_i216_i_i_i_i = v_205 < 256u;
-    if (v_4_i_i_i216_i_i_i_i) { p_v_sink66_i_i_i = 3u; goto L_AnyRef_quick_len_exit_i168_i_i_i_i; } else { goto L_bb6_i_i_i217_i_i_i_i; }
-L_bb6_i_i_i217_i_i_i_i:;
-    v_5_i_i_i218_i_i_i_i = v_205 < 65536u;
-    if (v_5_i_i_i218_i_i_i_i) { p_v_sink66_i_i_i = 4u; goto L_AnyRef_quick_len_exit_i168_i_i_i_i; } else { goto L_bb8_i_i_i219_i_i_i_i; }
-L_bb8_i_i_i219_i_i_i_i:;
-    v_6_i_i_i220_i_i_i_i = v_205 < 16777216u;
-    v_71_i_i_i = v_6_i_i_i220_i_i_i_i ? 5u : 6u;
-    { p_v_sink66_i_i_i = v_71_i_i_i; goto L_AnyRef_quick_len_exit_i168_i_i_i_i; }
-L_AnyRef_quick_len_exit_i168_i_i_i_i:;
-    v_sink66_i_i_i = p_v_sink66_i_i_i;
-    v_206 = (u64)((u64)(v_sink66_i_i_i) + (u64)(v_205));
-    v_31_i_i224_i_i_i_i = v_206 < 128u;
-    v_207 = (u64)((u64)(v_206) + (u64)(2u));
-    v_spec_select19_i_i225_i_i_i_i = v_31_i_i224_i_i_i_i ? v_207 : 4294967296ull;
-    v_208 = (u64)((u64)(v_spec_select19_i_i225_i_i_i_i) + (u64)(v_191));
-    { p_v_0_sroa_0_0_i170_i_i_i_i = v_208; goto L_bb6_i_i_i_i_i28_i; }
-L_bb6_i_i_i_i_i28_i:;
-    v_0_sroa_0_0_i170_i_i_i_i = p_v_0_sroa_0_0_i170_i_i_i_i;
-    v_209 = v_made_i + 8;
-    v_0_1_i93_i_i_i_i_i_i = get_u64(v_209);
-    v_210 = v_made_i + 24;
-    v_4_1_i86_i_i_i_i_i_i = get_u64(v_210);
-    v_5_i87_i_i_i_i_i_i = v_4_1_i86_i_i_i_i_i_i < 128u;
-    v_211 = (u64)((u64)(v_4_1_i86_i_i_i_i_i_i) + (u64)(2u));
-    v_0_sroa_0_0_i88_i_i_i_i_i_i = v_5_i87_i_i_i_i_i_i ? v_211 : 4294967296ull;
-    v_10_sroa_0_0_i69_i_i_i_i_i_i = v_70 ? 0u : v_0_sroa_0_0_i88_i_i_i_i_i_i;
-    v_0_i100_i_i_i_i_i_i = (u64)((u64)(v_0_1_i93_i_i_i_i_i_i) & (u64)(255u));
-    v_3_i_i70_i_i_i_i_i_i = v_0_i100_i_i_i_i_i_i < 128u;
-    v_0_sroa_0_0_i_i71_i_i_i_v_i_i_i = v_3_i_i70_i_i_i_i_i_i ? 2u : 3u;
-    v_0_sroa_0_0_i_i71_i_i_i_i_i_i = (u64)((u64)(v_0_sroa_0_0_i_i71_i_i_i_v_i_i_i) + (u64)(v_0_i100_i_i_i_i_i_i));
-    v_212 = (u64)((u64)(v_0_sroa_0_0_i_i71_i_i_i_i_i_i) + (u64)(v_10_sroa_0_0_i69_i_i_i_i_i_i));
-    v_3_i36_i_i_i_i_i_i = v_212 < 128u;
-    if (v_3_i36_i_i_i_i_i_i) { p_v_sink67_i_i_i = 2u; goto L_AnyRef_quick_len_exit_i_i_i_i_i; } else { goto L_bb4_i37_i_i_i_i_i_i; }
-L_bb4_i37_i_i_i_i_i_i:;
-    v_4_i38_i_i_i_i_i_i = v_212 < 256u;
-    if (v_4_i38_i_i_i_i_i_i) { p_v_sink67_i_i_i = 3u; goto L_AnyRef_quick_len_exit_i_i_i_i_i; } else { goto L_bb6_i39_i_i_i_i_i_i; }
-L_bb6_i39_i_i_i_i_i_i:;
-    v_5_i40_i_i_i_i_i_i = v_212 < 65536u;
-    if (v_5_i40_i_i_i_i_i_i) { p_v_sink67_i_i_i = 4u; goto L_AnyRef_quick_len_exit_i_i_i_i_i; } else { goto L_bb8_i41_i_i_i_i_i_i; }
-L_bb8_i41_i_i_i_i_i_i:;
-    v_6_i42_i_i_i_i_i_i = v_212 < 16777216u;
-    v_72_i_i_i = v_6_i42_i_i_i_i_i_i ? 5u : 6u;
-    { p_v_sink67_i_i_i = v_72_i_i_i; goto L_AnyRef_quick_len_exit_i_i_i_i_i; }
-L_AnyRef_quick_len_exit_i_i_i_i_i:;
-    v_sink67_i_i_i = p_v_sink67_i_i_i;
-    v_213 = (u64)((u64)(v_sink67_i_i_i) + (u64)(v_212));
-    { p_v_sink70_i_i_i = v_213; p_v_0_sroa_0_0_i705_i_sink_i_i_i = v_0_sroa_0_0_i170_i_i_i_i; goto L_EncodeValue_quick_value_len_exit_i_i_i; }
-L_EncodeValue_quick_value_len_exit_i_i_i:;
-    v_sink70_i_i_i = p_v_sink70_i_i_i;
-    v_0_sroa_0_0_i705_i_sink_i_i_i = p_v_0_sroa_0_0_i705_i_sink_i_i_i;
-    v_31_i_i91_i_i_i_i = v_sink70_i_i_i < 128u;
-    v_214 = (u64)((u64)(v_sink70_i_i_i) + (u64)(2u));
-    v_spec_select19_i_i92_i_i_i_i = v_31_i_i91_i_i_i_i ? v_214 : 4294967296ull;
-    v_215 = (u64)((u64)(v_spec_select19_i_i92_i_i_i_i) + (u64)(v_0_sroa_0_0_i705_i_sink_i_i_i));
-    v_6_i_i_i_i = v_215 < 128u;
-    if (v_6_i_i_i_i) { p_v_0_sroa_0_0_i_i53_i_i_i = v_215; goto L_bb4_i_i_i47_i; } else { goto L_bb5_i_i_i29_i; }
-L_bb5_i_i_i29_i:;
-    v_7_i_i_i30_i = v_215 < 256u;
-    if (v_7_i_i_i30_i) { goto L_bb6_i_i_i46_i; } else { goto L_bb7_i_i_i31_i; }
-L_bb4_i_i_i47_i:;
-    v_0_sroa_0_0_i_i53_i_i_i = p_v_0_sroa_0_0_i_i53_i_i_i;
-    v_216 = (u64)((u64)(v_0_sroa_0_0_i_i53_i_i_i) + (u64)(2u));
-    { p_v_0_sroa_31_0_in_i_i_ph_i_i = v_216; goto L_bb8_i_thread_i_i; }
-L_bb7_i_i_i31_i:;
-    v_8_i_i_i_i = v_215 < 65536u;
-    if (v_8_i_i_i_i) { goto L_bb8_i_i_i_i; } else { goto L_bb9_i_i_i_i; }
-L_bb6_i_i_i46_i:;
-    v_217 = (u64)((u64)(v_215) + (u64)(3u));
-    { p_v_0_sroa_31_0_in_i_i_ph_i_i = v_217; goto L_bb8_i_thread_i_i; }
-L_bb9_i_i_i_i:;
-    v_9_i_i_i_i = v_215 < 16777216u;
-    if (v_9_i_i_i_i) { goto L_bb10_i_i_i_i; } else { goto L_bb3_i_i_i_i; }
-L_bb8_i_i_i_i:;
-    v_218 = (u64)((u64)(v_215) + (u64)(4u));
-    { p_v_0_sroa_31_0_in_i_i_ph_i_i = v_218; goto L_bb8_i_thread_i_i; }
-L_bb10_i_i_i_i:;
-    v_219 = (u64)((u64)(v_215) + (u64)(5u));
-    { p_v_0_sroa_31_0_in_i_i_ph_i_i = v_219; goto L_bb8_i_thread_i_i; }
-L_bb3_i_i_i_i:;
-    v_220 = (u64)((u64)(v_215) + (u64)(6u));
-    v_10_i_i_i32_i = v_215 < 4294967290ull;
-    if (v_10_i_i_i32_i) { p_v_0_sroa_31_0_in_i_i_ph_i_i = v_220; goto L_bb8_i_thread_i_i; } else { goto L_bb8_i_i33_i; }
-L_bb8_i_thread_i_i:;
-    v_0_sroa_31_0_in_i_i_ph_i_i = p_v_0_sroa_31_0_in_i_i_ph_i_i;
-    v_0_sroa_31_0_insert_shift_i_i11_i_i = (u64)((u64)(v_0_sroa_31_0_in_i_i_ph_i_i) << (u64)((32u & 63)));
-    { p_v_sroa_09_0_insert_insert65_i_i_i = v_0_sroa_31_0_insert_shift_i_i11_i_i; goto L_EncodeValue_value_len_exit_i_i; }
-L_bb8_i_i33_i:;
-    v_221 = f_any_AnyRef__2(v_made_i, v_0_i_i);
-    v_trunc18_i_i_i_i = (u1)((v_221) & 1);
-    if (v_trunc18_i_i_i_i) { p_v_0_sroa_0_0_insert_insert_i173_i = v_221; goto L_bb3_i389; } else { p_v_sroa_09_0_insert_insert65_i_i_i = v_221; goto L_EncodeValue_value_len_exit_i_i; }
-L_EncodeValue_value_len_exit_i_i:;
-    v_sroa_09_0_insert_insert65_i_i_i = p_v_sroa_09_0_insert_insert65_i_i_i;
-    v_sroa_57_0_extract_shift_i_i_i_i = (u64)((u64)(v_sroa_09_0_insert_insert65_i_i_i) & (u64)(18446744069414584320ull));
-    v_11_1_i_i_i_i_i = v_sroa_09_0_insert_insert65_i_i_i > 18446744026464911359ull;
-    v_222 = (u64)((u64)(v_sroa_57_0_extract_shift_i_i_i_i) + (u64)(47244642048ull));
-    v_0_sroa_0_0_insert_insert_i_i_i_i_i = v_11_1_i_i_i_i_i ? 1793u : v_222;
-    v_sroa_4_0_extract_shift14_i_i_i_i = (u64)((u64)(v_0_sroa_0_0_insert_insert_i_i_i_i_i) & (u64)(18446744069414586112ull));
-    v_trunc_i_i = (u1)((v_0_sroa_0_0_insert_insert_i_i_i_i_i) & 1);
-    if (v_trunc_i_i) { p_v_0_sroa_0_0_insert_insert_i173_i = v_sroa_4_0_extract_shift14_i_i_i_i; goto L_bb3_i389; } else { goto L_bb6_i34_i; }
-L_bb6_i34_i:;
-    v_sroa_5_0_extract_shift_i35_i = (u64)((u64)(v_0_sroa_0_0_insert_insert_i_i_i_i_i) >> (u64)((32u & 63)));
-    v_10_i_i_i369 = v_0_sroa_0_0_insert_insert_i_i_i_i_i < 549755813888ull;
-    if (v_10_i_i_i369) { p_v_sink_i7_i_i = 2u; goto L_Encode_encoded_len_exit_i; } else { goto L_bb4_i_i36_i; }
-L_bb4_i_i36_i:;
-    v_11_i_i37_i = v_0_sroa_0_0_insert_insert_i_i_i_i_i < 1099511627776ull;
-    if (v_11_i_i37_i) { p_v_sink_i7_i_i = 3u; goto L_Encode_encoded_len_exit_i; } else { goto L_bb6_i_i38_i; }
-L_bb6_i_i38_i:;
-    v_12_i_i39_i = v_0_sroa_0_0_insert_insert_i_i_i_i_i < 281474976710656ull;
-    if (v_12_i_i39_i) { p_v_sink_i7_i_i = 4u; goto L_Encode_encoded_len_exit_i; } else { goto L_bb8_i5_i_i; }
-L_bb8_i5_i_i:;
-    v_13_i_i40_i = v_0_sroa_0_0_insert_insert_i_i_i_i_i < 72057594037927936ull;
-    v_i6_i_i = v_13_i_i40_i ? 5u : 6u;
-    { p_v_sink_i7_i_i = v_i6_i_i; goto L_Encode_encoded_len_exit_i; }
-L_Encode_encoded_len_exit_thread_i:;
-    v_0_sroa_31_0_in_i_ph_i = p_v_0_sroa_31_0_in_i_ph_i;
-    v_0_sroa_31_0_insert_shift_i157_i = (u64)((u64)(v_0_sroa_31_0_in_i_ph_i) << (u64)((32u & 63)));
-    { p_v_0_sroa_0_0_insert_insert_i161_i = v_0_sroa_31_0_insert_shift_i157_i; goto L_bb4_i370; }
-L_Encode_encoded_len_exit_i:;
-    v_sink_i7_i_i = p_v_sink_i7_i_i;
-    v_223 = (u64)((u64)(v_sink_i7_i_i) + (u64)(v_sroa_5_0_extract_shift_i35_i));
-    v_14_i_i41_i = v_223 < 4294967296ull;
-    v_224 = (u64)((u64)(v_223) << (u64)((32u & 63)));
-    v_225 = (u64)((u64)(v_224) | (u64)(1792u));
-    v_0_sroa_0_0_insert_insert_i_i_i = v_14_i_i41_i ? v_225 : 1793u;
-    v_trunc_i = (u1)((v_0_sroa_0_0_insert_insert_i_i_i) & 1);
-    if (v_trunc_i) { p_v_0_sroa_0_0_insert_insert_i173_i = v_0_sroa_0_0_insert_insert_i_i_i; goto L_bb3_i389; } else { p_v_0_sroa_0_0_insert_insert_i161_i = v_0_sroa_0_0_insert_insert_i_i_i; goto L_bb4_i370; }
-L_bb4_i370:;
-    v_0_sroa_0_0_insert_insert_i161_i = p_v_0_sroa_0_0_insert_insert_i161_i;
-    v_sroa_5_0_extract_shift_i = (u64)((u64)(v_0_sroa_0_0_insert_insert_i161_i) >> (u64)((32u & 63)));
-    v_4_i_i = v_sroa_5_0_extract_shift_i > v_out_1;
-    if (v_4_i_i) { p_v_253 = 15u; goto L_any_AnyRef_exit_i; } else { goto L_bb7_i49_i; }
-L_bb7_i49_i:;
-    put_P(v_writer_i_i360, v_out_0);
-    v_226 = v_writer_i_i360 + 8;
-    put_u64(v_226, v_sroa_5_0_extract_shift_i);
-    v_227 = v_writer_i_i360 + 16;
-    put_u64(v_227, v_sroa_5_0_extract_shift_i);
-    f_EncodeValue_prepend_value__2(v_made_i, v_0_i_i, v_writer_i_i360);
-    v_15_1_i_i_i = get_u64(v_226);
-    v_14_i_i51_i = get_u64(v_227);
-    v_7_i_i52_i = (u64)((u64)(v_15_1_i_i_i) - (u64)(v_14_i_i51_i));
-    v_16_i_i_i371 = (u32)(v_7_i_i52_i);
-    v_4_i_i_i_i = v_16_i_i_i371 < 128u;
-    if (v_4_i_i_i_i) { goto L_bb1_i_i_i_i; } else { goto L_bb2_i_i_i54_i; }
-L_bb2_i_i_i54_i:;
-    v_9_i_i_i55_i = v_16_i_i_i371 < 256u;
-    if (v_9_i_i_i55_i) { goto L_bb3_i_i_i68_i; } else { goto L_bb4_i_i_i56_i; }
-L_bb1_i_i_i_i:;
-    v_8_i_i_i69_i = (u16)(v_7_i_i52_i);
-    v_48_0_i_i_i_i = get_P(v_writer_i_i360);
-    v_start1_i_i_i_i_i = (u64)((u64)(v_14_i_i51_i) + (u64)(18446744073709551614ull));
-    v_8_not_i_i_i_i_i = v_14_i_i51_i > v_15_1_i_i_i;
-    if (v_8_not_i_i_i_i_i) { goto L_bb4_i_i_i_i71_i; } else { goto L_bb2_i_i_i_i_i; }
-L_bb4_i_i_i_i71_i:;
-    TRAP();
-    TRAP();
-L_bb2_i_i_i_i_i:;
-    v_15_not_i_i_i_i_i = v_14_i_i51_i < 2u;
-    if (v_15_not_i_i_i_i_i) { goto L_bb7_i_i_i_i70_i; } else { goto L_copy_from_slice_pkcs1_c_exit_i_i; }
-L_bb7_i_i_i_i70_i:;
-    TRAP();
-    TRAP();
-L_copy_from_slice_pkcs1_c_exit_i_i:;
-    v_228 = v_48_0_i_i_i_i + (int64_t)(v_start1_i_i_i_i_i);
-    v_7_i_i_sroa_0_sroa_4_0_insert_shift_i_i = (u16)((u32)(v_8_i_i_i69_i) << (u32)((8u & 31)));
-    v_7_i_i_sroa_0_sroa_0_0_insert_insert_i_i = (u16)((u32)(v_7_i_i_sroa_0_sroa_4_0_insert_shift_i_i) | (u32)(48u));
-    put_u16(v_228, v_7_i_i_sroa_0_sroa_0_0_insert_insert_i_i);
-    { p_v_48_0_i_i_i = v_48_0_i_i_i_i; p_v_11_i27_i_i = v_start1_i_i_i_i_i; goto L_bb8_i60_i; }
-L_bb4_i_i_i56_i:;
-    v_14_i_i_i57_i = v_16_i_i_i371 < 65536u;
-    if (v_14_i_i_i57_i) { goto L_bb5_i_i_i66_i; } else { goto L_bb6_i_i_i58_i; }
-L_bb3_i_i_i68_i:;
-    v_13_i_i_i_i = (u8)(v_7_i_i52_i);
-    v_51_0_i_i_i_i = get_P(v_writer_i_i360);
-    v_start1_i11_i_i_i_i = (u64)((u64)(v_14_i_i51_i) + (u64)(18446744073709551613ull));
-    v_8_not_i12_i_i_i_i = v_14_i_i51_i > v_15_1_i_i_i;
-    if (v_8_not_i12_i_i_i_i) { goto L_bb4_i20_i_i_i_i; } else { goto L_bb2_i13_i_i_i_i; }
-L_bb4_i20_i_i_i_i:;
-    TRAP();
-    TRAP();
-L_bb2_i13_i_i_i_i:;
-    v_15_not_i15_i_i_i_i = v_14_i_i51_i < 3u;
-    if (v_15_not_i15_i_i_i_i) { goto L_bb7_i19_i_i_i_i; } else { goto L_copy_from_slice_pkcs1_c_exit138_i_i; }
-L_bb7_i19_i_i_i_i:;
-    TRAP();
-    TRAP();
-L_copy_from_slice_pkcs1_c_exit138_i_i:;
-    v_229 = v_51_0_i_i_i_i + (int64_t)(v_start1_i11_i_i_i_i);
-    put_u8(v_229, 48u);
-    v_12_i_i_sroa_4_0_sroa_idx_i_i = v_229 + 1;
-    put_u8(v_12_i_i_sroa_4_0_sroa_idx_i_i, 129u);
-    v_12_i_i_sroa_5_0_sroa_idx_i_i = v_229 + 2;
-    put_u8(v_12_i_i_sroa_5_0_sroa_idx_i_i, v_13_i_i_i_i);
-    { p_v_48_0_i_i_i = v_51_0_i_i_i_i; p_v_11_i27_i_i = v_start1_i11_i_i_i_i; goto L_bb8_i60_i; }
-L_bb6_i_i_i58_i:;
-    v_22_i_i_i_i = v_16_i_i_i371 < 16777216u;
-    if (v_22_i_i_i_i) { goto L_bb7_i_i_i64_i; } else { goto L_bb8_i_i_i59_i; }
-L_bb5_i_i_i66_i:;
-    v_54_0_i_i_i_i = get_P(v_writer_i_i360);
-    v_start1_i26_i_i_i_i = (u64)((u64)(v_14_i_i51_i) + (u64)(18446744073709551612ull));
-    v_8_not_i27_i_i_i_i = v_14_i_i51_i > v_15_1_i_i_i;
-    if (v_8_not_i27_i_i_i_i) { goto L_bb4_i35_i_i_i_i; } else { goto L_bb2_i28_i_i_i_i; }
-L_bb4_i35_i_i_i_i:;
-    TRAP();
-    TRAP();
-L_bb2_i28_i_i_i_i:;
-    v_15_not_i30_i_i_i_i = v_14_i_i51_i < 4u;
-    if (v_15_not_i30_i_i_i_i) { goto L_bb7_i34_i_i_i_i; } else { goto L_copy_from_slice_pkcs1_c_exit141_i_i; }
-L_bb7_i34_i_i_i_i:;
-    TRAP();
-    TRAP();
-L_copy_from_slice_pkcs1_c_exit141_i_i:;
-    v_230 = v_54_0_i_i_i_i + (int64_t)(v_start1_i26_i_i_i_i);
-    v_231 = (u32)((u32)(v_16_i_i_i371) | (u32)(813826048u));
-    v_17_i_i_sroa_0_sroa_0_0_insert_insert_i_i = TURNED(32, v_231);
-    put_u32(v_230, v_17_i_i_sroa_0_sroa_0_0_insert_insert_i_i);
-    { p_v_48_0_i_i_i = v_54_0_i_i_i_i; p_v_11_i27_i_i = v_start1_i26_i_i_i_i; goto L_bb8_i60_i; }
-L_bb8_i_i_i59_i:;
-    v_371_i_i_i_i = (u64)((u64)(v_7_i_i52_i) >> (u64)((24u & 63)));
-    v_36_i_i_i_i = (u8)(v_371_i_i_i_i);
-    v_402_i_i_i_i = (u64)((u64)(v_7_i_i52_i) >> (u64)((16u & 63)));
-    v_38_i_i_i_i = (u8)(v_402_i_i_i_i);
-    v_433_i_i_i_i = (u64)((u64)(v_7_i_i52_i) >> (u64)((8u & 63)));
-    v_41_i_i_i_i = (u8)(v_433_i_i_i_i);
-    v_44_i_i_i_i = (u8)(v_7_i_i52_i);
-    v_60_0_i_i_i_i = get_P(v_writer_i_i360);
-    v_start1_i56_i_i_i_i = (u64)((u64)(v_14_i_i51_i) + (u64)(18446744073709551610ull));
-    v_8_not_i57_i_i_i_i = v_14_i_i51_i > v_15_1_i_i_i;
-    if (v_8_not_i57_i_i_i_i) { goto L_bb4_i65_i_i_i_i; } else { goto L_bb2_i58_i_i_i_i; }
-L_bb4_i65_i_i_i_i:;
-    TRAP();
-    TRAP();
-L_bb2_i58_i_i_i_i:;
-    v_15_not_i60_i_i_i_i = v_14_i_i51_i < 6u;
-    if (v_15_not_i60_i_i_i_i) { goto L_bb7_i64_i_i_i_i; } else { goto L_copy_from_slice_pkcs1_c_exit144_i_i; }
-L_bb7_i64_i_i_i_i:;
-    TRAP();
-    TRAP();
-L_copy_from_slice_pkcs1_c_exit144_i_i:;
-    v_232 = v_60_0_i_i_i_i + (int64_t)(v_start1_i56_i_i_i_i);
-    put_u8(v_232, 48u);
-    v_35_i_i_sroa_4_0_sroa_idx_i_i = v_232 + 1;
-    put_u8(v_35_i_i_sroa_4_0_sroa_idx_i_i, 132u);
-    v_35_i_i_sroa_5_0_sroa_idx_i_i = v_232 + 2;
-    put_u8(v_35_i_i_sroa_5_0_sroa_idx_i_i, v_36_i_i_i_i);
-    v_35_i_i_sroa_6_0_sroa_idx_i_i = v_232 + 3;
-    put_u8(v_35_i_i_sroa_6_0_sroa_idx_i_i, v_38_i_i_i_i);
-    v_35_i_i_sroa_7_0_sroa_idx_i_i = v_232 + 4;
-    put_u8(v_35_i_i_sroa_7_0_sroa_idx_i_i, v_41_i_i_i_i);
-    v_35_i_i_sroa_8_0_sroa_idx_i_i = v_232 + 5;
-    put_u8(v_35_i_i_sroa_8_0_sroa_idx_i_i, v_44_i_i_i_i);
-    { p_v_48_0_i_i_i = v_60_0_i_i_i_i; p_v_11_i27_i_i = v_start1_i56_i_i_i_i; goto L_bb8_i60_i; }
-L_bb7_i_i_i64_i:;
-    v_274_i_i_i_i = (u64)((u64)(v_7_i_i52_i) >> (u64)((16u & 63)));
-    v_26_i_i_i_i = (u8)(v_274_i_i_i_i);
-    v_305_i_i_i_i = (u64)((u64)(v_7_i_i52_i) >> (u64)((8u & 63)));
-    v_28_i_i_i_i = (u8)(v_305_i_i_i_i);
-    v_31_i_i_i65_i = (u8)(v_7_i_i52_i);
-    v_57_0_i_i_i_i = get_P(v_writer_i_i360);
-    v_start1_i41_i_i_i_i = (u64)((u64)(v_14_i_i51_i) + (u64)(18446744073709551611ull));
-    v_8_not_i42_i_i_i_i = v_14_i_i51_i > v_15_1_i_i_i;
-    if (v_8_not_i42_i_i_i_i) { goto L_bb4_i50_i_i_i_i; } else { goto L_bb2_i43_i_i_i_i; }
-L_bb4_i50_i_i_i_i:;
-    TRAP();
-    TRAP();
-L_bb2_i43_i_i_i_i:;
-    v_15_not_i45_i_i_i_i = v_14_i_i51_i < 5u;
-    if (v_15_not_i45_i_i_i_i) { goto L_bb7_i49_i_i_i_i; } else { goto L_copy_from_slice_pkcs1_c_exit147_i_i; }
-L_bb7_i49_i_i_i_i:;
-    TRAP();
-    TRAP();
-L_copy_from_slice_pkcs1_c_exit147_i_i:;
-    v_233 = v_57_0_i_i_i_i + (int64_t)(v_start1_i41_i_i_i_i);
-    put_u8(v_233, 48u);
-    v_25_i_i_sroa_4_0_sroa_idx_i_i = v_233 + 1;
-    put_u8(v_25_i_i_sroa_4_0_sroa_idx_i_i, 131u);
-    v_25_i_i_sroa_5_0_sroa_idx_i_i = v_233 + 2;
-    put_u8(v_25_i_i_sroa_5_0_sroa_idx_i_i, v_26_i_i_i_i);
-    v_25_i_i_sroa_6_0_sroa_idx_i_i = v_233 + 3;
-    put_u8(v_25_i_i_sroa_6_0_sroa_idx_i_i, v_28_i_i_i_i);
-    v_25_i_i_sroa_7_0_sroa_idx_i_i = v_233 + 4;
-    put_u8(v_25_i_i_sroa_7_0_sroa_idx_i_i, v_31_i_i_i65_i);
-    { p_v_48_0_i_i_i = v_57_0_i_i_i_i; p_v_11_i27_i_i = v_start1_i41_i_i_i_i; goto L_bb8_i60_i; }
-L_bb8_i60_i:;
-    v_48_0_i_i_i = p_v_48_0_i_i_i;
-    v_11_i27_i_i = p_v_11_i27_i_i;
-    v_before_neg_i28_i_i = (u64)((u64)(v_11_i27_i_i) - (u64)(v_15_1_i_i_i));
-    v_8_not_i_i_i61_i = v_11_i27_i_i > v_15_1_i_i_i;
-    if (v_8_not_i_i_i61_i) { goto L_bb4_i_i152_i_i; } else { goto L_bb2_i_i150_i_i; }
-L_bb4_i_i152_i_i:;
-    TRAP();
-    TRAP();
-L_bb2_i_i150_i_i:;
-    v_15_not_i_i_i62_i = v_11_i27_i_i < 9u;
-    if (v_15_not_i_i_i62_i) { goto L_bb7_i_i151_i_i; } else { goto L_EncodeValue_prepend_value_exit_i_i; }
-L_bb7_i_i151_i_i:;
-    TRAP();
-    TRAP();
-L_EncodeValue_prepend_value_exit_i_i:;
-    v_start1_i_i_i63_i = (u64)((u64)(v_11_i27_i_i) + (u64)(18446744073709551607ull));
-    v_234 = v_48_0_i_i_i + (int64_t)(v_start1_i_i_i63_i);
-    copy(v_234, AT(f_alloc_4af27385a537e9a19a48ac4200653248), 9u);
-    v_7_i31_i_i372 = (u64)((u64)(v_15_1_i_i_i) - (u64)(v_start1_i_i_i63_i));
-    v_6_i32_i_i = (u64)((u64)(v_7_i31_i_i372) + (u64)(v_before_neg_i28_i_i));
-    v_16_i33_i_i = (u32)(v_6_i32_i_i);
-    v_4_i_i35_i_i = v_16_i33_i_i < 128u;
-    if (v_4_i_i35_i_i) { goto L_bb1_i_i118_i_i; } else { goto L_bb2_i_i36_i_i; }
-L_bb2_i_i36_i_i:;
-    v_9_i_i37_i_i = v_16_i33_i_i < 256u;
-    if (v_9_i_i37_i_i) { goto L_bb3_i_i102_i_i; } else { goto L_bb4_i_i38_i_i; }
-L_bb1_i_i118_i_i:;
-    v_15_not_i_i_i127_i_i = v_start1_i_i_i63_i < 2u;
-    if (v_15_not_i_i_i127_i_i) { goto L_bb7_i_i_i132_i_i; } else { goto L_copy_from_slice_pkcs1_c_exit155_i_i; }
-L_bb7_i_i_i132_i_i:;
-    TRAP();
-    TRAP();
-L_copy_from_slice_pkcs1_c_exit155_i_i:;
-    v_start1_i_i_i123_i_i = (u64)((u64)(v_11_i27_i_i) + (u64)(18446744073709551605ull));
-    v_8_i_i119_i_i = (u16)(v_6_i32_i_i);
-    v_235 = v_48_0_i_i_i + (int64_t)(v_start1_i_i_i123_i_i);
-    v_7_i_i25_sroa_0_sroa_4_0_insert_shift_i_i = (u16)((u32)(v_8_i_i119_i_i) << (u32)((8u & 31)));
-    v_7_i_i25_sroa_0_sroa_0_0_insert_insert_i_i = (u16)((u32)(v_7_i_i25_sroa_0_sroa_4_0_insert_shift_i_i) | (u32)(6u));
-    put_u16(v_235, v_7_i_i25_sroa_0_sroa_0_0_insert_insert_i_i);
-    { p_v_start1_i_i_i123_sink_i_i = v_start1_i_i_i123_i_i; goto L_EncodeValue_prepend_value_exit_i; }
-L_bb4_i_i38_i_i:;
-    v_14_i_i39_i_i = v_16_i33_i_i < 65536u;
-    if (v_14_i_i39_i_i) { goto L_bb5_i_i84_i_i; } else { goto L_bb6_i_i40_i_i; }
-L_bb3_i_i102_i_i:;
-    v_15_not_i15_i_i111_i_i = v_start1_i_i_i63_i < 3u;
-    if (v_15_not_i15_i_i111_i_i) { goto L_bb7_i19_i_i116_i_i; } else { goto L_copy_from_slice_pkcs1_c_exit158_i_i; }
-L_bb7_i19_i_i116_i_i:;
-    TRAP();
-    TRAP();
-L_copy_from_slice_pkcs1_c_exit158_i_i:;
-    v_start1_i11_i_i107_i_i = (u64)((u64)(v_11_i27_i_i) + (u64)(18446744073709551604ull));
-    v_13_i_i103_i_i = (u8)(v_6_i32_i_i);
-    v_236 = v_48_0_i_i_i + (int64_t)(v_start1_i11_i_i107_i_i);
-    put_u8(v_236, 6u);
-    v_12_i_i24_sroa_4_0_sroa_idx_i_i = v_236 + 1;
-    put_u8(v_12_i_i24_sroa_4_0_sroa_idx_i_i, 129u);
-    v_12_i_i24_sroa_5_0_sroa_idx_i_i = v_236 + 2;
-    put_u8(v_12_i_i24_sroa_5_0_sroa_idx_i_i, v_13_i_i103_i_i);
-    { p_v_start1_i_i_i123_sink_i_i = v_start1_i11_i_i107_i_i; goto L_EncodeValue_prepend_value_exit_i; }
-L_bb6_i_i40_i_i:;
-    v_22_i_i41_i_i = v_16_i33_i_i < 16777216u;
-    if (v_22_i_i41_i_i) { goto L_bb7_i_i64_i_i; } else { goto L_bb8_i_i42_i_i; }
-L_bb5_i_i84_i_i:;
-    v_15_not_i30_i_i95_i_i = v_start1_i_i_i63_i < 4u;
-    if (v_15_not_i30_i_i95_i_i) { goto L_bb7_i34_i_i100_i_i; } else { goto L_copy_from_slice_pkcs1_c_exit161_i_i; }
-L_bb7_i34_i_i100_i_i:;
-    TRAP();
-    TRAP();
-L_copy_from_slice_pkcs1_c_exit161_i_i:;
-    v_start1_i26_i_i91_i_i = (u64)((u64)(v_11_i27_i_i) + (u64)(18446744073709551603ull));
-    v_237 = v_48_0_i_i_i + (int64_t)(v_start1_i26_i_i91_i_i);
-    v_238 = (u32)((u32)(v_16_i33_i_i) | (u32)(109182976u));
-    v_17_i_i23_sroa_0_sroa_0_0_insert_insert_i_i = TURNED(32, v_238);
-    put_u32(v_237, v_17_i_i23_sroa_0_sroa_0_0_insert_insert_i_i);
-    { p_v_start1_i_i_i123_sink_i_i = v_start1_i26_i_i91_i_i; goto L_EncodeValue_prepend_value_exit_i; }
-L_bb8_i_i42_i_i:;
-    v_15_not_i60_i_i57_i_i = v_start1_i_i_i63_i < 6u;
-    if (v_15_not_i60_i_i57_i_i) { goto L_bb7_i64_i_i62_i_i; } else { goto L_copy_from_slice_pkcs1_c_exit164_i_i; }
-L_bb7_i64_i_i62_i_i:;
-    TRAP();
-    TRAP();
-L_copy_from_slice_pkcs1_c_exit164_i_i:;
-    v_start1_i56_i_i53_i_i = (u64)((u64)(v_11_i27_i_i) + (u64)(18446744073709551601ull));
-    v_44_i_i49_i_i = (u8)(v_6_i32_i_i);
-    v_433_i_i47_i_i = (u64)((u64)(v_6_i32_i_i) >> (u64)((8u & 63)));
-    v_41_i_i48_i_i = (u8)(v_433_i_i47_i_i);
-    v_402_i_i45_i_i = (u64)((u64)(v_6_i32_i_i) >> (u64)((16u & 63)));
-    v_38_i_i46_i_i = (u8)(v_402_i_i45_i_i);
-    v_371_i_i43_i_i = (u64)((u64)(v_6_i32_i_i) >> (u64)((24u & 63)));
-    v_36_i_i44_i_i = (u8)(v_371_i_i43_i_i);
-    v_239 = v_48_0_i_i_i + (int64_t)(v_start1_i56_i_i53_i_i);
-    put_u8(v_239, 6u);
-    v_35_i_i21_sroa_4_0_sroa_idx_i_i = v_239 + 1;
-    put_u8(v_35_i_i21_sroa_4_0_sroa_idx_i_i, 132u);
-    v_35_i_i21_sroa_5_0_sroa_idx_i_i = v_239 + 2;
-    put_u8(v_35_i_i21_sroa_5_0_sroa_idx_i_i, v_36_i_i44_i_i);
-    v_35_i_i21_sroa_6_0_sroa_idx_i_i = v_239 + 3;
-    put_u8(v_35_i_i21_sroa_6_0_sroa_idx_i_i, v_38_i_i46_i_i);
-    v_35_i_i21_sroa_7_0_sroa_idx_i_i = v_239 + 4;
-    put_u8(v_35_i_i21_sroa_7_0_sroa_idx_i_i, v_41_i_i48_i_i);
-    v_35_i_i21_sroa_8_0_sroa_idx_i_i = v_239 + 5;
-    put_u8(v_35_i_i21_sroa_8_0_sroa_idx_i_i, v_44_i_i49_i_i);
-    { p_v_start1_i_i_i123_sink_i_i = v_start1_i56_i_i53_i_i; goto L_EncodeValue_prepend_value_exit_i; }
-L_bb7_i_i64_i_i:;
-    v_15_not_i45_i_i77_i_i = v_start1_i_i_i63_i < 5u;
-    if (v_15_not_i45_i_i77_i_i) { goto L_bb7_i49_i_i82_i_i; } else { goto L_copy_from_slice_pkcs1_c_exit167_i_i; }
-L_bb7_i49_i_i82_i_i:;
-    TRAP();
-    TRAP();
-L_copy_from_slice_pkcs1_c_exit167_i_i:;
-    v_start1_i41_i_i73_i_i = (u64)((u64)(v_11_i27_i_i) + (u64)(18446744073709551602ull));
-    v_31_i_i69_i_i = (u8)(v_6_i32_i_i);
-    v_305_i_i67_i_i = (u64)((u64)(v_6_i32_i_i) >> (u64)((8u & 63)));
-    v_28_i_i68_i_i = (u8)(v_305_i_i67_i_i);
-    v_274_i_i65_i_i = (u64)((u64)(v_6_i32_i_i) >> (u64)((16u & 63)));
-    v_26_i_i66_i_i = (u8)(v_274_i_i65_i_i);
-    v_240 = v_48_0_i_i_i + (int64_t)(v_start1_i41_i_i73_i_i);
-    put_u8(v_240, 6u);
-    v_25_i_i22_sroa_4_0_sroa_idx_i_i = v_240 + 1;
-    put_u8(v_25_i_i22_sroa_4_0_sroa_idx_i_i, 131u);
-    v_25_i_i22_sroa_5_0_sroa_idx_i_i = v_240 + 2;
-    put_u8(v_25_i_i22_sroa_5_0_sroa_idx_i_i, v_26_i_i66_i_i);
-    v_25_i_i22_sroa_6_0_sroa_idx_i_i = v_240 + 3;
-    put_u8(v_25_i_i22_sroa_6_0_sroa_idx_i_i, v_28_i_i68_i_i);
-    v_25_i_i22_sroa_7_0_sroa_idx_i_i = v_240 + 4;
-    put_u8(v_25_i_i22_sroa_7_0_sroa_idx_i_i, v_31_i_i69_i_i);
-    { p_v_start1_i_i_i123_sink_i_i = v_start1_i41_i_i73_i_i; goto L_EncodeValue_prepend_value_exit_i; }
-L_EncodeValue_prepend_value_exit_i:;
-    v_start1_i_i_i123_sink_i_i = p_v_start1_i_i_i123_sink_i_i;
-    v_7_i5_i = (u64)((u64)(v_15_1_i_i_i) - (u64)(v_start1_i_i_i123_sink_i_i));
-    v_16_i_i373 = (u32)(v_7_i5_i);
-    v_4_i_i_i = v_16_i_i373 < 128u;
-    if (v_4_i_i_i) { goto L_bb1_i_i_i; } else { goto L_bb2_i_i_i374; }
-L_bb2_i_i_i374:;
-    v_9_i_i_i = v_16_i_i373 < 256u;
-    if (v_9_i_i_i) { goto L_bb3_i_i_i388; } else { goto L_bb4_i_i_i375; }
-L_bb1_i_i_i:;
-    v_8_i_i_i = (u16)(v_7_i5_i);
-    v_8_not_i_i_i_i = v_start1_i_i_i123_sink_i_i > v_15_1_i_i_i;
-    if (v_8_not_i_i_i_i) { goto L_bb4_i_i_i_i; } else { goto L_bb2_i_i_i_i; }
-L_bb4_i_i_i_i:;
-    TRAP();
-    TRAP();
-L_bb2_i_i_i_i:;
-    v_15_not_i_i_i_i = v_start1_i_i_i123_sink_i_i < 2u;
-    if (v_15_not_i_i_i_i) { goto L_bb7_i_i_i_i; } else { goto L_copy_from_slice_pkcs1_c_exit_i; }
-L_bb7_i_i_i_i:;
-    TRAP();
-    TRAP();
-L_copy_from_slice_pkcs1_c_exit_i:;
-    v_241 = (P)((u64)v_48_0_i_i_i + (u64)(v_start1_i_i_i123_sink_i_i));
-    v_242 = (P)((u64)v_241 + (u64)(-2));
-    v_7_i_i_sroa_0_sroa_4_0_insert_shift_i = (u16)((u32)(v_8_i_i_i) << (u32)((8u & 31)));
-    v_7_i_i_sroa_0_sroa_0_0_insert_insert_i = (u16)((u32)(v_7_i_i_sroa_0_sroa_4_0_insert_shift_i) | (u32)(48u));
-    put_u16(v_242, v_7_i_i_sroa_0_sroa_0_0_insert_insert_i);
-    { goto L_252; }
-L_bb4_i_i_i375:;
-    v_14_i_i_i376 = v_16_i_i373 < 65536u;
-    if (v_14_i_i_i376) { goto L_bb5_i_i_i387; } else { goto L_bb6_i_i_i377; }
-L_bb3_i_i_i388:;
-    v_13_i_i_i = (u8)(v_7_i5_i);
-    v_8_not_i12_i_i_i = v_start1_i_i_i123_sink_i_i > v_15_1_i_i_i;
-    if (v_8_not_i12_i_i_i) { goto L_bb4_i20_i_i_i; } else { goto L_bb2_i13_i_i_i; }
-L_bb4_i20_i_i_i:;
-    TRAP();
-    TRAP();
-L_bb2_i13_i_i_i:;
-    v_15_not_i15_i_i_i = v_start1_i_i_i123_sink_i_i < 3u;
-    if (v_15_not_i15_i_i_i) { goto L_bb7_i19_i_i_i; } else { goto L_copy_from_slice_pkcs1_c_exit76_i; }
-L_bb7_i19_i_i_i:;
-    TRAP();
-    TRAP();
-L_copy_from_slice_pkcs1_c_exit76_i:;
-    v_243 = (P)((u64)v_48_0_i_i_i + (u64)(v_start1_i_i_i123_sink_i_i));
-    v_244 = (P)((u64)v_243 + (u64)(-3));
-    put_u8(v_244, 48u);
-    v_12_i_i_sroa_4_0_sroa_idx_i = (P)((u64)v_243 + (u64)(-2));
-    put_u8(v_12_i_i_sroa_4_0_sroa_idx_i, 129u);
-    v_12_i_i_sroa_5_0_sroa_idx_i = (P)((u64)v_243 + (u64)(-1));
-    put_u8(v_12_i_i_sroa_5_0_sroa_idx_i, v_13_i_i_i);
-    { goto L_252; }
-L_bb6_i_i_i377:;
-    v_22_i_i_i378 = v_16_i_i373 < 16777216u;
-    if (v_22_i_i_i378) { goto L_bb7_i_i_i383; } else { goto L_bb8_i_i_i; }
-L_bb5_i_i_i387:;
-    v_8_not_i27_i_i_i = v_start1_i_i_i123_sink_i_i > v_15_1_i_i_i;
-    if (v_8_not_i27_i_i_i) { goto L_bb4_i35_i_i_i; } else { goto L_bb2_i28_i_i_i; }
-L_bb4_i35_i_i_i:;
-    TRAP();
-    TRAP();
-L_bb2_i28_i_i_i:;
-    v_15_not_i30_i_i_i = v_start1_i_i_i123_sink_i_i < 4u;
-    if (v_15_not_i30_i_i_i) { goto L_bb7_i34_i_i_i; } else { goto L_copy_from_slice_pkcs1_c_exit80_i; }
-L_bb7_i34_i_i_i:;
-    TRAP();
-    TRAP();
-L_copy_from_slice_pkcs1_c_exit80_i:;
-    v_245 = (P)((u64)v_48_0_i_i_i + (u64)(v_start1_i_i_i123_sink_i_i));
-    v_246 = (P)((u64)v_245 + (u64)(-4));
-    v_247 = (u32)((u32)(v_16_i_i373) | (u32)(813826048u));
-    v_17_i_i_sroa_0_sroa_0_0_insert_insert_i = TURNED(32, v_247);
-    put_u32(v_246, v_17_i_i_sroa_0_sroa_0_0_insert_insert_i);
-    { goto L_252; }
-L_bb8_i_i_i:;
-    v_371_i_i_i = (u64)((u64)(v_7_i5_i) >> (u64)((24u & 63)));
-    v_36_i_i_i379 = (u8)(v_371_i_i_i);
-    v_402_i_i_i = (u64)((u64)(v_7_i5_i) >> (u64)((16u & 63)));
-    v_38_i_i_i380 = (u8)(v_402_i_i_i);
-    v_433_i_i_i = (u64)((u64)(v_7_i5_i) >> (u64)((8u & 63)));
-    v_41_i_i_i = (u8)(v_433_i_i_i);
-    v_44_i_i_i = (u8)(v_7_i5_i);
-    v_8_not_i57_i_i_i = v_start1_i_i_i123_sink_i_i > v_15_1_i_i_i;
-    if (v_8_not_i57_i_i_i) { goto L_bb4_i65_i_i_i; } else { goto L_bb2_i58_i_i_i; }
-L_bb4_i65_i_i_i:;
-    TRAP();
-    TRAP();
-L_bb2_i58_i_i_i:;
-    v_15_not_i60_i_i_i = v_start1_i_i_i123_sink_i_i < 6u;
-    if (v_15_not_i60_i_i_i) { goto L_bb7_i64_i_i_i; } else { goto L_copy_from_slice_pkcs1_c_exit84_i; }
-L_bb7_i64_i_i_i:;
-    TRAP();
-    TRAP();
-L_copy_from_slice_pkcs1_c_exit84_i:;
-    v_248 = (P)((u64)v_48_0_i_i_i + (u64)(v_start1_i_i_i123_sink_i_i));
-    v_249 = (P)((u64)v_248 + (u64)(-6));
-    put_u8(v_249, 48u);
-    v_35_i_i_sroa_4_0_sroa_idx_i = (P)((u64)v_248 + (u64)(-5));
-    put_u8(v_35_i_i_sroa_4_0_sroa_idx_i, 132u);
-    v_35_i_i_sroa_5_0_sroa_idx_i = (P)((u64)v_248 + (u64)(-4));
-    put_u8(v_35_i_i_sroa_5_0_sroa_idx_i, v_36_i_i_i379);
-    v_35_i_i_sroa_6_0_sroa_idx_i = (P)((u64)v_248 + (u64)(-3));
-    put_u8(v_35_i_i_sroa_6_0_sroa_idx_i, v_38_i_i_i380);
-    v_35_i_i_sroa_7_0_sroa_idx_i = (P)((u64)v_248 + (u64)(-2));
-    put_u8(v_35_i_i_sroa_7_0_sroa_idx_i, v_41_i_i_i);
-    v_35_i_i_sroa_8_0_sroa_idx_i = (P)((u64)v_248 + (u64)(-1));
-    put_u8(v_35_i_i_sroa_8_0_sroa_idx_i, v_44_i_i_i);
-    { goto L_252; }
-L_bb7_i_i_i383:;
-    v_274_i_i_i = (u64)((u64)(v_7_i5_i) >> (u64)((16u & 63)));
-    v_26_i_i_i384 = (u8)(v_274_i_i_i);
-    v_305_i_i_i = (u64)((u64)(v_7_i5_i) >> (u64)((8u & 63)));
-    v_28_i_i_i385 = (u8)(v_305_i_i_i);
-    v_31_i_i_i386 = (u8)(v_7_i5_i);
-    v_8_not_i42_i_i_i = v_start1_i_i_i123_sink_i_i > v_15_1_i_i_i;
-    if (v_8_not_i42_i_i_i) { goto L_bb4_i50_i_i_i; } else { goto L_bb2_i43_i_i_i; }
-L_bb4_i50_i_i_i:;
-    TRAP();
-    TRAP();
-L_bb2_i43_i_i_i:;
-    v_15_not_i45_i_i_i = v_start1_i_i_i123_sink_i_i < 5u;
-    if (v_15_not_i45_i_i_i) { goto L_bb7_i49_i_i_i; } else { goto L_copy_from_slice_pkcs1_c_exit88_i; }
-L_bb7_i49_i_i_i:;
-    TRAP();
-    TRAP();
-L_copy_from_slice_pkcs1_c_exit88_i:;
-    v_250 = (P)((u64)v_48_0_i_i_i + (u64)(v_start1_i_i_i123_sink_i_i));
-    v_251 = (P)((u64)v_250 + (u64)(-5));
-    put_u8(v_251, 48u);
-    v_25_i_i_sroa_4_0_sroa_idx_i = (P)((u64)v_250 + (u64)(-4));
-    put_u8(v_25_i_i_sroa_4_0_sroa_idx_i, 131u);
-    v_25_i_i_sroa_5_0_sroa_idx_i = (P)((u64)v_250 + (u64)(-3));
-    put_u8(v_25_i_i_sroa_5_0_sroa_idx_i, v_26_i_i_i384);
-    v_25_i_i_sroa_6_0_sroa_idx_i = (P)((u64)v_250 + (u64)(-2));
-    put_u8(v_25_i_i_sroa_6_0_sroa_idx_i, v_28_i_i_i385);
-    v_25_i_i_sroa_7_0_sroa_idx_i = (P)((u64)v_250 + (u64)(-1));
-    put_u8(v_25_i_i_sroa_7_0_sroa_idx_i, v_31_i_i_i386);
-    { goto L_252; }
-L_252:;
-    { p_v_253 = 0u; goto L_any_AnyRef_exit_i; }
-L_any_AnyRef_exit_i:;
-    v_253 = p_v_253;
-    put_u64(v_len, v_sroa_5_0_extract_shift_i);
-    { p_v_0_sroa_0_1_i382 = v_253; goto L_any_AnyRef_exit; }
-L_bb3_i389:;
-    v_0_sroa_0_0_insert_insert_i173_i = p_v_0_sroa_0_0_insert_insert_i173_i;
-    v_sroa_4_0_extract_shift_i390 = (u64)((u64)(v_0_sroa_0_0_insert_insert_i173_i) >> (u64)((8u & 63)));
-    v_error_sroa_0_0_extract_trunc_i = (u8)(v_sroa_4_0_extract_shift_i390);
-    switch (v_error_sroa_0_0_extract_trunc_i) {
-    case 0u: { p_v_0_sroa_0_1_i382 = 1u; goto L_any_AnyRef_exit; }
-    case 1u: { goto L_bb17_i_i; }
-    case 2u: { goto L_bb16_i_i393; }
-    case 3u: { goto L_bb15_i_i; }
-    case 4u: { goto L_bb14_i_i; }
-    case 5u: { goto L_bb13_i99_i; }
-    case 6u: { goto L_bb12_i_i392; }
-    case 7u: { goto L_bb11_i98_i; }
-    case 8u: { goto L_bb10_i97_i; }
-    case 9u: { goto L_bb9_i96_i; }
-    case 10u: { goto L_bb8_i95_i; }
-    case 11u: { goto L_bb7_i94_i; }
-    case 12u: { goto L_bb6_i93_i; }
-    case 13u: { goto L_bb5_i92_i; }
-    case 14u: { goto L_bb4_i91_i; }
-    case 15u: { goto L_bb3_i90_i; }
-    case 16u: { goto L_bb2_i_i391; }
-    default: { goto L_default_unreachable_i_i; }
-    }
-L_default_unreachable_i_i:;
-    TRAP();
-L_bb17_i_i:;
-    { p_v_0_sroa_0_1_i382 = 2u; goto L_any_AnyRef_exit; }
-L_bb16_i_i393:;
-    { p_v_0_sroa_0_1_i382 = 3u; goto L_any_AnyRef_exit; }
-L_bb15_i_i:;
-    { p_v_0_sroa_0_1_i382 = 4u; goto L_any_AnyRef_exit; }
-L_bb14_i_i:;
-    { p_v_0_sroa_0_1_i382 = 5u; goto L_any_AnyRef_exit; }
-L_bb13_i99_i:;
-    { p_v_0_sroa_0_1_i382 = 6u; goto L_any_AnyRef_exit; }
-L_bb12_i_i392:;
-    { p_v_0_sroa_0_1_i382 = 7u; goto L_any_AnyRef_exit; }
-L_bb11_i98_i:;
-    { p_v_0_sroa_0_1_i382 = 8u; goto L_any_AnyRef_exit; }
-L_bb10_i97_i:;
-    { p_v_0_sroa_0_1_i382 = 9u; goto L_any_AnyRef_exit; }
-L_bb9_i96_i:;
-    { p_v_0_sroa_0_1_i382 = 10u; goto L_any_AnyRef_exit; }
-L_bb8_i95_i:;
-    { p_v_0_sroa_0_1_i382 = 11u; goto L_any_AnyRef_exit; }
-L_bb7_i94_i:;
-    { p_v_0_sroa_0_1_i382 = 12u; goto L_any_AnyRef_exit; }
-L_bb6_i93_i:;
-    { p_v_0_sroa_0_1_i382 = 13u; goto L_any_AnyRef_exit; }
-L_bb5_i92_i:;
-    { p_v_0_sroa_0_1_i382 = 14u; goto L_any_AnyRef_exit; }
-L_bb4_i91_i:;
-    { p_v_0_sroa_0_1_i382 = 15u; goto L_any_AnyRef_exit; }
-L_bb3_i90_i:;
-    { p_v_0_sroa_0_1_i382 = 16u; goto L_any_AnyRef_exit; }
-L_bb2_i_i391:;
-    { p_v_0_sroa_0_1_i382 = 17u; goto L_any_AnyRef_exit; }
-L_any_AnyRef_exit:;
-    v_0_sroa_0_1_i382 = p_v_0_sroa_0_1_i382;
-    { p_v_0_sroa_0_0_i3 = v_0_sroa_0_1_i382; goto L_pss_algorithm_write_fields_exit; }
-L_bb3_i:;
-    v_254 = v_4_i + 8;
-    v_failure_i_sroa_0_0_copyload = get_u8(v_254);
-    v_255 = (u8)((u32)(v_failure_i_sroa_0_0_copyload) + (u32)(239u));
-    v_256 = (u64)v_255;
-    v_257 = v_255 < 3u;
-    v_258 = (u64)((u64)(v_256) + (u64)(1u));
-    v_2_i = v_257 ? v_258 : 0u;
-    switch (v_2_i) {
-    case 0u: { goto L_bb5_i398; }
-    case 1u: { p_v_0_sroa_0_0_i3 = 18u; goto L_pss_algorithm_write_fields_exit; }
-    case 2u: { goto L_bb3_i397; }
-    case 3u: { goto L_bb2_i; }
-    default: { goto L_bb1_i415; }
-    }
-L_bb1_i415:;
-    TRAP();
-L_bb5_i398:;
-    switch (v_failure_i_sroa_0_0_copyload) {
-    case 0u: { p_v_0_sroa_0_0_i3 = 1u; goto L_pss_algorithm_write_fields_exit; }
-    case 1u: { goto L_bb17_i_i413; }
-    case 2u: { goto L_bb16_i_i412; }
-    case 3u: { goto L_bb15_i_i411; }
-    case 4u: { goto L_bb14_i_i410; }
-    case 5u: { goto L_bb13_i_i409; }
-    case 6u: { goto L_bb12_i_i408; }
-    case 7u: { goto L_bb11_i_i; }
-    case 8u: { goto L_bb10_i_i407; }
-    case 9u: { goto L_bb9_i_i406; }
-    case 10u: { goto L_bb8_i_i405; }
-    case 11u: { goto L_bb7_i_i404; }
-    case 12u: { goto L_bb6_i_i403; }
-    case 13u: { goto L_bb5_i_i402; }
-    case 14u: { goto L_bb4_i_i401; }
-    case 15u: { goto L_bb3_i_i400; }
-    case 16u: { goto L_bb2_i_i399; }
-    default: { goto L_default_unreachable_i_i414; }
-    }
-L_default_unreachable_i_i414:;
-    TRAP();
-L_bb17_i_i413:;
-    { p_v_0_sroa_0_0_i3 = 2u; goto L_pss_algorithm_write_fields_exit; }
-L_bb16_i_i412:;
-    { p_v_0_sroa_0_0_i3 = 3u; goto L_pss_algorithm_write_fields_exit; }
-L_bb15_i_i411:;
-    { p_v_0_sroa_0_0_i3 = 4u; goto L_pss_algorithm_write_fields_exit; }
-L_bb14_i_i410:;
-    { p_v_0_sroa_0_0_i3 = 5u; goto L_pss_algorithm_write_fields_exit; }
-L_bb13_i_i409:;
-    { p_v_0_sroa_0_0_i3 = 6u; goto L_pss_algorithm_write_fields_exit; }
-L_bb12_i_i408:;
-    { p_v_0_sroa_0_0_i3 = 7u; goto L_pss_algorithm_write_fields_exit; }
-L_bb11_i_i:;
-    { p_v_0_sroa_0_0_i3 = 8u; goto L_pss_algorithm_write_fields_exit; }
-L_bb10_i_i407:;
-    { p_v_0_sroa_0_0_i3 = 9u; goto L_pss_algorithm_write_fields_exit; }
-L_bb9_i_i406:;
-    { p_v_0_sroa_0_0_i3 = 10u; goto L_pss_algorithm_write_fields_exit; }
-L_bb8_i_i405:;
-    { p_v_0_sroa_0_0_i3 = 11u; goto L_pss_algorithm_write_fields_exit; }
-L_bb7_i_i404:;
-    { p_v_0_sroa_0_0_i3 = 12u; goto L_pss_algorithm_write_fields_exit; }
-L_bb6_i_i403:;
-    { p_v_0_sroa_0_0_i3 = 13u; goto L_pss_algorithm_write_fields_exit; }
-L_bb5_i_i402:;
-    { p_v_0_sroa_0_0_i3 = 14u; goto L_pss_algorithm_write_fields_exit; }
-L_bb4_i_i401:;
-    { p_v_0_sroa_0_0_i3 = 15u; goto L_pss_algorithm_write_fields_exit; }
-L_bb3_i_i400:;
-    { p_v_0_sroa_0_0_i3 = 16u; goto L_pss_algorithm_write_fields_exit; }
-L_bb2_i_i399:;
-    { p_v_0_sroa_0_0_i3 = 17u; goto L_pss_algorithm_write_fields_exit; }
-L_bb3_i397:;
-    { p_v_0_sroa_0_0_i3 = 19u; goto L_pss_algorithm_write_fields_exit; }
-L_bb2_i:;
-    { p_v_0_sroa_0_0_i3 = 20u; goto L_pss_algorithm_write_fields_exit; }
-L_pss_algorithm_write_fields_exit:;
-    v_0_sroa_0_0_i3 = p_v_0_sroa_0_0_i3;
-    { p_v_0_sroa_0_0 = v_0_sroa_0_0_i3; goto L_bb4; }
-L_bb13:;
-    v_start1_i_i_i_sink = p_v_start1_i_i_i_sink;
-    v_59_i_i_sink = p_v_59_i_i_sink;
-    v_0_sroa_5_0_i = p_v_0_sroa_5_0_i;
-    v_259 = v_out_0 + (int64_t)(v_start1_i_i_i_sink);
-    put_u8(v_259, 48u);
-    v_58_i_i_sroa_4_0_sroa_idx = v_259 + 1;
-    put_u8(v_58_i_i_sroa_4_0_sroa_idx, v_59_i_i_sink);
-    v_58_i_i_sroa_5_0_sroa_idx = v_259 + 2;
-    put_u8(v_58_i_i_sroa_5_0_sroa_idx, 6u);
-    v_58_i_i_sroa_6_0_sroa_idx = v_259 + 3;
-    put_u8(v_58_i_i_sroa_6_0_sroa_idx, 9u);
-    v_58_i_i_sroa_7_0_sroa_idx = v_259 + 4;
-    put_u8(v_58_i_i_sroa_7_0_sroa_idx, 42u);
-    v_58_i_i_sroa_8_0_sroa_idx = v_259 + 5;
-    put_u8(v_58_i_i_sroa_8_0_sroa_idx, 134u);
-    v_58_i_i_sroa_9_0_sroa_idx = v_259 + 6;
-    put_u8(v_58_i_i_sroa_9_0_sroa_idx, 72u);
-    v_58_i_i_sroa_10_0_sroa_idx = v_259 + 7;
-    put_u8(v_58_i_i_sroa_10_0_sroa_idx, 134u);
-    v_58_i_i_sroa_11_0_sroa_idx = v_259 + 8;
-    put_u8(v_58_i_i_sroa_11_0_sroa_idx, 247u);
-    v_58_i_i_sroa_12_0_sroa_idx = v_259 + 9;
-    put_u8(v_58_i_i_sroa_12_0_sroa_idx, 13u);
-    v_58_i_i_sroa_13_0_sroa_idx = v_259 + 10;
-    put_u8(v_58_i_i_sroa_13_0_sroa_idx, 1u);
-    v_58_i_i_sroa_14_0_sroa_idx = v_259 + 11;
-    put_u8(v_58_i_i_sroa_14_0_sroa_idx, 1u);
-    v_58_i_i_sroa_15_0_sroa_idx = v_259 + 12;
-    put_u8(v_58_i_i_sroa_15_0_sroa_idx, 10u);
-    put_u64(v_len, v_0_sroa_5_0_i);
-    { p_v_0_sroa_0_0 = 0u; goto L_bb4; }
-L_bb12:;
-    v_0_sroa_5_0_i_ph = p_v_0_sroa_5_0_i_ph;
-    put_u64(v_len, v_0_sroa_5_0_i_ph);
-    { p_v_0_sroa_0_0 = 15u; goto L_bb4; }
-L_bb4:;
-    v_0_sroa_0_0 = p_v_0_sroa_0_0;
-    return v_0_sroa_0_0;
-}
 static u32 proved_pss_algorithm_encode(P v_params, P v_out, u64 v_out_len, P v_len) {
     u8 p_v_0_sroa_5_0_i34_i_i;
     u32 p_v_0_sroa_0_0_i35_i_i;
@@ -38914,7 +35822,7 @@ L_bb7_i_i99_i:;
     TRAP();
     TRAP();
 L_bb2:;
-    v_96 = f_pss_algorithm_write_others(v_params, v_out, v_out_len, v_len);
+    v_96 = f_pss_write_others(v_params, 1u, v_out, v_out_len, v_len);
     { p_v_0_sroa_0_0 = v_96; goto L_bb4; }
 L_bb13:;
     v_start1_i_i_i_sink = p_v_start1_i_i_i_sink;

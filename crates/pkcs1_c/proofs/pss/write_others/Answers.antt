@@ -1,7 +1,8 @@
--- `write_others`: what `write_known` writes or counts is the encoding, else `write_fields` does it all.
+-- `write_others` of PSS parameters: what `write_known` writes or counts is the encoding, else `write_fields` does it all.
+use Rattle.pkcs1_params.specs.Words.{InPlace}
 use Rattle.standard.specs.Statement.{PssEncoding}
 use Rattle.pkcs1_c.specs.Words.{PssFieldError, pss_seen}
-use Rattle.pkcs1_c.proofs.FittingFields.{pss_fits}
+use Rattle.pkcs1_c.proofs.FittingFields.{fits_in_place, pss_fits}
 use Rattle.pkcs1_c.proofs.Writes.{known_written}
 use Rattle.pkcs1_c.proofs.pss.write_others.Goals as goal
 
@@ -9,9 +10,10 @@ use Rattle.pkcs1_c.proofs.pss.write_others.Goals as goal
 pub returns-in-Some : goal.returns-in-Some
 returns-in-Some c =
     let v = pss_seen c.args.params.now in
+    let fits = fits_in_place PssEncoding PssFieldError v (pss_fits v) c.args.place in
     let status = c.written_status.ensures in
     let told =
-    known_written PssFieldError PssEncoding v (pss_fits v) c.args.out.now _ c.args.len.now _ _ c.in-Some.written
+    known_written PssFieldError (InPlace c.args.place PssEncoding) v fits c.args.out.now _ c.args.len.now _ _ c.in-Some.written
     c.in-Some.ensures.written c.write_known.auto.out status.ok status.no_room in
     record { writes = told.0; exact = told.1 }
 

@@ -2,10 +2,10 @@
 //! The algorithm identifier of RSAES-OAEP with its parameters.
 
 use crate::calls::pkcs1_c::filled::fill;
-use crate::calls::pkcs1_c::oaep::{OaepParams, from_c_oaep, to_c_oaep, write_known};
+use crate::calls::pkcs1_c::oaep::{OaepParams, to_c_oaep, write_known, write_others};
 use crate::calls::pkcs1_c::status::{OK, status};
-use crate::calls::pkcs1_c::written::{write_algorithm, written_status};
-use crate::proved::pkcs1::{FromAlgorithm, RsaOaepParamsView, RsaesOaep};
+use crate::calls::pkcs1_c::written::written_status;
+use crate::proved::pkcs1::{FromAlgorithm, RsaOaepParamsView};
 use crate::proved::pkcs1_params::RSAES_OAEP;
 
 /// Decodes the algorithm identifier of RSAES-OAEP with its parameters, as `pkcs1_c_oaep_params_decode` does the
@@ -38,25 +38,6 @@ pub extern "C" fn pkcs1_c_oaep_algorithm_decode_strict<'a>(
     )
 }
 
-/// Writes the shortest encoding of the algorithm identifier, field by field.
-#[inline(always)]
-fn write_fields(params: &OaepParams<'_>, out: &mut [u8], len: &mut usize) -> u32 {
-    match from_c_oaep(params) {
-        Ok(made) => write_algorithm::<RsaesOaep, _>(&made, out, len),
-        Err(failure) => status(&failure),
-    }
-}
-
-/// Writes the shortest encoding of the algorithm identifier, at once if it is known and no hash function has parameters,
-/// else field by field.
-#[inline(never)]
-fn write_others(params: &OaepParams<'_>, out: &mut [u8], len: &mut usize) -> u32 {
-    match write_known(false, params, Some(RSAES_OAEP), out) {
-        Some(written) => written_status(written, len),
-        None => write_fields(params, out, len),
-    }
-}
-
 /// Puts the shortest encoding of the algorithm identifier of RSAES-OAEP with these parameters to the front of `out`.
 /// What it returns and leaves is as of `pkcs1_c_oaep_params_encode`.
 #[unsafe(no_mangle)]
@@ -68,6 +49,6 @@ pub extern "C" fn pkcs1_c_oaep_algorithm_encode(
     let out = unsafe { core::slice::from_raw_parts_mut(out, out_len) };
     match write_known(true, params, Some(RSAES_OAEP), out) {
         Some(written) => written_status(written, len),
-        None => write_others(params, out, len),
+        None => write_others(params, Some(RSAES_OAEP), out, len),
     }
 }

@@ -6,9 +6,9 @@ use crate::calls::pkcs1_c::algorithm::{
 };
 use crate::calls::pkcs1_c::filled::fill;
 use crate::calls::pkcs1_c::status::{OK, status};
-use crate::calls::pkcs1_c::written::{write_params, written_status};
+use crate::calls::pkcs1_c::written::{write_algorithm, write_params, written_status};
 use crate::proved::der_core::{ErrorKind, Tag};
-use crate::proved::pkcs1::{Error, RsaPssParamsView, TrailerField};
+use crate::proved::pkcs1::{Error, RsaPssParamsView, RsassaPss, TrailerField};
 use crate::proved::pkcs1_params::{Place, Written, encode_known_pss};
 
 /// Parameters of RSASSA-PSS.
@@ -97,22 +97,30 @@ pub(crate) fn write_known(
     encode_known_pss(null, hash, mask_gen, under, salt_len, place, out)
 }
 
-/// Writes the shortest encoding of the parameters, field by field, as `pkcs1_c_pss_params_encode` does.
+/// Writes the shortest encoding of the parameters, alone or in their algorithm identifier, field by field.
 #[inline(always)]
-fn write_fields(params: &PssParams<'_>, out: &mut [u8], len: &mut usize) -> u32 {
+fn write_fields(params: &PssParams<'_>, place: Place, out: &mut [u8], len: &mut usize) -> u32 {
     match from_c_pss(params) {
-        Ok(made) => write_params(&made, out, len),
+        Ok(made) => match place {
+            None => write_params(&made, out, len),
+            Some(_) => write_algorithm::<RsassaPss, _>(&made, out, len),
+        },
         Err(failure) => status(&failure),
     }
 }
 
-/// Writes the shortest encoding of the parameters, at once if it is known and no hash function has parameters, else
-/// field by field.
+/// Writes the shortest encoding of the parameters, alone or in their algorithm identifier, at once if it is known and no
+/// hash function has parameters, else field by field.
 #[inline(never)]
-fn write_others(params: &PssParams<'_>, out: &mut [u8], len: &mut usize) -> u32 {
-    match write_known(false, params, None, out) {
+pub(crate) fn write_others(
+    params: &PssParams<'_>,
+    place: Place,
+    out: &mut [u8],
+    len: &mut usize,
+) -> u32 {
+    match write_known(false, params, place, out) {
         Some(written) => written_status(written, len),
-        None => write_fields(params, out, len),
+        None => write_fields(params, place, out, len),
     }
 }
 
@@ -130,6 +138,6 @@ pub extern "C" fn pkcs1_c_pss_params_encode(
     let out = unsafe { core::slice::from_raw_parts_mut(out, out_len) };
     match write_known(true, params, None, out) {
         Some(written) => written_status(written, len),
-        None => write_others(params, out, len),
+        None => write_others(params, None, out, len),
     }
 }
