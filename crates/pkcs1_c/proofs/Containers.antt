@@ -1,6 +1,6 @@
 -- Containers: why one isn't read or written: one status at most. For `src/container.rt`.
 use Rattle.std.proofs.Common.{ℕ, List, ◌≡◌, ◌∙◌, ap, arith, false, inl, inr, length, sym, ⊎_elim, Err, Ok, if◌then◌else◌, nat_lt}
-use Rattle.der_core.specs.Words.{nat_tests, alone_law, tagged_law, bind_err, limit, TellsOfBytes, alone, tagged, whole, ◌>>=◌}
+use Rattle.der_core.specs.Words.{alone_law, tagged_law, bind_err, limit, TellsOfBytes, alone, tagged, whole, ◌>>=◌}
 use Rattle.der_core.specs.Tags as tags
 use Rattle.der_core.specs.declared.error.ErrorKind.{ErrorKind}
 use Rattle.der_core.specs.declared.error.ErrorKind.TheVariants.{Overflow}
@@ -26,10 +26,10 @@ private_key_octets_read : (key : PrivateKey) (octets : List ℕ) → PrivateKeyE
 private_key_octets_read key octets p =
     let (few, (s, is, ok, same)) = private_spells key octets p in
     let at = tagged tags.sequence_tag (private_key_read number_front) in
-    let within : nat_lt limit (length octets) ≡ false = grind (arith, nat_tests) in
+    let within : nat_lt limit (length octets) ≡ false = grind arith in
     let read : whole at octets ≡ Ok s =
     ap (λ b. if b then Err Overflow else alone at octets) within ∙ ap (alone at) same
-    ∙ (alone_law (tagged_law (private_law integer_law) tags.sequence_tag)).takes s ok (omega (arith, few, ap length same)) in
+    ∙ (alone_law (tagged_law (private_law integer_law) tags.sequence_tag)).takes s ok (omega (arith, ap length same)) in
     ap (λ r. r >>= λ v. Ok (private_stated v)) read ∙ ap (λ k. Ok (private_stated k)) (sym (private_itself s) ∙ is)
     ∙ ap (λ k. Ok k) (private_key_back key)
 
@@ -37,7 +37,7 @@ module _ (info : PrivateKeyInfo) where
   -- A key in it has no fault.
   pub error_none : (s : ℕ) → IsErrorNumber (rsa_private_key info.private_key.now) s → InfoHasKey info → ⊥
   error_none s (k, p, a) (key, holds) =
-      let taken = private_key_octets_read key info.private_key.now holds in let no = sym p ∙ taken in cc
+      let taken = private_key_octets_read key info.private_key.now holds in cc
 
   module _ (room : ℕ) where
     -- There is one status at most.

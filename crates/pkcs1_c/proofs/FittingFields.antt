@@ -33,7 +33,7 @@ module _ {P : Type 0} {Is : P → Type 0} {encoding : P → List ℕ} {WhyNot : 
         let front = tlv 6 a.oid in
         let back = optional encoding a.parameters in
         algorithm_parts_fit WhyNot a ok.0
-        (option_fits a.parameters ok.1 (omega (arith, few, tlv_fit 48 (front ++ back), length-append front back)));
+        (option_fits a.parameters ok.1 (omega (arith, tlv_fit 48 (front ++ back), length-append front back)));
   }
 
 plain_fits : HasNoErrorWhereEncoded (IsAlgorithm IsAny) (algorithm any) PlainError
@@ -74,10 +74,10 @@ module _ {V : Type 0} {Is : V → Type 0} {encoding : V → List ℕ} {WhyNot : 
       let octets = tlv (160 + number) (encoding v) in
       let l = ap length e in
       let k = length-append octets d in (
-        fit.none v ok (omega (arith, few, l, k, tlv_fit (160 + number) (encoding v))),
+        fit.none v ok (omega (arith, tlv_fit (160 + number) (encoding v))),
         d,
         rest,
-        omega (arith, few, l, k),
+        omega arith,
       )
 
 -- The fields that both begin with, if so does what is behind them.
@@ -90,23 +90,23 @@ hash_fit hash mask is_hash is_mask later Rest rest c p few =
     let second = field 1 (algorithm (algorithm any)) mgf1_sha1 mask ∷ later in
     let (a, d, q, fewer) = field_fits plain_fits 0 sha1 hash sha1_fits is_hash second c p few in
     let (b, r, behind, last) = field_fits mask_gen_fits 1 mgf1_sha1 mask mgf1_fits is_mask later d q fewer in
-    let later = rest r behind last in search (rules, part_none)
+    search (rules, part_none)
 
 -- So parameters with an encoding have no field that can't be held.
 pub pss_fits : (p : PssParameters) (bytes : List ℕ) → PssEncoding p bytes → NoStatus (PssFieldError p)
 pss_fits p bytes (ok, few, c, held, is) =
     hash_fit p.hash p.mask_gen ok.0 ok.1 (field 2 integer 20 p.salt_len ∷ field 3 integer 1 p.trailer_field ∷ []) _
-    (λ _ _ _ s told. told.1 ok.3) c held (omega (arith, few, ap length is, tlv_fit 48 c))
+    (λ _ _ _ s told. told.1 ok.3) c held (omega (arith, ap length is, tlv_fit 48 c))
 
 pub oaep_fits : (p : OaepParameters) (bytes : List ℕ) → OaepEncoding p bytes → NoStatus (OaepFieldError p)
 oaep_fits p bytes (ok, few, c, held, is) =
     hash_fit p.hash p.mask_gen ok.0 ok.1 (field 2 (algorithm any) empty_label p.p_source ∷ []) (PlainError p.p_source)
     (λ d q fewer. (field_fits plain_fits 2 empty_label p.p_source empty_label_fits ok.2 [] d q fewer).0) c held
-    (omega (arith, few, ap length is, tlv_fit 48 c))
+    (omega (arith, ap length is, tlv_fit 48 c))
 
 -- A tag and a length are 6 octets at most.
 pub tlv_adds_at_most_six : (tag : ℕ) (c : List ℕ) → length (tlv tag c) ≤ limit → length (tlv tag c) ≤ length c + 6
 tlv_adds_at_most_six tag c few =
     let whole = length-append (length_octets (length c)) c in
-    let most = octets_grow (length c) limit (omega (arith, few, whole)) (omega arith) in
-    omega (arith, whole, most, ap length (length_octets-4 limit (omega arith) (omega arith)))
+    let most = octets_grow (length c) limit (omega arith) (omega arith) in
+    omega (arith, ap length (length_octets-4 limit (omega arith) (omega arith)))

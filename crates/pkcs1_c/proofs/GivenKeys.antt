@@ -31,8 +31,8 @@ numbers_fit [] some few = λ s p. p
 numbers_fit (n ∷ ns) some few =
     let l = length-append (integer (number_seen n)) (integers (map number_seen ns)) in
     part_none (NumberError n) (NumbersError ns)
-    (λ s p. omega (arith, p, number_fits (number_seen n), l, some.0))
-    (numbers_fit ns some.1 (omega (arith, l, few)))
+    (λ s p. omega (arith, number_fits (number_seen n)))
+    (numbers_fit ns some.1 (omega arith))
 
 pub public_fits : (key : PublicKey) → HasPublicNumbers key → (bytes : List ℕ)
     → PublicKeyEncoding (public_key_seen key) bytes
@@ -40,7 +40,7 @@ pub public_fits : (key : PublicKey) → HasPublicNumbers key → (bytes : List �
 public_fits key some bytes p =
     let ns = two_numbers key in
     numbers_fit ns (some.0, (some.1, tt))
-    (omega (arith, tlv_fit 48 (integers (map number_seen ns)), ap length p.1, p.0))
+    (omega (arith, tlv_fit 48 (integers (map number_seen ns)), ap length p.1))
 
 abbrev prime_contents : statement.OtherPrime → List ℕ
 prime_contents o = integers (o.prime ∷ o.exponent ∷ o.coefficient ∷ [])
@@ -57,8 +57,8 @@ primes_fit (o ∷ others) some few =
     let l = length-append (sequence c)
     (concat (map (λ o. sequence (prime_contents o)) (map other_prime_seen others))) in
     numbers_none_both (numbers_of_prime o) (numbers_of_primes others)
-    (numbers_fit (numbers_of_prime o) some.0 (omega (arith, tlv_fit 48 c, l, few)))
-    (primes_fit others some.1 (omega (arith, l, few)))
+    (numbers_fit (numbers_of_prime o) some.0 (omega (arith, tlv_fit 48 c)))
+    (primes_fit others some.1 (omega arith))
 
 listed_fit : (others : List OtherPrime) → HavePrimes others
     → length (optional statement.other_primes (other_primes_seen others)) ≤ limit
@@ -66,7 +66,7 @@ listed_fit : (others : List OtherPrime) → HavePrimes others
 listed_fit [] some few = λ s p. p
 listed_fit (o ∷ others) some few =
     let c = concat (map (λ o. sequence (prime_contents o)) (map other_prime_seen (o ∷ others))) in
-    primes_fit (o ∷ others) some (omega (arith, tlv_fit 48 c, few))
+    primes_fit (o ∷ others) some (omega (arith, tlv_fit 48 c))
 
 pub private_fits : (key : PrivateKey) (others : List OtherPrime) → HasPrivateNumbers key others → (bytes : List ℕ)
     → PrivateKeyEncoding (private_key_seen key others) bytes → NoStatus (NumbersError (given_numbers key others))
@@ -75,11 +75,11 @@ private_fits key others some bytes p =
     let first = integer (version (other_primes_seen others)) in
     let list = optional statement.other_primes (other_primes_seen others) in
     let front = first ++ integers (map number_seen ns) in
-    let whole : length (front ++ list) ≤ limit = omega (arith, tlv_fit 48 (front ++ list), ap length p.2, p.0) in
+    let whole : length (front ++ list) ≤ limit = omega (arith, tlv_fit 48 (front ++ list), ap length p.2) in
     let l = length-append front list in
     let m = length-append first (integers (map number_seen ns)) in
-    numbers_none_both ns (numbers_of_primes others) (numbers_fit ns some.1 (omega (arith, l, m, whole)))
-    (listed_fit others some.2 (omega (arith, l, whole)))
+    numbers_none_both ns (numbers_of_primes others) (numbers_fit ns some.1 (omega arith))
+    (listed_fit others some.2 (omega arith))
 
 -- == Numbers that can be held ==
 primes_have : (others : List OtherPrime) → NoStatus (NumbersError (numbers_of_primes others)) → HavePrimes others
@@ -192,11 +192,11 @@ pub given_prime_fits : (others : List OtherPrime) (left : ℕ) (d : OtherPrime) 
     → length (given_encoded (get_or others (left - 1) d)) + length (all_encodings given_encoded (drop left others))
     ≤ length (all_encodings given_encoded others)
 given_prime_fits others left d some few =
-    let next : left - 1 + 1 ≡ left = omega (arith, some) in
+    let next : left - 1 + 1 ≡ left = omega arith in
     omega (
       arith,
       ap (λ k. length (all_encodings given_encoded (drop k others))) next,
-      encodings_behind_len (λ _. Unit {0}) given_encoded others (left - 1) d (omega (arith, some, few)),
+      encodings_behind_len (λ _. Unit {0}) given_encoded others (left - 1) d (omega arith),
     )
 
 -- They are counted, if they are within the limit.

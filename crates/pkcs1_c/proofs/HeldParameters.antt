@@ -27,7 +27,7 @@ RsaOaepParamsView = OaepParamsOf IdentifierView AnyRef
 -- What was read of any tag has no error.
 any_has_no_status : (any : Option AnyRef) → NoStatus (OptionError AnyError (option_map any_of any))
 any_has_no_status None s p = p
-any_has_no_status (Some any) s p = let allowed = any.tag.allowed in let bounded = any.bounded in grind arith
+any_has_no_status (Some any) s p = grind arith
 
 module _ {P V : Type 0} (of : P → V) (WhyNot : V → ℕ → Type 0) (a : AlgorithmView P) where
   -- Nor has an algorithm, if its parameters have none.

@@ -41,14 +41,12 @@ module _ (primes : List OtherPrime) (left after : Input) (others old : List stru
         go [] few placed (rest, read, more) = absurd (omega (arith, next_prime_shorter [] rest other tt read))
         go (o ∷ behind) few placed (rest, read, more) =
             let same = ok_pair _ _ _ _ (sym (next_prime_found o behind few) ∙ read) in
-            let first : octets_of_prime (other_stated other) ≡ octets_of_prime o =
-            ap (λ u. octets_of_prime (other_stated u)) (sym same.0) in
             record {
               behind = behind;
-              few = omega (arith, few, length-append (prime_encoded o) (primes_encoded behind));
+              few = omega (arith, length-append (prime_encoded o) (primes_encoded behind));
               reads = more ∙ ap (λ r. Some r) (sym same.1);
-              placed = let is = holds ∙ first in grind (arith, common_steps, map-set, take_more_set, length-map);
-              kept = let kept = p.kept in grind (arith, common_steps, drop-set-lt, drop-drop);
+              placed = grind (arith, common_steps, map-set, take_more_set, length-map);
+              kept = grind (arith, common_steps, drop-set-lt, drop-drop);
             }
 
 -- All are placed, as many as fit: the array is full, or the reader finds no more.
@@ -58,9 +56,7 @@ module _ (primes : List OtherPrime) (left : Input) (others old : List struct.Oth
       → ArePlaced primes others × (drop (length primes) others ≡ drop (length primes) old)
   placing_all_placed p end =
       let count = length-map primes octets_of_prime in
-      let counted = length-map others numbers_of_prime in
-      let placed = p.placed in
-      let kept = p.kept in (grind (arith, common_steps), grind (arith, common_steps))
+      (grind (arith, common_steps), grind (arith, common_steps))
 
   -- where the reader finds no more, none is left
   placing_none_left : {k : ErrorKind} → ((l : List ℕ) → left ≡ Some l → next_prime l ≡ Err k)

@@ -1,7 +1,7 @@
 -- Worked rows of `Structs.antt`: what structs hold, and what a call that writes says and leaves.
-use Rattle.std.proofs.Common.{ℕ, List, [], ◌∷◌, ◌≡◌, arith, length, refl, Bool, true, false, Option, Some, None}
+use Rattle.std.proofs.Common.{ℕ, List, [], ◌∷◌, ◌≡◌, arith, refl, Bool, true, false, Option, Some, None}
 use Rattle.std.specs.Borrow.{Bor}
-use Rattle.pkcs1_c.specs.Structs.{AlgorithmIsTidy, ArePlaced, EncodingIfHeld, HasPrivateNumbers, HasPublicNumbers, HaveBytes, HoldsPrivateKey, HoldsPublicKey, InfoHasKey, InfoIsTidy, MaskGenIsTidy, OaepIsTidy, WritesOrTells, algorithm_seen, mask_gen_seen, numbers_of_key, oaep_seen, octets_of_key, other_primes_seen, private_key_info_seen, private_key_seen, pss_seen, public_key_seen}
+use Rattle.pkcs1_c.specs.Structs.{AlgorithmIsTidy, ArePlaced, EncodingIfHeld, HasPrivateNumbers, HasPublicNumbers, HaveBytes, HoldsPrivateKey, HoldsPublicKey, InfoHasKey, InfoIsTidy, MaskGenIsTidy, OaepIsTidy, WritesOrTells, algorithm_seen, mask_gen_seen, numbers_of_key, oaep_seen, octets_of_key, private_key_info_seen, private_key_seen, pss_seen, public_key_seen}
 use Rattle.pkcs1_c.specs.declared.algorithm.Algorithm as algorithms
 use Rattle.pkcs1_c.specs.declared.algorithm.MaskGen.{MaskGen}
 use Rattle.pkcs1_c.specs.declared.container.PrivateKeyInfo.{PrivateKeyInfo}

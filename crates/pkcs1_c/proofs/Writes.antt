@@ -14,7 +14,7 @@ use Rattle.pkcs1_params.specs.declared.error.Error.TheVariants as error
 
 -- A status that is the only one is that of the error.
 pub only_status_is_error : (WhyNot : ℕ → Type 0) (s : ℕ) → HasOneStatus WhyNot → 0 < s → WhyNot s → IsErrorOf WhyNot s
-only_status_is_error WhyNot zero one some p = absurd (omega (arith, some))
+only_status_is_error WhyNot zero one some p = absurd (omega arith)
 only_status_is_error WhyNot (suc n) one some p = search rules
 
 -- Two ways to say the same reasons.
@@ -133,9 +133,9 @@ module _ {V : Type 0} (given : Result V ErrorKind) (tells : (k : ErrorKind) → 
   -- so the call returns that status
   pub status_exact : (e : Error) (number : ℕ) → number ≡ status_of e → IsAsn1 (λ a. given ≡ Err a.kind) e
       → IsStatusOf given number
-  status_exact e zero is p = absurd (omega (arith, is, (status_known e p).0.0))
+  status_exact e zero is p = absurd (omega (arith, (status_known e p).0.0))
   status_exact e (suc n) is p =
-      let known = status_known e p in (omega (arith, is, known.0.1), (known.1.0, known.1.1, is ∙ known.1.2))
+      let known = status_known e p in (omega arith, (known.1.0, known.1.1, is ∙ known.1.2))
 
 -- What an error of writing says of a value that may be encoded.
 module _ {V : Type 0} (Is : V → Type 0) (Encoding : V → List ℕ → Type 0) (v : V) (room : ℕ) (ok : Is v) where

@@ -43,6 +43,6 @@ returns-in-Err c =
     let e = status_known (rsa_private_key octets) (private_tells octets) c.in-Err.failure c.in-Err.ensures.exact in
     let is = c.status.ensures in record {
       writes = let none = error_none info _ e.1 in search rules;
-      exact = only_status_is_error (InfoError info room) _ (info_one info room) (omega (arith, is, e.0.0))
+      exact = only_status_is_error (InfoError info room) _ (info_one info room) (omega arith)
           (rw is (inl e.1));
     }

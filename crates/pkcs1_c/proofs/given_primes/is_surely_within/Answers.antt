@@ -14,15 +14,7 @@ prime_bounded : (a b d p e c contents whole left : ℕ) → contents ≡ a + b +
     → whole ≤ limit → (a ≤ limit → a ≤ p) → (b ≤ limit → b ≤ e) → (d ≤ limit → d ≤ c) → p + e + c + 6 ≤ left
     → whole ≤ left
 prime_bounded a b d p e c contents whole left is fit more few k l m within =
-    omega (
-      arith,
-      more,
-      is,
-      within,
-      k (omega (arith, is, fit, few)),
-      l (omega (arith, is, fit, few)),
-      m (omega (arith, is, fit, few)),
-    )
+    omega (arith, k (omega arith), l (omega arith), m (omega arith))
 
 -- The contents are three INTEGERs.
 prime_parts_length : (o : OtherPrime) → length (integers (o.prime ∷ o.exponent ∷ o.coefficient ∷ []))

@@ -15,4 +15,4 @@ loop-other-preserved c =
     λ few. let told = c.quick_len.ensures few in
     (tt, told.1 ∙ ap (λ o. length (prime_encoded o)) read.some, few) in
     told_more others i empty_prime c.loop-other-test.true _ _ _ c.loop-other.invariant read.held one
-    (λ few. omega (arith, few, c.saturating_add-total.ensures))
+    (λ few. omega arith)

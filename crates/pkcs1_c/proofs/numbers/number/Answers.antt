@@ -15,4 +15,4 @@ pub returns-clause-held : goal.returns-clause-held
 returns-clause-held c =
     let made = c.in_ok-new.ensures in
     let same = ap octets (sym made.ok.0) ∙ number_octets (bytes_of c.in_ok-new.field-0) made.ok.1 in
-    λ s p. omega (arith, p, ap length same, made.some, c.in_ok-new.field-0.bounded)
+    λ s p. omega (arith, ap length same)

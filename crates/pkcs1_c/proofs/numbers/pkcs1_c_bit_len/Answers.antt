@@ -9,13 +9,13 @@ pub returns-in-Ok-clause-longer : goal.returns-in-Ok-clause-longer
 returns-in-Ok-clause-longer c some long =
     let made = c.in-Ok.ensures.ok in
     let same = ap octets (sym made.0) ∙ number_octets (bytes_of c.in-Ok.held) made.1 in
-    absurd (omega (arith, long, ap length same, c.in-Ok.held.bounded))
+    absurd (omega (arith, ap length same))
 
 -- The last arm. Never so: `UintRef::new` fails only if there are no bytes or the number is longer than the limit.
 pub returns-in-Err-2-clause-bits : goal.returns-in-Err-2-clause-bits
 returns-in-Err-2-clause-bits c some short =
     let n = number_from_digits 256 c.args.number.now in
     elim c.in-Err-2.ensures.err [
-      | inl p ↦ absurd (omega (arith, p.0, some))
-      | inr p ↦ absurd (omega (arith, p.0 (octets n) (octets_canonical n) (octets_number n), short))
+      | inl p ↦ absurd (omega arith)
+      | inr p ↦ absurd (omega (arith, p.0 (octets n) (octets_canonical n) (octets_number n)))
     ]

@@ -9,4 +9,4 @@ returns-clause-held c =
     let n = c.in_ok-number.number in
     let same = number_octets (bytes_of n) (holds_canonical (bytes_of n) n.canonical) in
     subst (λ bytes. NoStatus (NumberError bytes)) c.in_ok-number.ensures.some
-    (λ s p. omega (arith, p, ap length same, n.canonical.0, n.bounded))
+    (λ s p. omega (arith, ap length same))

@@ -20,7 +20,7 @@ loop-i-init c = λ primes few whole. record {
 pub loop-i-preserved : goal.loop-i-preserved
 loop-i-preserved c = λ primes few whole.
     one_placed primes _ _ c.loop-i.others c.args.others.now c.loop-i.i c.to_c_other_prime.result
-    (other_of (number_in bytes_of) c.in-Ok-read_prime.prime) (omega (arith, c.loop-i-test.true, c.loop-i.auto.others))
+    (other_of (number_in bytes_of) c.in-Ok-read_prime.prime) (omega arith)
     c.to_c_other_prime.ensures c.in-Ok-read_prime.ensures (c.loop-i.invariant primes few whole)
 
 -- `read_prime` has failed, so no prime is left of the list: all are placed.
@@ -28,7 +28,7 @@ pub returns-in-Err : goal.returns-in-Err
 returns-in-Err c = record {
   placed = λ primes few whole.
       placing_stopped primes _ c.loop-i.others c.args.others.now c.loop-i.i
-      (omega (arith, c.loop-i-test.true, c.loop-i.auto.others)) c.loop-i.auto.others
+      (omega arith) c.loop-i.auto.others
       (λ l is. front_errs next_prime _ _ _ is c.in-Err.ensures.1) (c.loop-i.invariant primes few whole);
 }
 
@@ -37,6 +37,6 @@ pub returns : goal.returns
 returns c = record {
   placed = λ primes few whole.
       placing_all_placed primes _ c.loop-i.others c.args.others.now c.loop-i.i
-      (omega (arith, c.loop-i.auto.i-end, c.loop-i.auto.others)) c.loop-i.auto.others
-      (c.loop-i.invariant primes few whole) (inl (omega (arith, c.loop-i-test.false, c.loop-i.auto.i-end)));
+      (omega arith) c.loop-i.auto.others
+      (c.loop-i.invariant primes few whole) (inl (omega arith));
 }

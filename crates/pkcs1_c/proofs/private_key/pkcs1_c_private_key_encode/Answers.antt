@@ -62,4 +62,4 @@ returns-in-Err c =
     (EncodingIfHeld (HasPrivateNumbers key others) PrivateKeyEncoding) v
     (λ bytes p. private_fits key others p.0 bytes p.1)
     c.args.out.now c.args.len.now c.status.ensures (rw c.in-Err.is at c.of.ensures.err) in
-    let rest = told.1 in record { writes = told.0; exact = search (rules, error_behind) }
+    record { writes = told.0; exact = search (rules, error_behind) }

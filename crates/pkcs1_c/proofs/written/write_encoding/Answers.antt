@@ -13,7 +13,7 @@ returns-in-Ok g c =
     let made = c.write_counted in
     let told =
     counted_written (Spells t.valid t.printed t.means) v c.args.out.now made.new.out c.args.len.now _ _ made.result
-    (written_or_counted t.shortest v all.0 (omega (arith, all.1, all.2)) c.args.out.now made.new.out made.result
+    (written_or_counted t.shortest v all.0 (omega arith) c.args.out.now made.new.out made.result
     made.ensures.ok made.ensures.no_room made.auto.out)
     made.auto.out c.written_status.ensures.ok c.written_status.ensures.no_room in
     record { writes = told.0; exact = told.1 }

@@ -16,10 +16,4 @@ returns-clause-bounds c few =
     let bytes = number.bytes.now in
     let contents = number_contents (number_from_digits 256 (given_octets_of number)) in
     let is = ap length (number_contents_as bytes (holds_canonical bytes number.canonical)) in
-    omega (
-      arith,
-      few,
-      is,
-      zero_adds_at_most_one bytes (nat_lt (slice_index bytes 0) 128),
-      tlv_adds_at_most_six 2 contents few,
-    )
+    omega (arith, zero_adds_at_most_one bytes (nat_lt (slice_index bytes 0) 128), tlv_adds_at_most_six 2 contents few)

@@ -1,7 +1,7 @@
 -- `EncodeValue` for `Number`. The contents are its bytes, or a zero and then its bytes. The bytes are written first.
-use Rattle.std.proofs.Common.{ℕ, List, ◌∷◌, ◌≡◌, ◌<◌, ◌≤◌, ◌∙◌, length, arith, rules, Bool, nat_lt, slice_index, if◌then◌else◌}
+use Rattle.std.proofs.Common.{ℕ, List, ◌∷◌, ◌≡◌, ◌<◌, ◌∙◌, arith, rules, Bool, nat_lt, slice_index, if◌then◌else◌}
 use Rattle.std.proofs.lemmas.Grind.{common_steps}
-use Rattle.der_core.specs.Words.{free_of, integer_contents, holds_canonical, number_contents_as}
+use Rattle.der_core.specs.Words.{holds_canonical, number_contents_as}
 use Rattle.pkcs1_c.proofs.given_number.NumberEncodeValue.prepend_value.Goals as goal
 
 -- There is room for the contents, so for the bytes.
@@ -9,7 +9,6 @@ pub prepend-requires : goal.prepend-requires
 prepend-requires c =
     let bytes = c.args.self.now.bytes.now in
     let is = number_contents_as bytes (holds_canonical bytes c.args.self.now.canonical) in
-    let room : length (integer_contents bytes) ≤ free_of c.args.writer.now = rw is at c.requires.room in
     search rules
 
 -- There is room for the contents, so for the zero in front of the bytes.
@@ -17,7 +16,6 @@ pub prepend-requires-then-self-gt0 : goal.prepend-requires-then-self-gt0
 prepend-requires-then-self-gt0 c =
     let bytes = c.args.self.now.bytes.now in
     let is = number_contents_as bytes (holds_canonical bytes c.args.self.now.canonical) in
-    let room : length (integer_contents bytes) ≤ free_of c.args.writer.now = rw is at c.requires.room in
     search rules
 
 zero_in_front : (bytes : List ℕ) (count : ℕ) (low : Bool) → count ≡ (if low then 0 else 1) → 0 < count

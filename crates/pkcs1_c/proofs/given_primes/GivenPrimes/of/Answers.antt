@@ -1,6 +1,6 @@
 -- `GivenPrimes::of`: all primes are counted, or its error is that of the first number that can't be held.
 use Rattle.std.proofs.Common.{◌<◌, ap, arith, rules, length, subst}
-use Rattle.der_core.specs.Words.{nat_tests, Counts}
+use Rattle.der_core.specs.Words.{Counts}
 use Rattle.pkcs1_c.specs.Words.{prime_encoded}
 use Rattle.pkcs1_c.proofs.GivenKeys.{counted_more, given_primes_some}
 use Rattle.pkcs1_c.proofs.StructErrors.{numbers_rejected_at, others_held_more}
@@ -30,5 +30,5 @@ returns-in_err-info-clause-err c =
 -- At the end: the array isn't empty, so the struct means a list of primes.
 pub returns-clause-ok : goal.returns-clause-ok
 returns-clause-ok c =
-    let some : 0 < length c.args.others.now = grind (arith, nat_tests, c.is_empty.ensures, c.if-is_empty.false) in
+    let some : 0 < length c.args.others.now = grind arith in
     given_primes_some c.args.others.now some

@@ -47,7 +47,7 @@ returns-in_err-append_given-clause-appends g c =
     let here = given_encoded (get_or others i empty_prime) in
     let rest = all_encodings given_encoded (drop (i + 1) others) in
     let whole = sym (given_encodings_are others) ∙ encodings_around (λ _. Unit {0}) given_encoded others i empty_prime c.loop-other-test.true in
-    let less : length (here ++ rest) ≤ limit = grind (arith, common_steps, c.requires.fits) in
+    let less : length (here ++ rest) ≤ limit = grind (arith, common_steps) in
     rw (p.1, p.2) (appends_behind _ _ _ unit (given_primes_valid others) whole c.requires.fits
     c.loop-other.invariant.written
     c.loop-other.invariant.room (appends_in_front _ _ rest unit unit refl less c.in_err-append_given.ensures.appends))
@@ -57,7 +57,7 @@ pub returns-clause-appends : goal.returns-clause-appends
 returns-clause-appends g c =
     let others = c.args.self.now.others.now in
     let all : take c.loop-other.other-index others ≡ others = take_all c.loop-other.other-index others
-    (omega (arith, c.loop-other-test.false)) in
+    (omega arith) in
     let is = ap (all_encodings given_encoded) all ∙ given_encodings_are others in
     let w = g.W.Writer in
     let old = c.args.writer.now in

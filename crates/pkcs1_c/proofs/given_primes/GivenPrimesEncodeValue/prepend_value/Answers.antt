@@ -20,7 +20,7 @@ overflow_sub-least c =
     let given = c.args.self.now in
     let is = given_encodings_are given.others.now in
     let counted = rw c.in-Ok.is at given.counted in
-    omega (arith, ap length is, counted)
+    omega (arith, ap length is)
 
 -- The numbers of this prime can be held. Its encoding and those behind it are no more than all, so there is room for it
 -- beside the `least` octets that stay free.
@@ -33,16 +33,16 @@ prepend_given-requires c =
     let behind = given_prime_fits given.others.now c.loop-left.left empty_prime c.loop-left-test.true few in record {
       held =
           numbers_held_at given.others.now (c.loop-left.left - 1) empty_prime
-          (omega (arith, c.loop-left-test.true, few))
+          (omega arith)
           given.held;
-      fits = omega (arith, ap length is, behind);
-      room = omega (arith, ap length is, counted, behind);
+      fits = omega (arith, ap length is);
+      room = omega (arith, ap length is);
     }
 
 -- None is left, so all are written.
 pub returns : goal.returns
 returns c =
     let others = c.args.self.now.others.now in
-    let none : c.loop-left.left ≡ 0 = omega (arith, c.loop-left-test.false) in
+    let none : c.loop-left.left ≡ 0 = omega arith in
     subst (λ octets. Prepends octets c.args.writer.now c.loop-left.writer)
     (ap (λ k. all_encodings given_encoded (drop k others)) none ∙ given_encodings_are others) c.loop-left.invariant.1
