@@ -1,20 +1,10 @@
 -- `pkcs1_c_other_primes`: each round places the next prime, until none is left or the array is full.
-use Rattle.std.proofs.Common.{arith, inl, refl}
+use Rattle.std.proofs.Common.{arith, inl}
 use Rattle.der_core.proofs.ReadSteps.{front_errs}
 use Rattle.der_core.specs.Words.{bytes_of}
 use Rattle.pkcs1.specs.Words.{number_in, next_prime, other_of}
 use Rattle.pkcs1_c.proofs.PlacedPrimes.{one_placed, placing_all_placed, placing_stopped}
 use Rattle.pkcs1_c.proofs.private_key.pkcs1_c_other_primes.Goals as goal
-
--- Before the first round none is placed. The new reader has the whole list left.
-pub loop-i-init : goal.loop-i-init
-loop-i-init c = λ primes few whole. record {
-  behind = primes;
-  few = rw whole at few;
-  reads = rw whole at c.in-Ok.ensures.ok;
-  placed = refl;
-  kept = refl;
-}
 
 -- `read_prime` has read the first of the primes that are left, and `to_c_other_prime` has its octets.
 pub loop-i-preserved : goal.loop-i-preserved
