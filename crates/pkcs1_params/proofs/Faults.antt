@@ -148,7 +148,7 @@ later_tag_not_next : (ks : List Kind) (m n : ℕ) → m < n → AreLawful n ks �
     → FirstWritten (fields_of ks v) i c → is_next (160 + m) c ≡ false
 later_tag_not_next [] m n less law v i c p = absurd p
 later_tag_not_next (k ∷ ks) m n less law (x, v) i c (inl (d, e, later, is, rest)) =
-    let other : m < k.number = omega arith in rw is (grind arith)
+    let other : m < k.number = omega arith in (grind arith)
 later_tag_not_next (k ∷ ks) m n less law (x, v) i c (inr (inl (d, j, e, p))) =
     later_tag_not_next ks m (k.number + 1) (omega arith) law.4 v j c p
 later_tag_not_next (k ∷ ks) m n less law (x, v) i c (inr (inr (d, j, e, later, is, p))) =
@@ -160,7 +160,7 @@ first_written_found : (ks : List Kind) (m : ℕ) → AreLawful m ks → AreNumbe
 first_written_found [] m law numbered s n p = absurd p
 first_written_found (k ∷ ks) m law numbered (None, s) n (inl (d, e, later, is, rest)) =
     let other = spelled_not_next ks (k.number + 1) k.number (omega arith) law.4 s in
-    let here : is_next (160 + k.number) (spelling_printed ks s) ≡ true = rw is (grind arith) in
+    let here : is_next (160 + k.number) (spelling_printed ks s) ≡ true = (grind arith) in
     let never : true ≡ false = sym here ∙ other in cc
 first_written_found (k ∷ ks) m law numbered (None, s) n (inr (inl (d, j, e, p))) =
     let step : k.number + 1 ≡ m + 1 = omega arith in
