@@ -1,7 +1,6 @@
 -- An input and a line, cut at the first place of a byte.
 use Rattle.std.proofs.Common.{◌≡◌, ℕ, suc, ◌+◌, ◌<◌, ◌==◌, not, List, [], ◌∷◌, length, take, drop, Some, None, refl, ◌∙◌, arith, one-add, add-one, position, take_all, inl, inr}
 use Rattle.std.specs.List.{position_or_len, onto_first}
-use Rattle.der_core.specs.Words.{nat_tests}
 use Rattle.std.proofs.lemmas.Bool.{cases_Bool}
 use Rattle.std.proofs.lemmas.List.{drop_all}
 use Rattle.std.proofs.lemmas.List.Sums.{prefix_len-le-length}
@@ -11,11 +10,11 @@ use Rattle.pkcs1_program.specs.Words.{lines_of, parts_of}
 -- where the first such byte is
 pub position-some : (at n : ℕ) (bytes : List ℕ) → position (λ other. other == at) bytes ≡ Some n
     → (position_or_len (λ other. other == at) bytes ≡ n) × (n < length bytes)
-position-some at n bytes h = grind (arith, nat_tests)
+position-some at n bytes h = grind arith
 
 pub position-none : (at : ℕ) (bytes : List ℕ) → position (λ other. other == at) bytes ≡ None
     → position_or_len (λ other. other == at) bytes ≡ length bytes
-position-none at bytes h = let within = prefix_len-le-length (λ x. not (x == at)) bytes in grind (arith, nat_tests)
+position-none at bytes h = let within = prefix_len-le-length (λ x. not (x == at)) bytes in grind arith
 
 abbrev to_line_feed : List ℕ → ℕ
 to_line_feed bytes = position_or_len (λ byte. byte == 10) bytes
@@ -41,10 +40,10 @@ pub parts_of-none : (line : List ℕ) → position_or_len (λ byte. byte == 32) 
     → parts_of line ≡ line ∷ []
 parts_of-none [] h = refl
 parts_of-none (b ∷ bs) h = elim (cases_Bool (b == 32)) [
-  | inl is ↦ let no : 0 ≡ suc (length bs) = rw is at h in absurd (omega (arith, no))
+  | inl is ↦ let no : 0 ≡ suc (length bs) = rw is at h in absurd (omega arith)
   | inr isnt ↦
       let later : 1 + position_or_len (λ byte. byte == 32) bs ≡ suc (length bs) = rw isnt at h in
-      rw (isnt, parts_of-none bs (omega (arith, later))) refl
+      rw (isnt, parts_of-none bs (omega arith)) refl
 ]
 
 pub lines_of-at : (n : ℕ) (bytes : List ℕ) → 0 < length bytes → to_line_feed bytes ≡ n

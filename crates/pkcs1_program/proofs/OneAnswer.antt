@@ -39,8 +39,7 @@ module _ {V : Type 0} (Is : V → Type 0) (fields : V → List Field) where
       → Decodes (ListedEncoding Is fields) encoding None
   unlisted_decodes_none v encoding read none w p =
       let fits = subst (λ u. length (longest (fields u)) ≤ limit) (read.1 w p.0) p.1 in
-      let past : limit < length (longest (fields v)) = none read.0.0 in
-      omega (arith, fits, past)
+      omega arith
 
 -- the list of all encodings is this one alone
 pub lists_one : {V : Type 0} {Is : V → Type 0} {fields : V → List Field} → FieldRecord Is fields → (v : V)
@@ -50,7 +49,7 @@ lists_one r v xs ys (k, d, p) (j, e, q) =
     let same : k ≡ j = default_count_only r v k d ∙ sym (default_count_only r v j e) in
     ext_get_or [] xs ys (p.count ∙ ap (λ n. 2 ^ n) same ∙ sym q.count)
     (λ i below.
-    let first : i < 2 ^ k = omega (arith, below, p.count) in
+    let first : i < 2 ^ k = omega arith in
     let second : i < 2 ^ j = subst (λ n. i < 2 ^ n) same first in
     (each_mask_has_one r v i _ _ (p.under i first) (q.under i second)).0)
 

@@ -101,7 +101,7 @@ parts_not_decoded : (r : Result (List ℕ) FromHexError) (hex a b : List ℕ) (m
     → parts_of hex ≡ a ∷ b ∷ more → decoded r ≡ None
 parts_not_decoded (Ok bytes) hex a b more ok cut =
     let lengths : length (hex ∷ []) ≡ length (a ∷ b ∷ more) = ap length (sym (hex_one_part hex bytes ok) ∙ cut) in
-    absurd (omega (arith, lengths))
+    absurd (omega arith)
 parts_not_decoded (Err failure) hex a b more e cut = refl
 
 parts_no_encoding : (hex a b : List ℕ) (more : List (List ℕ)) → parts_of hex ≡ a ∷ b ∷ more → encoding_in_hex hex ≡ None
@@ -115,7 +115,7 @@ parts_not_none : (line : List ℕ) → parts_of line ≡ [] → ⊥
 parts_not_none line cut =
     let some = parts_of-some line in
     let none : length (parts_of line) ≡ 0 = ap length cut in
-    omega (arith, some, none)
+    omega arith
 
 -- a word of one encoding isn't one of two
 another_name : (name word : List ℕ) (w : Word) → value_named words name ≡ None → value_named words word ≡ Some w

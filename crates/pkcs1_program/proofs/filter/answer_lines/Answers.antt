@@ -42,5 +42,5 @@ loop-rest-preserved g c =
             taken.1 taken.2,
       );
       faults = taken.3 ∙ c.loop-rest.invariant.faults;
-      within = omega (arith, c.split_line.ensures.shorter, c.loop-rest.invariant.within);
+      within = omega arith;
     }

@@ -5,9 +5,9 @@ use Rattle.pkcs1_program.proofs.lines.place_of.Goals as goal
 
 pub loop-passed-preserved : goal.loop-passed-preserved
 loop-passed-preserved c = record {
-  within = omega (arith, c.loop-passed-test.true, c.loop-passed.invariant.within);
+  within = omega arith;
   none = pass-on (λ other. other == c.args.byte) c.args.bytes.now c.loop-passed.passed 32
-      (omega (arith, c.loop-passed-test.true, c.loop-passed.invariant.within))
+      (omega arith)
       (rw c.holds.ensures at c.if-not-holds.true) c.loop-passed.invariant.none;
 }
 

@@ -34,4 +34,4 @@ unreachable-requires g c =
     let encoding = c.args.encoding.now in
     is_written s.valid s.printed s.means _ (s.value params) _ encoding (encode_error c.in-Err.field-0.kind)
     (((g.met.T.Parameters c.lifetimes claim).encodings_are params encoding).1 c.in-Some.ensures.0)
-    (omega (arith, c.as_mut_slice.ensures.len, c.in_ok-resize-in-Some.ensures.len)) c.in-Err.ensures.err
+    (omega (arith, c.in_ok-resize-in-Some.ensures.len)) c.in-Err.ensures.err

@@ -20,16 +20,9 @@ returns-then-count-to_usize-clause-err g c =
         c.loop-count.bytes.items ++ last,
         Consumes-trans _ _ _ _ _ c.loop-count.invariant.came c.in-Ok.ensures.bytes.0,
         simp (length-append, length-take)
-            (omega (
-              arith,
-              c.loop-count.bytes.ok.0,
-              c.in-Ok.ensures.bound,
-              c.if-count-to_usize.true,
-              c.len.ensures,
-              c.to_usize.ensures.value,
-            )),
+            (omega (arith, c.in-Ok.ensures.bound)),
         simp (length-append, length-take)
-            (omega (arith, c.loop-count.bytes.ok.0, c.in-Ok.ensures.bound, c.loop-count.invariant.within)),
+            (omega arith),
       ),
     )))
 
@@ -45,17 +38,9 @@ returns-in_err-extend_from_slice-clause-err g c =
       (
         c.loop-count.bytes.items ++ last,
         Consumes-trans _ _ _ _ _ c.loop-count.invariant.came c.in-Ok.ensures.bytes.0,
-        simp (length-append, length-take) (omega (arith, c.in-Ok.ensures.bound, c.if-count-eq0.false)),
+        simp (length-append, length-take) (omega arith),
         simp (length-append, length-take)
-            (omega (
-              arith,
-              c.loop-count.bytes.ok.0,
-              c.in-Ok.ensures.bound,
-              c.if-count-to_usize.false,
-              c.loop-count.invariant.within,
-              c.len.ensures,
-              c.to_usize.ensures.value,
-            )),
+            (omega arith),
       ),
     ))))
 
