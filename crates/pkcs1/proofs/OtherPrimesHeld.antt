@@ -66,7 +66,7 @@ front_of_all_taken None n bytes rest h r = absurd h
 front_of_all_taken (Some c) n bytes rest h r =
     let room : nat_lt (length c) n ≡ false = grind arith in
     let p = ok_pair (take n c) bytes (drop n c) rest (rw room at r) in
-    let none : length rest ≡ 0 = rw (← p.1) (grind (arith, common_steps)) in
+    let none : length rest ≡ 0 = (grind (arith, common_steps)) in
     (ap (λ l. Some l) (sym (take_all n c (omega arith)) ∙ p.0), nothing rest none)
   where
     nothing : (l : List ℕ) → length l ≡ 0 → l ≡ []

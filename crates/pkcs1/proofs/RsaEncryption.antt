@@ -26,22 +26,22 @@ rsa_other a v tag is some same test = rw (is, some) (null_only_refuses v tag sam
 
 -- Its errors are about the bytes.
 null_tells : (p : Option TagAndContents) (k : ErrorKind) → null_only p ≡ Err k → TellsOfBytes k
-null_tells None k e = let same : kind.ParametersMissing ≡ k = cc in rw (← same) (λ no. cc, λ no. cc, λ no. cc)
+null_tells None k e = let same : kind.ParametersMissing ≡ k = cc in (λ no. cc, λ no. cc, λ no. cc)
 null_tells (Some v) k e = chosen (v.tag == 5 && bytes_eq v.contents []) (is_allowed v.tag) _ e
   where
     chosen : (b c : Bool) (of : c ≡ true → Tag)
         → (if b then Ok (tt {0}) else checked c (λ ok. Err (kind.Value (of ok))) (Err (kind.TagUnknown v.tag))) ≡ Err k
         → TellsOfBytes k
     chosen true c of e = cc
-    chosen false true of e = let same : kind.Value (of refl) ≡ k = cc in rw (← same) (λ no. cc, λ no. cc, λ no. cc)
-    chosen false false of e = let same : kind.TagUnknown v.tag ≡ k = cc in rw (← same) (λ no. cc, λ no. cc, λ no. cc)
+    chosen false true of e = let same : kind.Value (of refl) ≡ k = cc in (λ no. cc, λ no. cc, λ no. cc)
+    chosen false false of e = let same : kind.TagUnknown v.tag ≡ k = cc in (λ no. cc, λ no. cc, λ no. cc)
 
 pub rsa_only_tells : (a : Algorithm TagAndContents) (k : ErrorKind) → rsa_only a ≡ Err k → TellsOfBytes k
 rsa_only_tells a k e = chosen (bytes_eq a.oid id_rsa_encryption) e
   where
     chosen : (b : Bool) → (if b then null_only a.parameters else Err kind.OidUnknown) ≡ Err k → TellsOfBytes k
     chosen true e = null_tells a.parameters k e
-    chosen false e = let same : kind.OidUnknown ≡ k = cc in rw (← same) (λ no. cc, λ no. cc, λ no. cc)
+    chosen false e = let same : kind.OidUnknown ≡ k = cc in (λ no. cc, λ no. cc, λ no. cc)
 
 pub rsa_taken : (a : Algorithm TagAndContents) → a ≡ rsa_encryption → rsa_only a ≡ Ok tt
 rsa_taken a is = ap rsa_only is

@@ -3,17 +3,8 @@
 use Rattle.der_core.specs.Words.{encoding_of, own_bytes_of}
 use Rattle.pkcs1.specs.Words.{OwnedPublicKeyAllocates, held_public_key, rsa_public_key}
 use Rattle.pkcs1.proofs.KeyReads.{public_key_at_most_one}
-use Rattle.pkcs1.proofs.KeysWritten.{memory_wanted, ok_result_holds, shortest_comes_out, withheld_is_memory}
+use Rattle.pkcs1.proofs.KeysWritten.{memory_wanted, ok_result_holds, withheld_is_memory}
 use Rattle.pkcs1.proofs.reencode.reencode_public_key.Goals as goal
-
--- `to_pkcs1_der` gives the shortest encoding of the key, and that is these bytes.
-pub returns-clause-same : goal.returns-clause-same
-returns-clause-same c =
-    let read = c.in_ok-from_pkcs1_der in
-    let key = held_public_key own_bytes_of read.field-0 in
-    shortest_comes_out (λ _. Unit {0}) public_key_at_most_one key tt c.args.bytes.now read.ensures.ok.0 encoding_of
-    c.to_pkcs1_der.result
-    c.to_pkcs1_der.ensures.encoding
 
 -- The bytes encode the key.
 pub returns-clause-encoding : goal.returns-clause-encoding

@@ -2,22 +2,8 @@
 -- parts. The row has the same octets as the contents of the key. `key` is the spelling that is written, and
 -- `version_is` says that its version is that of the row.
 use Rattle.pkcs1.specs.Words.{private_as, private_key_with}
-use Rattle.pkcs1.proofs.KeyRows.{key_appended, row_room, row_valid, version_is}
+use Rattle.pkcs1.proofs.KeyRows.{key_appended, version_is}
 use Rattle.pkcs1.proofs.private_key.RsaPrivateKeyEncodeValue.append_value.Goals as goal
-
--- The key is valid, so the row is.
-pub append_row-requires-clause-has : goal.append_row-requires-clause-has
-append_row-requires-clause-has g c =
-    let u = g.U.Encoding in
-    let key = private_as u.written (private_key_with u.value c.args.self.now) in
-    row_valid u.valid u.printed key _ (version_is u.value u.written c.args.self.now.other_prime_infos) c.requires.has
-
--- The row is no longer than the contents, which are within the limit.
-pub append_row-requires-clause-fits : goal.append_row-requires-clause-fits
-append_row-requires-clause-fits g c =
-    let u = g.U.Encoding in
-    let key = private_as u.written (private_key_with u.value c.args.self.now) in
-    row_room u.valid u.printed key _ (version_is u.value u.written c.args.self.now.other_prime_infos) c.requires.fits
 
 -- What `append_row` says of the row holds of the contents of the key.
 pub returns-clause-appends : goal.returns-clause-appends

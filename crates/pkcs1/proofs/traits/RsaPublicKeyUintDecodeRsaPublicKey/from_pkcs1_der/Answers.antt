@@ -3,15 +3,10 @@
 use Rattle.std.proofs.Common.{rules}
 use Rattle.der_core.specs.Words.{err_from_is_err_and, are_bytes, whole}
 use Rattle.pkcs1.specs.Words.{public_decodes, public_read, public_stated}
-use Rattle.pkcs1.proofs.KeyReads.{made_reading_faulty, made_reading_ok, public_tells, read_rejected, reading_decodes_some}
+use Rattle.pkcs1.proofs.KeyReads.{made_reading_faulty, public_tells, read_rejected, reading_decodes_some}
 use Rattle.pkcs1.proofs.KeyMemory.{owned_parts_ask, faulty_as}
 use Rattle.standard.specs.Statement.{PublicKeyEncoding}
 use Rattle.pkcs1.proofs.traits.RsaPublicKeyUintDecodeRsaPublicKey.from_pkcs1_der.Goals as goal
-
--- The key that was read is the one that the function gives.
-pub returns-clause-exact : goal.returns-clause-exact
-returns-clause-exact c =
-    made_reading_ok public_stated (whole public_read) c.args.bytes.now _ c.in_ok-from_der.ensures.exact
 
 -- `public_decodes` says of the function that the bytes encode what it gives, and no other key.
 pub returns-clause-ok : goal.returns-clause-ok
