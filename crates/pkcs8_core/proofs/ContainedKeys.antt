@@ -86,7 +86,7 @@ container_follow v w bytes rest p q =
     (prints_one (tagged_law container_law tags.sequence_tag)) v w a.1 b.1 bytes rest b.0 a.2 b.2
 
 pub containers_delimited : AreDelimited ContainerEncoding
-containers_delimited = (λ v p. let never = p.4 in cc, container_follow)
+containers_delimited = (λ v p. cc, container_follow)
 
 module _ (bytes : List ℕ) (are : AreBytes bytes) where
   -- A whole slice, as one of an RSA key.
@@ -139,9 +139,9 @@ container_contents_are c bytes contents p is =
     let all = append-nil (sequence (container_printed c)) in
     let same_bytes = all ∙ sym same ∙ is ∙ sym (append-nil (sequence contents)) in (
       (tlv_front_injective tags.sequence_tag (container_printed c) contents [] []
-          (omega (arith, few, ap length same, ap length all))
+          (omega (arith, ap length same, ap length all))
           same_bytes).0,
-      omega (arith, few, ap length same, tlv_fit 48 (container_printed c)),
+      omega (arith, ap length same, tlv_fit 48 (container_printed c)),
     )
 
 -- Keys.
