@@ -8,7 +8,7 @@ use Rattle.std.proofs.Math.Seq.{take-append_seam, drop-append_seam}
 use Rattle.std.specs.Int.{from_be_bytes, to_be_bytes, w32}
 use Rattle.std.specs.List.{IsSplitAt}
 use Rattle.std.specs.Io.KnownBytes.{Appends, Keeps}
-use Rattle.der_core.specs.Words.{AppendsFront, IsBitLength, nat_tests}
+use Rattle.der_core.specs.Words.{AppendsFront, IsBitLength}
 use Rattle.standard.specs.Statement.{Decodes, PrivateKey, PrivateKeyEncoding}
 use Rattle.examples.specs.KeyStore.{BeginsWithEntry, BeginsWithNone, Copies, EntryEncoding, StoreEncoding, is_long, long_keys}
 
@@ -33,7 +33,7 @@ same_octets bytes encoding behind entry later key split few (there, holds, made)
     let whole : prefix (length encoding) ++ (encoding ++ behind) ≡ prefix (length there) ++ (there ++ later) =
     sym split ∙ same ∙ ap (λ e. e ++ later) made ∙ append_assoc (prefix (length there)) there later in
     let h = heads (prefix (length encoding)) (prefix (length there)) (encoding ++ behind) (there ++ later) refl whole in
-    let less : length there < 2 ^ 32 = omega (arith, holds.0) in
+    let less : length there < 2 ^ 32 = omega arith in
     let n : length encoding ≡ length there =
     sym (from_be_bytes-to_be_bytes_4 (length encoding) few) ∙ ap (from_be_bytes w32) h.0
     ∙ from_be_bytes-to_be_bytes_4 (length there) less in
@@ -43,7 +43,7 @@ same_octets bytes encoding behind entry later key split few (there, holds, made)
 same_entry : (key other : PrivateKey) (bytes behind entry later : List ℕ) → BeginsWithEntry key bytes behind
     → EntryEncoding other entry → bytes ≡ entry ++ later → (other ≡ key) × (later ≡ behind)
 same_entry key other bytes behind entry later (encoding, (is, one), split) there same =
-    let few : length encoding < 2 ^ 32 = omega (arith, is.0) in
+    let few : length encoding < 2 ^ 32 = omega arith in
     let s = same_octets bytes encoding behind entry later other split few there same in
     (one other s.0, s.1)
 
@@ -146,7 +146,7 @@ walk_ends store [] kept none (keys, to, from, p) = (
   ),
   p,
 )
-walk_ends store (x ∷ rest) kept none walked = absurd (omega (arith, none))
+walk_ends store (x ∷ rest) kept none walked = absurd (omega arith)
 
 stops : (rest : List ℕ) → length rest ≢ 0 → BeginsWithNone rest → (later : List PrivateKey) → StoreEncoding later rest → ⊥
 stops rest some none [] is = some (ap length is)
@@ -170,10 +170,10 @@ small_four bytes small (suc (suc (suc (suc i)))) = omega arith
 pub in_front : (bytes encoding behind : List ℕ) (n : ℕ) → 4 ≤ length bytes → ((i : ℕ) → slice_index bytes i < 256)
     → n ≡ from_be_bytes w32 (four_of bytes) → IsSplitAt (take (length bytes - 4) (drop 4 bytes)) n encoding behind
     → (bytes ≡ prefix (length encoding) ++ (encoding ++ behind)) × (length encoding < 2 ^ 32)
-in_front [] encoding behind n enough small says cut = absurd (omega (arith, enough))
-in_front (a ∷ []) encoding behind n enough small says cut = absurd (omega (arith, enough))
-in_front (a ∷ b ∷ []) encoding behind n enough small says cut = absurd (omega (arith, enough))
-in_front (a ∷ b ∷ c ∷ []) encoding behind n enough small says cut = absurd (omega (arith, enough))
+in_front [] encoding behind n enough small says cut = absurd (omega arith)
+in_front (a ∷ []) encoding behind n enough small says cut = absurd (omega arith)
+in_front (a ∷ b ∷ []) encoding behind n enough small says cut = absurd (omega arith)
+in_front (a ∷ b ∷ c ∷ []) encoding behind n enough small says cut = absurd (omega arith)
 in_front (a ∷ b ∷ c ∷ d ∷ r) encoding behind n enough small says (within, front, back, count, rest) =
     let octets : prefix n ≡ a ∷ b ∷ c ∷ d ∷ [] =
     be_bytes_4 (a ∷ b ∷ c ∷ d ∷ []) n refl (small_four (a ∷ b ∷ c ∷ d ∷ r) small) says in
@@ -181,11 +181,10 @@ in_front (a ∷ b ∷ c ∷ d ∷ r) encoding behind n enough small says (within
     let all : take m r ≡ r = take_all m r (omega arith) in
     let split : r ≡ encoding ++ behind =
     sym all ∙ sym (take-append-drop n (take m r)) ∙ ap (λ x. x ++ drop n (take m r)) (sym front)
-    ∙ ap (λ y. encoding ++ y) (sym back) in
-    let fits : n < 2 ^ 32 = omega (arith, small 0, small 1, small 2, small 3, says) in (
+    ∙ ap (λ y. encoding ++ y) (sym back) in (
       ap (λ p. p ++ r) (sym octets) ∙ ap (λ y. prefix n ++ y) split
           ∙ ap (λ k. prefix k ++ (encoding ++ behind)) (sym count),
-      omega (arith, fits, count),
+      omega arith,
     )
 
 pub no_entry_begins : (bytes encoding behind : List ℕ)
@@ -198,20 +197,20 @@ no_entry_begins bytes encoding behind (split, few) none key entry later is same 
 pub bits_decide : (n bits most : ℕ) → IsBitLength n bits → nat_le (suc most) bits ≡ nat_le (2 ^ most) n
 bits_decide n bits most (within, least) = elim (cases_lt most bits) [
   | inl long ↦ elim (cases_lt n (2 ^ most)) [
-    | inl less ↦ absurd (omega (arith, long, least most less))
+    | inl less ↦ absurd (omega (arith, least most less))
     | inr more ↦ le-leb (suc most) bits long ∙ sym (le-leb (2 ^ most) n more)
   ]
   | inr short ↦ let mono : 2 ^ bits ≤ 2 ^ most = pow_mono short in
-      lt-leb (suc most) bits (omega (arith, short)) ∙ sym (lt-leb (2 ^ most) n (omega (arith, within, mono)))
+      lt-leb (suc most) bits (omega arith) ∙ sym (lt-leb (2 ^ most) n (omega arith))
 ]
 
 -- Whether a slice is empty, as the loop asks.
 pub some_left : (r : Bool) (n : ℕ) → r ≡ false → r ≡ (n == 0) → n ≢ 0
 some_left r n tested is none =
-    let yes : (n == 0) ≡ true = grind (arith, nat_tests, none) in false≢true (sym tested ∙ is ∙ yes)
+    let yes : (n == 0) ≡ true = grind arith in false≢true (sym tested ∙ is ∙ yes)
 
 pub none_left : (r : Bool) (n : ℕ) → r ≡ true → r ≡ (n == 0) → n ≡ 0
-none_left r n tested is = let yes : (n == 0) ≡ true = sym is ∙ tested in grind (arith, nat_tests, yes)
+none_left r n tested is = grind arith
 
 -- What was taken before a flush stays.
 pub flushed : (old mid new : Option (List ℕ)) (bytes : List ℕ) → Appends old mid bytes → Keeps mid new

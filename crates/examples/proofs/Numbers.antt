@@ -33,12 +33,12 @@ pub number_list_law : StatedAs (λ v. IsNumbersRow (numbers_row_spelled v))
     number_list_in
 number_list_law =
     stated numbers_row_spelled (λ v i. (v.0, (map-id v.1.0 i, tt))) (λ w. (w.version, (w.numbers, tt))) (λ w. refl)
-    (λ v. (λ p. omega (arith, p.0.0.1), λ p. (((omega arith, omega (arith, p)), omega (arith, p)), (all_numbers v.1.0, tt))))
+    (λ v. (λ p. omega arith, λ p. (((omega arith, omega arith), omega arith), (all_numbers v.1.0, tt))))
     (λ v bytes. (
-      λ (few, ok, is). (few, omega (arith, ok.0.0.1), is ∙ numbers_row_has_one_end v),
+      λ (few, ok, is). (few, omega arith, is ∙ numbers_row_has_one_end v),
       λ (few, ok, is). (
         few,
-        (((omega arith, omega (arith, ok)), omega (arith, ok)), (all_numbers v.1.0, tt)),
+        (((omega arith, omega arith), omega arith), (all_numbers v.1.0, tt)),
         is ∙ sym (numbers_row_has_one_end v),
       ),
     ))
