@@ -1,6 +1,6 @@
 -- Reading with `?`: each step of the code is one lemma. For readers of this crate, and of those above.
-use Rattle.std.proofs.Common.{ℕ, Bool, true, false, List, [], ◌∷◌, ◌++◌, ◌≡◌, ◌≢◌, ◌≤◌, ◌==◌, length, take, drop, refl, sym, ap, ◌∙◌, arith, inl, inr, ⊎_elim, append_assoc, length-take, append-nil, take_all, Result, Ok, Err, Some, None, take-append-drop, nat_lt, not, eqb, if◌then◌else◌, IfOk, IfErr}
-use Rattle.der_core.specs.Words.{nat_tests, Error, ErrorKind, Tag, WithinLimit, AreBytes, Input, left_in, read_from, header_at, inner_of, end_of, front_of, small_of, header_at-sound, ok_pair, cond_cases, limit, AllocatesInParts, ReadsPrinted, AllocatesAtFront, DecodesOrMemory, InputAllocates, FaultOrMemory, Returns, ReadsAll, Reading, FrontReading, ◌>>=◌, chain, ended, expected, front_parts, parts, such, alone, tagged, contents_behind, inside, whole, ReadsContents, ReadsFronts, integer_tag, Tlv}
+use Rattle.std.proofs.Common.{ℕ, Bool, true, false, List, [], ◌∷◌, ◌++◌, ◌≡◌, ◌≢◌, ◌≤◌, ◌==◌, length, take, drop, refl, sym, ap, ◌∙◌, arith, inl, inr, ⊎_elim, append_assoc, length-take, append-nil, Result, Ok, Err, Some, None, take-append-drop, nat_lt, not, eqb, if◌then◌else◌, IfOk, IfErr}
+use Rattle.der_core.specs.Words.{nat_tests, Error, ErrorKind, Tag, WithinLimit, AreBytes, Input, left_in, read_from, header_at, inner_of, end_of, small_of, header_at-sound, ok_pair, cond_cases, limit, AllocatesInParts, ReadsPrinted, AllocatesAtFront, DecodesOrMemory, InputAllocates, FaultOrMemory, Returns, ReadsAll, Reading, FrontReading, ◌>>=◌, chain, ended, expected, front_parts, parts, such, alone, tagged, contents_behind, inside, whole, ReadsContents, ReadsFronts, integer_tag, Tlv}
 use Rattle.der_core.specs.declared.error.ErrorKind.TheVariants.{OutOfMemory, TagUnexpected, Value}
 use Rattle.der_core.proofs.Readings.{contents_behind_other_tag}
 
@@ -112,17 +112,6 @@ pub front_errs : {V : Type 0} (at : FrontReading V) (e : ErrorKind) (before : In
 front_errs at e None b is faulty = cc
 front_errs at e (Some i) b is (inl w) = absurd w.1.3
 front_errs at e (Some i) b is (inr p) = ap at (sym (input_injective i b is)) ∙ p
-
--- All that is left is the front.
-pub front_of_all : (mid : Input) (r c rest : List ℕ) (n : ℕ) → mid ≡ Some r → n ≡ length (left_in mid)
-    → read_from mid (front_of n) ≡ Ok (c, rest) → c ≡ r
-front_of_all None r c rest n is len e = cc
-front_of_all (Some l) r c rest n is len e =
-    let same : l ≡ r = input_injective l r is in
-    ⊎_elim (λ w. cc)
-    (λ w.
-    let parts = ok_pair (take n l) c (drop n l) rest w.1 in sym parts.0 ∙ take_all n l (omega arith) ∙ same)
-    (cond_cases (nat_lt (length l) n) _ _ _ e)
 
 -- A value that is copied once it was read whole.
 pub copy_returns : {X V : Type 0} (value : X → V) (encoding : V → List ℕ → Type 0) (given : Result V ErrorKind)

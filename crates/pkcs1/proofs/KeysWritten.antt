@@ -1,8 +1,8 @@
 -- Writing keys, and keys written again. No encoding is that of two kinds. For `encode_key`, `to_pkcs1_der`,
 -- `src/reencode.rt`, and the law that types exclude each other.
 use Rattle.std.proofs.Common.{ℕ, List, sym, Result, Ok, Err, IfErr, IfOk, ◌≡◌, ◌⊎◌, ◌∙◌, inl, inr, ap, arith, [], ◌∷◌, ◌++◌, ◌≤◌, length, append_assoc, length-append}
-use Rattle.der_core.specs.Words.{one_spelling_shortest, row_shortest, tagged_shortest, WritesShortest, EncodeError, no_encoding, too_long, no_room, another, Reading, ◌>>=◌, encode_error, Excludes, tlv_fit, prints_one, limit}
-use Rattle.pkcs1.specs.Words.{Withholds, public_encoding, AnyNumber, PublicIsValid, IsEncoded, Rejects, Unmade, bytes_if_read, integer_law}
+use Rattle.der_core.specs.Words.{EncodeError, no_encoding, too_long, no_room, another, Reading, ◌>>=◌, encode_error, Excludes, tlv_fit, prints_one, limit}
+use Rattle.pkcs1.specs.Words.{Withholds, IsEncoded, Rejects, Unmade, bytes_if_read, integer_law}
 use Rattle.pkcs1_params.proofs.Masks.{oaep_fields_begin_high, pss_fields_begin_high, record_differs}
 use Rattle.standard.specs.Statement.{IsShortest, PrivateKeyEncoding, PublicKeyEncoding, integer, AtMostOne, IsOaep, IsPss, OaepEncoding, PssEncoding, oaep_fields, pss_fields, integers, optional, other_primes, sequence, version}
 use Rattle.der_core.specs.declared.error.ErrorKind.{ErrorKind}
@@ -11,12 +11,6 @@ use Rattle.pkcs1_params.specs.Words.{AnswersAsn1OrAsks}
 use Rattle.pkcs1_params.specs.declared.error.Error.{Error}
 use Rattle.pkcs1_params.specs.declared.error.Error.TheVariants as error
 use Rattle.pkcs1_params.proofs.Wrapped.{same_contents}
-
--- What is written of the row of a public key.
-pub public_written : WritesShortest PublicIsValid public_encoding (λ v. v) (λ v. v)
-public_written =
-    let number = one_spelling_shortest AnyNumber integer in
-    tagged_shortest (row_shortest number (row_shortest number (one_spelling_shortest (λ _. Unit {0}) (λ _. [])))) 48
 
 -- Keys that are read from an encoding and written again.
 module _ {V : Type 0} (Is : V → Type 0) {Encoding : V → List ℕ → Type 0} (one : AtMostOne Encoding) (v : V)

@@ -1,9 +1,8 @@
 -- What is written of a value and why it isn't, in the words of `Statement.antt`; and of a value that another one stands
 -- for. For `encode_key` and `to_pkcs1_der`.
-use Rattle.std.proofs.Common.{ℕ, List, ◌≡◌, ◌⊎◌, ◌↔◌, sym, ap, ◌∙◌, inl, inr}
+use Rattle.std.proofs.Common.{ℕ, List, ◌≡◌, ◌⊎◌, ◌↔◌, inl, inr}
 use Rattle.der_core.specs.Words.{EncodeError, no_encoding, too_long, no_room, another, WhyNotCounted, written_prints, Prints, Spells, WritesShortest, IsOutOfMemory, WhyOctetsNotCounted, encode_error}
 use Rattle.der_core.specs.declared.error.ErrorKind.{ErrorKind}
-use Rattle.der_core.specs.declared.error.ErrorKind.TheVariants.{OutOfMemory}
 use Rattle.pkcs1.specs.Words.{Unmade}
 
 -- What the calls of der_core promise of a type.
@@ -17,9 +16,6 @@ module _ {S V : Type 0} {valid : S → Type 0} {printed : S → List ℕ} {means
 
   abbrev IsWritten : V → Type 0
   IsWritten w = valid (written w)
-
-  out_of_memory_is_another : (k : ErrorKind) (c : EncodeError) → k ≡ OutOfMemory → encode_error k ≡ c → another ≡ c
-  out_of_memory_is_another k c memory told = sym (ap encode_error memory) ∙ told
 
   -- Memory ran out for a value with an encoding; or its octets aren't counted, and it has none.
   abbrev Unencoded : ErrorKind → EncodeError → Type 0

@@ -1,8 +1,8 @@
 -- Parameters with a label: their encodings, by the length of the label. For `src/label.rt`.
-use Rattle.std.proofs.Common.{ℕ, List, [], ◌∷◌, ◌++◌, ◌≡◌, ◌<◌, ◌≤◌, length, true, false, subst, sym, ap, ◌∙◌, arith, length-append, append-nil, append_assoc, Bool, Result, Ok, Err, refl, IfOk, IfErr, if◌then◌else◌, is_ok}
+use Rattle.std.proofs.Common.{ℕ, List, [], ◌∷◌, ◌++◌, ◌≡◌, ◌<◌, ◌≤◌, length, true, false, subst, sym, ap, ◌∙◌, arith, append-nil, append_assoc, Bool, Result, Ok, Err, refl, IfOk, IfErr, if◌then◌else◌, is_ok}
 use Rattle.std.specs.Prelude.{⊤}
 use Rattle.der_core.proofs.Writing.{counts_joined}
-use Rattle.der_core.specs.Words.{AreBytes, tlv_fit, limit, Counts, sum_of_lengths}
+use Rattle.der_core.specs.Words.{AreBytes, limit, Counts, sum_of_lengths}
 use Rattle.der_core.specs.declared.error.Error.{Error}
 use Rattle.der_core.specs.declared.error.ErrorKind.TheVariants as kind
 use Rattle.spki_core.specs.Words.{WrittenField, field_with, octets_under, out_under, record_under, rest_under, spelling_printed}
@@ -106,25 +106,3 @@ no_label_fits_where_uncounted oid n (Err x) ok all label bytes e encoding means 
     let least = (zero_least oaep_record (labelled oid label) encoding means).1 in
     let long = uncounted_overflows (sequence (written_labelled oid label)) x.kind means.0 (all label bytes e) in
     omega (arith, ap length (labelled_encoding_is oid label))
-
--- A label is no longer than the encoding that holds it.
-source_longer : (label : List ℕ) → length label ≤ length (written_source label)
-source_longer [] = omega arith
-source_longer (x ∷ xs) =
-    let octets = tlv 4 (x ∷ xs) in
-    let source = tlv 6 id_p_specified ++ octets in
-    omega (
-      arith,
-      tlv_fit 4 (x ∷ xs),
-      length-append (tlv 6 id_p_specified) octets,
-      tlv_fit 48 source,
-      tlv_fit 162 (tlv 48 source),
-    )
-
--- So a label that fits is within the limit.
-pub label_within : (oid label : List ℕ) → AreBytes label → LabelFits oid (length label) → length label ≤ limit
-label_within oid label bytes fits =
-    let means = fits label bytes refl in
-    let least = (zero_least oaep_record (labelled oid label) means.0 means.1).1 in
-    let written = labelled_written oid label in
-    omega (arith, source_longer label, ap length written, length-append (written_before oid) (written_source label), tlv_fit 48 (written_labelled oid label), ap length (labelled_encoding_is oid label))
