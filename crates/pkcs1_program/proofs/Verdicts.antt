@@ -1,6 +1,5 @@
 -- A verdict says whether something is so.
-use Rattle.std.proofs.Common.{◌≡◌, ℕ, inl, inr, List, ◌++◌, ◌≤◌, length, Bool, true, false, refl, subst, ap, arith, Some, option_map, Result, Ok, Err, ◌↔◌, codes, if◌then◌else◌, IsTrue, is_ok}
-use Rattle.std.specs.Result.{result_ok}
+use Rattle.std.proofs.Common.{◌≡◌, ℕ, inl, inr, List, ◌++◌, ◌≤◌, length, Bool, true, false, refl, subst, ap, arith, Some, Result, Ok, Err, ◌↔◌, codes, if◌then◌else◌, IsTrue, is_ok}
 use Rattle.der_core.specs.Words.{EncodeError, WhyNotWritten, another, no_encoding, no_room, too_long, Prints, Spells, ok_of}
 use Rattle.pkcs1_params.specs.Words.{IsEncoded}
 use Rattle.standard.specs.Statement.{Decodes, IsShortest}
@@ -27,11 +26,6 @@ module _ {V : Type 0} (Encoding : V → List ℕ → Type 0) (bytes : List ℕ) 
 
   -- a call that reads
   module _ {X E : Type 0} (value : X → V) where
-    pub read_some : (r : Result X E) → Decodes Encoding bytes (ok_of value r)
-        → Decodes Encoding bytes (option_map value (result_ok r))
-    read_some (Ok x) read = read
-    read_some (Err e) read = read
-
     pub read_is_ok : (r : Result X E) → Decodes Encoding bytes (ok_of value r)
         → IsTrue (is_ok r) ↔ IsEncoded Encoding bytes
     read_is_ok (Ok x) read = (λ so. (value x, read.0), λ some. refl)
