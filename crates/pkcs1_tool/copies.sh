@@ -68,19 +68,19 @@ copies_in_little_memory() {
     cmp -s "$room/files/large.der" "$room/files/again.der" || fails "copy pub large.der again.der: other bytes"
 }
 
-# Two names of one file, pipes, a name that is too long, and the longest paths of IN and of the new file: 4095 octets.
+# Two names of one file, pipes, a name that is too long, and the longest paths of IN and of the new file: 4095 bytes.
 copies_by_other_names() {
     local long
     long=$(printf './%.0s' {1..2044})
     copies 0 "" out.der "$public" copy pub "${long}pub.der" out.der
     copies 1 "reading $long/pub.der: $file" kept.der "$old" copy pub "$long/pub.der" kept.der
-    long=$(printf '../files/%.0s' {1..453})
-    copies 0 "" out.der "$private" copy priv priv.der ".//././${long}out.der"
-    long=././././$long
+    long=$(printf '../files/%.0s' {1..451})
+    copies 0 "" out.der "$private" copy priv priv.der "././././${long}out.der"
+    long=.//./././$long
     copies 1 "writing ${long}new.der: no file can be created beside it" new.der - copy pub pub.der "${long}new.der"
     long=$(head -c 5000 /dev/zero | tr '\0' x)
     copies 1 "reading $long: $file" new.der - copy pub "$long" new.der
-    copies 1 "writing $long: the new file can't be renamed to it" kept.der "$old" copy pub pub.der "$long"
+    copies 1 "writing $long: it can't be opened" kept.der "$old" copy pub pub.der "$long"
     ln "$room/files/same.der" "$room/files/hard.der"
     ln -s same.der "$room/files/soft.der"
     copies 0 "" hard.der "$public" copy pub same.der hard.der
@@ -102,7 +102,7 @@ copies_by_other_names() {
     rm "$room/files/pipe"
 }
 
-# What links name is replaced, and the links stay. A file is there from none of what they name on.
+# What links name is replaced, and the links stay. Nothing is created through a link to nothing.
 copies_through_links() {
     mkdir "$room/files/sub"
     printf old > "$room/files/sub/real.der"
@@ -112,49 +112,68 @@ copies_through_links() {
     ln "$room/files/sub/real.der" "$room/files/before.der"
     copies 0 "" sub/real.der "$public" copy pub pub.der link.der
     [ "$(cat "$room/files/before.der")" = old ] || fails "copy pub pub.der link.der: the old file is written"
-    copies 0 "" sub/none.der "$public" copy pub pub.der nothing.der
+    copies 1 "writing nothing.der: it is a link to nothing" sub/none.der - copy pub pub.der nothing.der
+    copies 1 "writing nothing.der: it is a link to nothing" sub/none.der - copy priv priv.der nothing.der
     copies 1 "writing device: a write failed" new.der - copy pub pub.der device
     { [ -L "$room/files/link.der" ] && [ -L "$room/files/nothing.der" ] && [ -L "$room/files/device" ]; } ||
         fails "copies through links: a link is replaced"
     rm -r "$room/files/sub" "$room/files"/{link.der,nothing.der,device,before.der}
 }
 
-# The rights of a new file: of a private key no more than IN has; of a public one those that the umask leaves. An old
-# file's stay, but for what IN doesn't have. A row has the kind, the umask, what is wanted, and the old file's rights.
-keeps_rights() {
-    local it kind mask wanted has
-    chmod 600 "$room/files/priv.der"
-    for it in 'priv 000 600 -' 'priv 277 400 -' 'priv 000 600 660' 'priv 277 600 640' 'pub 027 640 -' \
-        'pub 077 664 664'; do
-        read -r kind mask wanted has <<< "$it"
-        rm -f "$room/files/out.der"
-        [ "$has" = - ] || { printf old > "$room/files/out.der" && chmod "$has" "$room/files/out.der"; }
-        (umask "$mask" && runs copy "$kind" "$kind.der" out.der)
-        ends "copy $kind, rights $it" 0 "" "" $?
-        [ "$(mode out.der)" = "$wanted" ] || fails "copy $kind: rights $(mode out.der), not $wanted"
-    done
-    chmod 644 "$room/files/priv.der"
+# gives WHAT WANTED KIND IN OUT [UMASK]: the copy succeeds, and leaves OUT with these rights.
+gives() {
+    (umask "${6:-000}" && runs copy "$3" "$4" "$5")
+    ends "copy $3, rights: $1" 0 "" "" $?
+    [ "$(mode "$5")" = "$2" ] || fails "copy $3: $1: rights $(mode "$5"), not $2"
 }
 
-# A private key's new file, and one behind a link to nothing, gives another group than that of IN nothing.
-keeps_from_other_groups() {
-    local it group wanted out
-    [ "$(id -u)" = 0 ] || {
+# The rights of a new file: of a private key those of IN's owner alone. Of a public key those of the old file, or else
+# those of IN that the umask leaves. A row has the kind, the umask, IN's rights, the old file's, and what is wanted.
+keeps_rights() {
+    local it kind mask from has wanted
+    for it in 'priv 000 600 - 600' 'priv 000 644 - 600' 'priv 022 604 - 600' 'priv 000 700 - 700' 'priv 277 600 - 400' \
+        'priv 000 600 200 600' 'priv 000 400 664 400' 'priv 000 660 660 600' 'pub 000 644 - 644' 'pub 027 666 - 640' \
+        'pub 000 600 - 600' 'pub 077 644 664 664' 'pub 000 644 600 600'; do
+        read -r kind mask from has wanted <<< "$it"
+        rm -f "$room/files/out.der"
+        chmod "$from" "$room/files/$kind.der"
+        [ "$has" = - ] || { printf old > "$room/files/out.der" && chmod "$has" "$room/files/out.der"; }
+        gives "$it" "$wanted" "$kind" "$kind.der" out.der "$mask"
+    done
+    rm "$room/files/out.der"
+    chmod 644 "$room/files/priv.der" "$room/files/pub.der"
+}
+
+# What IN and OUT's folder give to others by access lists: nobody has any right to a private key's new file. By its mode
+# the group bits are the mask of its list.
+keeps_from_lists() {
+    { command -v setfacl > /dev/null && mkdir "$room/files/shared" && cp "$room/files/priv.der" "$room/files/listed.der" &&
+        chmod 600 "$room/files/listed.der" && setfacl -m u:65534:r,g::--- "$room/files/listed.der" 2> "$room/error" &&
+        setfacl -d -m u:65534:rwx,g::rwx,o::r "$room/files/shared" 2> "$room/error"; } || {
         less='not all of '
-        echo "run_built: the group of a new file isn't tried: only root gives IN another"
+        rm -rf "$room/files/shared" "$room/files/listed.der"
+        echo "run_built: access lists aren't tried: setfacl is not installed, or this file system has none"
         return
     }
-    ln -s none.der "$room/files/nothing.der"
-    for it in '0 640 out.der' '1 600 out.der' '1 600 nothing.der'; do
-        read -r group wanted out <<< "$it"
-        rm -f "$room/files"/{out,none}.der
-        chgrp "$group" "$room/files/priv.der" && chmod 640 "$room/files/priv.der"
-        (umask 022 && runs copy priv priv.der "$out")
-        ends "copy priv of the group $group to $out" 0 "" "" $?
-        [ "$(stat -L -c %a "$room/files/$out")" = "$wanted" ] || fails "copy priv of the group $group: rights of $out"
-    done
-    rm "$room/files"/{nothing,none}.der
-    chgrp 0 "$room/files/priv.der" && chmod 644 "$room/files/priv.der"
+    [ "$(mode listed.der)" = 640 ] || fails "a file with a list has the rights $(mode listed.der)"
+    gives "IN has a list" 600 priv listed.der out.der
+    gives "OUT's folder has a default list" 600 priv listed.der shared/out.der
+    gives "a list, over a file" 600 priv priv.der listed.der
+    getfacl -c "$room/files/listed.der" 2> "$room/error" | grep -q 65534 && fails "a new file has the old one's list"
+    rm -r "$room/files/shared" "$room/files/listed.der" "$room/files/out.der"
+}
+
+# The rights are those of the file that was read, even if another stands at its path by then.
+keeps_rights_of_what_was_read() {
+    mkfifo -m 600 "$room/files/pipe"
+    ln -s pipe "$room/files/in.der"
+    cp "$room/files/priv.der" "$room/files/wide.der"
+    chmod 700 "$room/files/wide.der"
+    # The pipe opens for writing as soon as the program has opened it for reading.
+    { exec 9> "$room/files/pipe" && ln -sfn wide.der "$room/files/in.der" && hex "$private" >&9; } &
+    gives "IN's link is changed once it is open" 600 priv in.der out.der
+    wait
+    rm "$room/files"/{pipe,in.der,wide.der,out.der}
 }
 
 # Copies into one folder at the same time take the names of new files from each other.
@@ -165,16 +184,14 @@ copies_at_the_same_time() {
     rm -r "$room/files/many"
 }
 
-# The name of the new file is another one than those that are there. Where all are taken, nothing is written.
+# Names that other versions of the tool gave, or others may take, are in nobody's way.
 takes_no_name() {
-    printf mine > "$room/files/.pkcs1_tool"
+    touch "$room/files"/.pkcs1_tool{,.{0..99}}
     copies 0 "" out.der "$public" copy pub pub.der out.der
-    touch "$room/files"/.pkcs1_tool.{0..99}
-    copies 1 "writing kept.der: no name for a file beside it is free" kept.der "$old" copy pub pub.der kept.der
     rm "$room/files"/.pkcs1_tool*
 }
 
-# An IN that goes on behind what can be a key, in 45 MB of addresses.
+# An IN that goes on after what can be a key, in 45 MB of addresses.
 ends_without_an_end() {
     local shell=(bash -c 'ulimit -v 45000; exec "$@"' sh)
     ! needs_memory || shell=()
@@ -190,12 +207,12 @@ ends_without_an_end() {
 }
 
 # A file of at most 1024 bytes takes the first part of a longer key; the write of the second fails. OUT keeps what it
-# has, also if it is IN.
+# has, also if it is IN. Only the tool of make ignores the signal that comes then; BY_MAKE says that this is it.
 keeps_what_is_there() {
     local out
     cat ../../ffi/tests/keys/priv2.der > "$room/files/long_key.der"
     for out in kept.der long_key.der; do
-        (trap '' XFSZ && ulimit -f 1 && runs copy priv long_key.der "$out")
+        ([ -n "${BY_MAKE-}" ] || trap '' XFSZ; ulimit -f 1 && runs copy priv long_key.der "$out")
         ends "copy priv long_key.der $out" 1 "writing $out: a write failed" "" $?
     done
     keeps "copy priv long_key.der kept.der" kept.der
@@ -205,7 +222,8 @@ keeps_what_is_there() {
     rm "$room/files/long_key.der"
 }
 
-# Who isn't root can't write to a folder without that right, nor to a file: both stay as they are.
+# Without a right to write to a folder, or to a file, both stay as they are. A folder that can be written to and not read
+# can't be synced, which is reported.
 keeps_out_without_rights() {
     local as=()
     [ "$(id -u)" != 0 ] || as=(setpriv --reuid 65534 --regid 65534 --clear-groups)
@@ -225,6 +243,12 @@ keeps_out_without_rights() {
     chmod 444 "$room/files/kept.der"
     runs_by "${as[@]}" "$program" copy pub pub.der kept.der
     ends "copy pub to a file without rights" 1 "writing kept.der: it can't be opened" "" $?
+    chmod 333 "$room/files"
+    runs_by "${as[@]}" "$program" copy pub pub.der unsynced.der
+    ends "copy pub to a folder that can't be read" 1 \
+        "writing unsynced.der: it is replaced, but its folder can't be synced" "" $?
+    hex "$public" | cmp -s - "$room/files/unsynced.der" || fails "copy pub to a folder that can't be read: other bytes"
+    rm -f "$room/files/unsynced.der"
     chmod 755 "$room/files"
     chmod 644 "$room/files/kept.der"
     keeps "copies without rights" kept.der
@@ -254,7 +278,8 @@ out.der" ] || fails "copies to a full disk: the key is lost, or another file is 
 }
 
 # The calls on files, in order, where strace is there to tell: the new file is created, written, on the disk and closed
-# before it is renamed, and then its name is; OUT isn't truncated. OUT is looked at only behind a key.
+# before it is renamed, and then its name is; OUT isn't truncated. The new file has another name each time. OUT is looked
+# at only after a key.
 calls_in_order() {
     local -x ASAN_OPTIONS=detect_leaks=0 # under strace a sanitizer can't look for leaks
     { command -v strace > /dev/null && strace -o "$room/trace" true 2> "$room/error"; } || {
@@ -263,15 +288,21 @@ calls_in_order() {
     }
     runs_by strace -y -o "$room/trace" -e trace=file,write,fsync,ftruncate,close "$program" copy pub pub.der out.der
     ends "copy pub pub.der out.der, traced" 0 "" "" $?
+    grep -oE '\.pkcs1_tool\.[0-9a-f]{16}"' "$room/trace" | sort -u > "$room/name"
+    sed -i -E 's/\.pkcs1_tool\.[0-9a-f]{16}/.pkcs1_tool/g' "$room/trace"
     sed -n -E -e '/^open.*(\.der|\.pkcs1_tool)"/s/^open[^"]*"([^"]*\/)?([^"]*)", ([A-Z_|]*).*/\2 \3/p' \
         -e 's/^(write|fsync|ftruncate|close)\([0-9]+<([^>]*\/)?(\.pkcs1_tool|[^>\/]*\.der|files)>.*/\1 \3/p' \
         -e '/^(truncate|creat)\(/s/\(.*//p' \
         -e 's/^(rename|unlink)[^"]*"([^"]*\/)?([^"]*)".*"([^"]*\/)?([^"]*)".*/\1 \3 \5/p' "$room/trace" |
         sed -E 's/\|O_(CLOEXEC|NOCTTY|LARGEFILE)//g' > "$room/calls"
-    printf '%s\n' 'pub.der O_RDONLY' 'out.der O_WRONLY' 'close out.der' '.pkcs1_tool O_WRONLY|O_CREAT|O_EXCL' \
-        'write .pkcs1_tool' 'fsync .pkcs1_tool' 'close .pkcs1_tool' 'rename .pkcs1_tool out.der' 'fsync files' \
-        'close files' 'close pub.der' |
+    printf '%s\n' 'pub.der O_RDONLY' 'close pub.der' 'out.der O_WRONLY' 'close out.der' \
+        '.pkcs1_tool O_WRONLY|O_CREAT|O_EXCL' 'write .pkcs1_tool' 'fsync .pkcs1_tool' 'close .pkcs1_tool' \
+        'rename .pkcs1_tool out.der' 'fsync files' 'close files' |
         diff - "$room/calls" || fails "copy pub pub.der out.der: other calls (>)"
+    runs_by strace -o "$room/trace" -e trace=file "$program" copy pub pub.der out.der
+    grep -oE '\.pkcs1_tool\.[0-9a-f]{16}"' "$room/trace" | sort -u | cat "$room/name" - | sort -u > "$room/names"
+    [ "$(wc -l < "$room/name") $(wc -l < "$room/names")" = "1 2" ] ||
+        fails "copy pub pub.der out.der: the new files have the names $(cat "$room/names")"
     runs_by strace -o "$room/trace" -e trace=file,ftruncate "$program" copy pub null.der out.der
     ends "copy pub null.der out.der, traced" 1 "reading null.der: $error tag 0x30 was expected, 0x05 was found" "" $?
     ! sed '/^execve/d' "$room/trace" | grep -q 'out\.der"' || fails "copy pub null.der out.der: out.der is looked at"
@@ -318,7 +349,8 @@ copies_keys() {
     copies_by_other_names
     copies_through_links
     keeps_rights
-    keeps_from_other_groups
+    keeps_from_lists
+    keeps_rights_of_what_was_read
     copies_at_the_same_time
     takes_no_name
     copies_to_a_full_disk

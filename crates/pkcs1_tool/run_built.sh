@@ -103,6 +103,6 @@ for program in "${programs[@]}"; do
         fails "it isn't there$builder"
     fi
 done
-echo "run_built: $(./all_rows.sh | wc -l) rows and ${less-}78 runs, of each program"
+echo "run_built: $(./all_rows.sh | wc -l) rows and ${less-}87 runs, of each program"
 echo "$passed passed, $failed failed"
 [ "$failed" = 0 ]

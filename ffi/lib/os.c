@@ -2,8 +2,10 @@
  * of errors, and structs. rust/tool/src/rattle_std/system.rs, which calls these, declares them once more. Trusted, not
  * proved.
  *
- * Each returns FAILED, NO_MEMORY or EXISTS if the system didn't do it. What a signal interrupts is asked again. */
+ * Each returns FAILED, NO_MEMORY, EXISTS or NOT_FOUND if the system didn't do it. What a signal interrupts is asked
+ * again. */
 #define _XOPEN_SOURCE 700
+#define _DEFAULT_SOURCE /* for getentropy */
 #include <errno.h>
 #include <fcntl.h>
 #include <limits.h>
@@ -15,13 +17,13 @@
 #include <sys/stat.h>
 #include <unistd.h>
 
-enum { FAILED = -1, NO_MEMORY = -2, EXISTS = -3 };
-enum how { READ, WRITE, CREATE, CREATE_NEW };
+enum { FAILED = -1, NO_MEMORY = -2, EXISTS = -3, NOT_FOUND = -4 };
+enum how { READ, WRITE, CREATE_NEW };
 enum kind { REGULAR, LINK, OTHER };
 /* What is known of a file. No two files have the same device and number. */
 struct found {
     uint64_t device, number, len;
-    uint32_t mode, group;
+    uint32_t mode;
 };
 /* The octets of a path, with the zero octet behind it. */
 enum { LONGEST = 4096 };
@@ -41,10 +43,16 @@ ptrdiff_t pkcs1_os_look_at(int file, struct found *found);
 ptrdiff_t pkcs1_os_real_path(const char *path, char room[LONGEST]);
 ptrdiff_t pkcs1_os_rename(const char *from, const char *to);
 ptrdiff_t pkcs1_os_remove(const char *path);
+ptrdiff_t pkcs1_os_random(uint8_t *room, size_t len);
 
 /* What is returned of a call that failed. */
 static ptrdiff_t failed(void) {
-    return errno == ENOMEM ? NO_MEMORY : errno == EEXIST ? EXISTS : FAILED;
+    switch (errno) {
+        case ENOMEM: return NO_MEMORY;
+        case EEXIST: return EXISTS;
+        case ENOENT: return NOT_FOUND;
+        default: return FAILED;
+    }
 }
 
 static int opened(const char *path, int flags, unsigned mode) {
@@ -61,7 +69,6 @@ ptrdiff_t pkcs1_os_open(const char *path, int how, unsigned mode) {
     switch ((enum how)how) {
         case READ: file = opened(path, O_RDONLY, 0); break;
         case WRITE: file = opened(path, O_WRONLY, 0); break;
-        case CREATE: file = opened(path, O_WRONLY | O_CREAT, mode); break;
         case CREATE_NEW: file = opened(path, O_WRONLY | O_CREAT | O_EXCL, mode); break;
     }
     return file < 0 ? failed() : file;
@@ -102,15 +109,14 @@ ptrdiff_t pkcs1_os_set_mode(int file, unsigned mode) {
     return done < 0 ? failed() : 0;
 }
 
-/* Whether it closes isn't told: what was written is on the disk before, or went to no disk. */
+/* Whether it closes isn't told: what was written to a regular file is on the disk before. */
 void pkcs1_os_close(int file) {
     (void)close(file);
 }
 
 /* The kind of what is found. */
 static ptrdiff_t told(const struct stat *it, struct found *found) {
-    *found = (struct found){(uint64_t)it->st_dev, (uint64_t)it->st_ino, (uint64_t)it->st_size, (uint32_t)it->st_mode,
-                            (uint32_t)it->st_gid};
+    *found = (struct found){(uint64_t)it->st_dev, (uint64_t)it->st_ino, (uint64_t)it->st_size, (uint32_t)it->st_mode};
     return S_ISREG(it->st_mode) ? REGULAR : S_ISLNK(it->st_mode) ? LINK : OTHER;
 }
 
@@ -139,8 +145,15 @@ ptrdiff_t pkcs1_os_remove(const char *path) {
     return unlink(path) < 0 ? failed() : 0;
 }
 
+/* Random octets, at most 256. */
+ptrdiff_t pkcs1_os_random(uint8_t *room, size_t len) {
+    return getentropy(room, len) < 0 ? failed() : 0;
+}
+
 int main(int argc, char **argv) {
-    /* To write to a pipe that nobody reads is an error, and doesn't end the program. */
+    /* To write to a pipe that nobody reads, or past the size that a file may have, is an error, and doesn't end the
+     * program. */
     (void)signal(SIGPIPE, SIG_IGN);
+    (void)signal(SIGXFSZ, SIG_IGN);
     return pkcs1_tool_main(argc, (const char *const *)argv);
 }

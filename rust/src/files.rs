@@ -63,9 +63,9 @@ pub(crate) struct Host {
 
 impl Host {
     /// Calls with these files. If `is_secret`, only the owner may read and write those that are created.
-    pub(crate) fn run<T>(is_secret: bool, call: impl FnOnce(&&Host) -> der::Result<T>) -> Result<T, FileError> {
+    pub(crate) fn run<T>(is_secret: bool, call: impl FnOnce(&mut &Host) -> der::Result<T>) -> Result<T, FileError> {
         let host = Host { is_secret, fault: Cell::new(None) };
-        call(&&host).map_err(|error| host.fault.take().map_or(FileError::Value(error.into()), FileError::Io))
+        call(&mut &host).map_err(|error| host.fault.take().map_or(FileError::Value(error.into()), FileError::Io))
     }
 
     /// Calls again, as long as a signal interrupts the call.

@@ -39,6 +39,15 @@ fn keys_are_read_and_written() {
 }
 
 #[test]
+fn long_documents_are_read_and_written() {
+    let (path, der) = (path("long"), made::sequence(&[made::tlv(4, &vec![0x11; 1 << 20])]));
+    Document::from_der(&der).unwrap().write_der_file(&path).unwrap();
+    assert_eq!(std::fs::read(&path).unwrap(), der);
+    assert_eq!(Document::read_der_file(&path).unwrap().as_bytes(), der);
+    std::fs::remove_file(&path).unwrap();
+}
+
+#[test]
 fn an_error_says_which_call_failed() {
     let (path, folder) = (path("error"), std::env::temp_dir());
     assert_eq!(failed(RsaPrivateKeyOwned::read_pkcs1_der_file(&path)), Some(io::ErrorKind::NotFound));

@@ -1,5 +1,5 @@
 -- Files that are opened and created, and what they give and take.
-use Rattle.std.specs.Prelude.{◌≡◌, ◌⊎◌, ℕ, List, Option, Some, None, Result, Ok, Err}
+use Rattle.std.specs.Prelude.{◌≡◌, ◌⊎◌, ℕ, Bool, List, [], ◌∷◌, ◌++◌, Option, Some, None, Result, Ok, Err, option_map}
 use Rattle.std.specs.Io.KnownBytes.{Appends}
 use Rattle.der_core.specs.declared.error.Error.{Error}
 use Rattle.der_core.specs.declared.error.ErrorKind.{ErrorKind}
@@ -7,6 +7,29 @@ use Rattle.der_core.specs.declared.error.ErrorKind.TheVariants.{File}
 use Rattle.der_core.specs.Errors.{IsFile}
 use Rattle.der_core.specs.Transfer.{WhyDocumentNotRead}
 use Rattle.der_core.specs.SourcesSinks.{AppendsFront, GivesAll, OneFailed}
+
+-- A call on files, by their paths: a file was opened; created or truncated; looked for; opened for writing as it is;
+-- created where none was, with these bits of a mode, from which the umask takes or doesn't; renamed; waited for, until
+-- the disk has its name; or removed. The last three also say whether they succeeded. Whether the others did, the
+-- relations of a `FileSystem` say.
+pub data FileCall : Type 0 where
+  opened : (path : List ℕ) → FileCall
+  created : (path : List ℕ) → FileCall
+  looked_for : (path : List ℕ) → FileCall
+  opened_in_place : (path : List ℕ) → FileCall
+  created_new : (path : List ℕ) → (mode : ℕ) → (umask_takes : Bool) → FileCall
+  renamed : (from to : List ℕ) → (done : Bool) → FileCall
+  synced : (path : List ℕ) → (done : Bool) → FileCall
+  removed : (path : List ℕ) → (done : Bool) → FileCall
+
+-- The calls so far, if they are reported, and one more.
+abbrev pub with_call : Option (List FileCall) → FileCall → Option (List FileCall)
+with_call calls call = option_map (λ made. made ++ (call ∷ [])) calls
+
+-- The calls so far, and these in order.
+abbrev pub with_calls : Option (List FileCall) → List FileCall → Option (List FileCall)
+with_calls calls [] = calls
+with_calls calls (call ∷ more) = with_calls (with_call calls call) more
 
 -- A file was obtained; or none was, and the error is `File`.
 abbrev pub Obtains : {F : Type 0} → (Option F → Type 0) → Result F Error → Type 0

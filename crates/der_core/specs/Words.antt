@@ -7,7 +7,7 @@ pub use Rattle.der_core.specs.DocumentValue.{encoding_of}
 pub use Rattle.der_core.specs.EncodeToSlice.{IsFront, LeavesRest, SliceRests}
 pub use Rattle.der_core.specs.Encodings.{AreBytes, HasAtMostOne, InFront, IsExactly, JoinsParts, SplitsInto}
 pub use Rattle.der_core.specs.Errors.{IsFile, kind_text}
-pub use Rattle.der_core.specs.Files.{FileFault, FileGives, FileRefuses, FileTakes, Obtains}
+pub use Rattle.der_core.specs.Files.{FileCall, FileFault, FileGives, FileRefuses, FileTakes, Obtains, created, created_new, looked_for, opened, opened_in_place, removed, renamed, synced, with_call, with_calls}
 pub use Rattle.der_core.specs.Tlv.{HeaderEncoding, LengthEncoding, Tlv, tlv}
 pub use Rattle.der_core.specs.Input.{Input, ReadsOrFails, end_of, front_of, inner_of, left_in, octet_at, read_from}
 unfoldable pub use Rattle.der_core.specs.Input.{header_at, length_at}

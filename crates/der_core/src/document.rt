@@ -2,7 +2,7 @@
 ghost use Rattle.std.specs.Prelude.{◌≡◌, ◌≢◌, ◌≤◌, ℕ, List, [], length, refl, IfOk, IfErr, OnOk};
 ghost use Rattle.std.specs.Path.{path_bytes};
 ghost use Rattle.der_core.specs.Transfer.{ReadsDocument, WritesAll};
-ghost use Rattle.der_core.specs.Files.{FileFault, FileGives, FileRefuses, FileTakes};
+ghost use Rattle.der_core.specs.Files.{FileFault, FileGives, FileRefuses, FileTakes, created, opened, with_call};
 ghost use Rattle.der_core.specs.Document.{IsDocument};
 ghost use Rattle.der_core.specs.Laws.Length.{IsDocument-prop};
 ghost use Rattle.der_core.specs.Length.{limit};
@@ -209,7 +209,7 @@ impl<S: Drop> DocumentOf<S> {
     /// end. Err: `File` if the file can't be opened, else as of `read_from`. It is never `NoRoom`.
     #[tactic(auto, using(crate::proofs::Readings::document_reads))]
     pub fn read_der_file<F: FileSystem>(
-        files: &F,
+        files: &mut F,
         alloc: Global,
         path: Path<'_>,
     ) -> Result<DocumentOf<S>>
@@ -218,6 +218,7 @@ impl<S: Drop> DocumentOf<S> {
         ensures room { IfErr result (λ e. e.kind ≢ ErrorKind.NoRoom) }
         ensures exact { let opens = F.opens (path_bytes path.entry) in
             IfErr result (λ e. FileFault opens F.Opened.remaining F.Opened.failures e.kind) }
+        ensures called { F.calls files.new ≡ with_call (F.calls files.old) (opened (path_bytes path.entry)) }
     {
         let mut source = files.open(path)?;
         DocumentOf::read_from(alloc, &mut source)
@@ -226,11 +227,12 @@ impl<S: Drop> DocumentOf<S> {
     /// Creates the file, or truncates an old one, writes the document, and closes the file. Ok: the file took exactly
     /// the document, from its creation until it was closed, and was flushed. Err: it is `File`. Either the file can't
     /// be created, or one call of it failed, and it was closed when it had taken a beginning of the bytes.
-    pub fn write_der_file<F: FileSystem>(&self, files: &F, path: Path<'_>) -> Result<()>
+    pub fn write_der_file<F: FileSystem>(&self, files: &mut F, path: Path<'_>) -> Result<()>
         ensures ok { OnOk result (FileTakes (F.creates (path_bytes path.entry)) F.Created.is_closed
             F.Created.contents F.Created.is_flushed (encoding_of self.now)) }
         ensures err { let refuses = FileRefuses (F.creates (path_bytes path.entry)) F.Created.is_closed in
             IfErr result (λ e. IsFile e × refuses F.Created.contents F.Created.failures (encoding_of self.now)) }
+        ensures called { F.calls files.new ≡ with_call (F.calls files.old) (created (path_bytes path.entry)) }
     {
         let mut sink = files.create(path)?;
         let written = self.write_to(&mut sink);

@@ -1,7 +1,7 @@
 //! Files as sources and sinks, by their paths.
-ghost use Rattle.std.specs.Prelude.{◌≡◌, ℕ, List, Option, IfSome};
+ghost use Rattle.std.specs.Prelude.{◌≡◌, ℕ, List, None, Option, IfSome};
 ghost use Rattle.std.specs.Path.{path_bytes};
-ghost use Rattle.der_core.specs.Words.{Obtains, read_faults, write_faults};
+ghost use Rattle.der_core.specs.Words.{FileCall, Obtains, created, opened, read_faults, with_call, write_faults};
 
 use crate::error::Result;
 use crate::source_sink::{Close, Source};
@@ -11,7 +11,7 @@ use std::path::Path;
 use std::rt::Files;
 
 /// Opens files as sources, and creates them as sinks. Each `Files` of std is one. A caller's own says by `opens` and
-/// `creates` what a path stands for.
+/// `creates` what a path stands for, and by `calls` which calls were made. Std's files don't report their calls.
 pub trait FileSystem {
     /// A file that was opened.
     type Opened: Source + Drop;
@@ -25,14 +25,19 @@ pub trait FileSystem {
     /// Creating at this path gave this sink, to which nothing was written yet; `None`: it gave none.
     ghost creates: { List ℕ → Option Self.Created → Type 0 };
 
+    /// The calls that were made, in order, if they are reported.
+    ghost calls: { Self → Option (List FileCall) };
+
     /// Opens the file at the path. Ok: what the path stands for, by `opens`. Err: `File`, and it stands for nothing.
-    fn open(&self, path: Path<'_>) -> Result<Self::Opened>
-        ensures { Obtains (opens (path_bytes path.entry)) result };
+    fn open(&mut self, path: Path<'_>) -> Result<Self::Opened>
+        ensures obtained { Obtains (opens (path_bytes path.entry)) result }
+        ensures called { calls self.new ≡ with_call (calls self.old) (opened (path_bytes path.entry)) };
 
     /// Creates the file at the path, or truncates an old one. Ok: what the path stands for, by `creates`. Err: `File`,
     /// and it stands for nothing.
-    fn create(&self, path: Path<'_>) -> Result<Self::Created>
-        ensures { Obtains (creates (path_bytes path.entry)) result };
+    fn create(&mut self, path: Path<'_>) -> Result<Self::Created>
+        ensures obtained { Obtains (creates (path_bytes path.entry)) result }
+        ensures called { calls self.new ≡ with_call (calls self.old) (created (path_bytes path.entry)) };
 }
 
 impl<Rt: Files> FileSystem for Rt {
@@ -44,11 +49,13 @@ impl<Rt: Files> FileSystem for Rt {
 
     ghost creates = { λ _ created. IfSome created (λ sink. write_faults sink ≡ 0) };
 
-    fn open(&self, path: Path<'_>) -> Result<FromRead<Rt::File>> {
-        FromRead::opened(File::open(self, path))
+    ghost calls = { λ _. None };
+
+    fn open(&mut self, path: Path<'_>) -> Result<FromRead<Rt::File>> {
+        FromRead::opened(File::open(&*self, path))
     }
 
-    fn create(&self, path: Path<'_>) -> Result<ToWrite<Rt::File>> {
-        ToWrite::created(File::create(self, path))
+    fn create(&mut self, path: Path<'_>) -> Result<ToWrite<Rt::File>> {
+        ToWrite::created(File::create(&*self, path))
     }
 }

@@ -45,6 +45,13 @@ impl<R: Read> FromRead<R> {
         }
     }
 
+    /// The reader.
+    pub fn get_ref(&self) -> &R
+        ensures { result.now ≡ reader_of self.now }
+    {
+        &self.inner
+    }
+
     /// Returns the reader.
     pub fn into_inner(self) -> R
         ensures { result ≡ reader_of self }

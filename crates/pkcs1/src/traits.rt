@@ -1,7 +1,7 @@
 //! Traits for keys of any type: PKCS #1 encodings decoded and written, in memory and in files.
 ghost use Rattle.std.specs.Prelude.{◌≡◌, ◌⊎◌, ⊤, List, ℕ, Err, IfOk, IfErr, OnOk, IsErrAnd, Some};
 ghost use Rattle.std.specs.Path.{path_bytes};
-ghost use Rattle.der_core.specs.Words.{FileFault, FileGives, FileRefuses, FileTakes, IsDocument, encoding_of, FaultOrMemory, IsFile, sequence_tag, own_bytes_of};
+ghost use Rattle.der_core.specs.Words.{FileFault, FileGives, FileRefuses, FileTakes, IsDocument, created, encoding_of, opened, with_call, FaultOrMemory, IsFile, sequence_tag, own_bytes_of};
 ghost use Rattle.pkcs1.specs.Words.{OwnedKeyAllocates, OwnedPublicKeyAllocates, rsa_private_key, rsa_public_key, IsPrivateKey, ListsNone, Rejects, Withholds, held_private_key, held_public_key};
 ghost use Rattle.pkcs1_params.specs.Words.{AnswersAsn1OrAsks, IsAsn1};
 ghost use Rattle.standard.specs.Statement.{Decodes, IsShortest, PrivateKeyEncoding, PublicKeyEncoding};
@@ -37,12 +37,17 @@ pub trait DecodeRsaPrivateKey: Sized + Drop {
     /// document, which is all that the file opened at this path gave. Err: as of `Document::read_der_file`, so `File`
     /// if the file can't be opened or read, and `Overflow` if it has more bytes than `Length::MAX`; or the file gave a
     /// document that the type rejects with this error.
-    fn read_pkcs1_der_file<F: FileSystem>(files: &F, alloc: Global, path: Path<'_>) -> Result<Self>
+    fn read_pkcs1_der_file<F: FileSystem>(
+        files: &mut F,
+        alloc: Global,
+        path: Path<'_>,
+    ) -> Result<Self>
         ensures read { let gives = FileGives (F.opens (path_bytes path.entry)) F.Opened.remaining in
             IfOk result (λ key. (bytes : List ℕ) × gives bytes × IsDocument bytes × stands_for key bytes) }
         ensures rejected { let opens = F.opens (path_bytes path.entry) in
             IfErr result (λ e. IsAsn1 (λ file. FileFault opens F.Opened.remaining F.Opened.failures file.kind) e
             ⊎ ((bytes : List ℕ) × FileGives opens F.Opened.remaining bytes × IsDocument bytes × rejected_by bytes e)) }
+        ensures called { F.calls files.new ≡ with_call (F.calls files.old) (opened (path_bytes path.entry)) }
     {
         let document = SecretDocument::read_der_file(files, alloc, path)?;
         Self::from_pkcs1_der(alloc, document.as_bytes())
@@ -69,12 +74,17 @@ pub trait DecodeRsaPublicKey: Sized + Drop {
     /// document, which is all that the file opened at this path gave. Err: as of `Document::read_der_file`, so `File`
     /// if the file can't be opened or read, and `Overflow` if it has more bytes than `Length::MAX`; or the file gave a
     /// document that the type rejects with this error.
-    fn read_pkcs1_der_file<F: FileSystem>(files: &F, alloc: Global, path: Path<'_>) -> Result<Self>
+    fn read_pkcs1_der_file<F: FileSystem>(
+        files: &mut F,
+        alloc: Global,
+        path: Path<'_>,
+    ) -> Result<Self>
         ensures read { let gives = FileGives (F.opens (path_bytes path.entry)) F.Opened.remaining in
             IfOk result (λ key. (bytes : List ℕ) × gives bytes × IsDocument bytes × stands_for key bytes) }
         ensures rejected { let opens = F.opens (path_bytes path.entry) in
             IfErr result (λ e. IsAsn1 (λ file. FileFault opens F.Opened.remaining F.Opened.failures file.kind) e
             ⊎ ((bytes : List ℕ) × FileGives opens F.Opened.remaining bytes × IsDocument bytes × rejected_by bytes e)) }
+        ensures called { F.calls files.new ≡ with_call (F.calls files.old) (opened (path_bytes path.entry)) }
     {
         let document = Document::read_der_file(files, alloc, path)?;
         Self::from_pkcs1_der(alloc, document.as_bytes())
@@ -97,21 +107,24 @@ pub trait EncodeRsaPrivateKey {
         ensures rejected { IfErr result (λ e. unwritten_by self.now e) };
 
     /// Writes the encoding of the key to a file. Ok: the key is written as a document, which the file took, as of
-    /// `Document::write_der_file`. Err: the type rejects the key with this error; or it is `File`, and the file refused
-    /// that document. The key is encoded before the file is created or truncated. So a key that can't be encoded leaves
-    /// an old file as it was, which is only tested. A failed write may leave a beginning.
+    /// `Document::write_der_file`. Err: the type rejects the key with this error, and no file was created or truncated;
+    /// or it is `File`, and the file refused that document. A failed write may leave a beginning.
     fn write_pkcs1_der_file<F: FileSystem>(
         &self,
-        files: &F,
+        files: &mut F,
         alloc: Global,
         path: Path<'_>,
     ) -> Result<()>
         ensures written { let takes = FileTakes (F.creates (path_bytes path.entry)) F.Created.is_closed in
             OnOk result ((bytes : List ℕ) × takes F.Created.contents F.Created.is_flushed bytes × IsDocument bytes
             × written_as self.now bytes) }
+        ensures called { OnOk result
+            (F.calls files.new ≡ with_call (F.calls files.old) (created (path_bytes path.entry))) }
         ensures rejected { let refuses = FileRefuses (F.creates (path_bytes path.entry)) F.Created.is_closed in
-            IfErr result (λ e. unwritten_by self.now e ⊎ (IsAsn1 IsFile e × (bytes : List ℕ) × IsDocument bytes
-            × written_as self.now bytes × refuses F.Created.contents F.Created.failures bytes)) }
+            IfErr result (λ e. (unwritten_by self.now e × (F.calls files.new ≡ F.calls files.old))
+            ⊎ (IsAsn1 IsFile e × (bytes : List ℕ) × IsDocument bytes
+            × written_as self.now bytes × refuses F.Created.contents F.Created.failures bytes
+            × (F.calls files.new ≡ with_call (F.calls files.old) (created (path_bytes path.entry))))) }
     {
         let secret = self.to_pkcs1_der(alloc)?;
         Ok(secret.write_der_file(files, path)?)
@@ -134,21 +147,24 @@ pub trait EncodeRsaPublicKey {
         ensures rejected { IfErr result (λ e. unwritten_by self.now e) };
 
     /// Writes the encoding of the key to a file. Ok: the key is written as a document, which the file took, as of
-    /// `Document::write_der_file`. Err: the type rejects the key with this error; or it is `File`, and the file refused
-    /// that document. The key is encoded before the file is created or truncated. So a key that can't be encoded leaves
-    /// an old file as it was, which is only tested. A failed write may leave a beginning.
+    /// `Document::write_der_file`. Err: the type rejects the key with this error, and no file was created or truncated;
+    /// or it is `File`, and the file refused that document. A failed write may leave a beginning.
     fn write_pkcs1_der_file<F: FileSystem>(
         &self,
-        files: &F,
+        files: &mut F,
         alloc: Global,
         path: Path<'_>,
     ) -> Result<()>
         ensures written { let takes = FileTakes (F.creates (path_bytes path.entry)) F.Created.is_closed in
             OnOk result ((bytes : List ℕ) × takes F.Created.contents F.Created.is_flushed bytes × IsDocument bytes
             × written_as self.now bytes) }
+        ensures called { OnOk result
+            (F.calls files.new ≡ with_call (F.calls files.old) (created (path_bytes path.entry))) }
         ensures rejected { let refuses = FileRefuses (F.creates (path_bytes path.entry)) F.Created.is_closed in
-            IfErr result (λ e. unwritten_by self.now e ⊎ (IsAsn1 IsFile e × (bytes : List ℕ) × IsDocument bytes
-            × written_as self.now bytes × refuses F.Created.contents F.Created.failures bytes)) }
+            IfErr result (λ e. (unwritten_by self.now e × (F.calls files.new ≡ F.calls files.old))
+            ⊎ (IsAsn1 IsFile e × (bytes : List ℕ) × IsDocument bytes
+            × written_as self.now bytes × refuses F.Created.contents F.Created.failures bytes
+            × (F.calls files.new ≡ with_call (F.calls files.old) (created (path_bytes path.entry))))) }
     {
         let document = self.to_pkcs1_der(alloc)?;
         Ok(document.write_der_file(files, path)?)

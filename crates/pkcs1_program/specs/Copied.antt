@@ -1,21 +1,18 @@
 -- What copying a key does.
-use Rattle.std.specs.Prelude.{◌≡◌, ◌≢◌, ◌⊎◌, ℕ, List, ◌++◌, Option, Some, None, Ok, Err, codes}
+use Rattle.std.specs.Prelude.{◌≡◌, ◌≢◌, ◌⊎◌, ℕ, Bool, List, [], ◌∷◌, ◌++◌, Option, Some, None, Result, MatchResult, Ok, Err, codes, option_map}
 use Rattle.std.specs.Io.KnownBytes.{Consumes}
+use Rattle.std.specs.Path.{path_buf_bytes, path_bytes}
 use Rattle.der_core.specs.declared.error.ErrorKind.{ErrorKind}
 use Rattle.der_core.specs.declared.error.ErrorKind.TheVariants as kind
-use Rattle.der_core.specs.Words.{FileGives, GivesAll, Reading, WhyReadingStopped, limit, read_document}
+use Rattle.der_core.specs.Words.{FileCall, GivesAll, Reading, WhyReadingStopped, created_new, limit, looked_for, opened, read_document}
 use Rattle.pkcs1.specs.Words.{IsEncoded}
 use Rattle.pkcs1_params.specs.Words.{IsAsn1, error_text}
+use Rattle.pkcs1_program.specs.Replaced.{Aim, Fills, PutsFile, RefusesFile}
 use Rattle.pkcs1_program.specs.declared.copy_error.CopyError.{CopyError}
 use Rattle.pkcs1_program.specs.declared.copy_error.CopyError.TheVariants.{Read, Write}
+use Rattle.pkcs1_program.specs.declared.copy_error.FileError.{FileError}
 use Rattle.pkcs1_program.specs.declared.copy_error.WriteError.{WriteError}
 use Rattle.pkcs1_program.specs.declared.copy_error.WriteError.TheVariants as error
-
--- All that the source gave until its end is the encoding of a key, and exactly that was written at the place.
-abbrev pub CopiesKey : {V Place : Type 0} → (V → List ℕ → Type 0) → Option (List ℕ) → Option (List ℕ)
-    → (Place → List ℕ → Type 0) → Option Place → Type 0
-CopiesKey Encoding before after Takes output = (encoding : List ℕ) × GivesAll before after encoding
-    × IsEncoded Encoding encoding × (place : _) × (output ≡ Some place) × Takes place encoding
 
 -- These bytes are a SEQUENCE, or too few for one.
 abbrev pub IsSequenceFront : List ℕ → Type 0
@@ -34,34 +31,16 @@ WhyKeyNotRead read e before after failures failures2 =
     ⊎ ((failures2 ≡ failures) × GivesWrong e before after))
     ⊎ ((failures2 ≡ failures) × (encoding : List ℕ) × GivesAll before after encoding × (read encoding ≡ Err e))
 
--- The place was used up before, or refused the encoding for this reason.
-abbrev pub PlaceRefuses : {Place : Type 0} → (Place → WriteError → List ℕ → Type 0) → Option Place → WriteError
-    → List ℕ → Type 0
-PlaceRefuses Refuses output e encoding =
-    ((output ≡ None) × (e ≡ error.Used)) ⊎ ((place : _) × (output ≡ Some place) × Refuses place e encoding)
+-- The file that was opened, which has this mode, gave exactly the encoding of a key.
+abbrev pub KeyFileGives : {V F : Type 0} → (V → List ℕ → Type 0) → (Option F → Type 0) → (F → ℕ → Type 0)
+    → (F → Option (List ℕ)) → ℕ → List ℕ → Type 0
+KeyFileGives Encoding Opens HasMode remaining mode encoding = (file : _) × (file2 : _) × Opens (Some file)
+    × HasMode file mode × GivesAll (remaining file) (remaining file2) encoding × IsEncoded Encoding encoding
 
--- Why a key isn't copied: none was read, and the place is as it was; or one was read, no read failed, and the place
--- refused it.
-abbrev pub WhyKeyNotCopied : {V Place : Type 0} → (V → List ℕ → Type 0) → Reading V → Option (List ℕ)
-    → Option (List ℕ) → ℕ → ℕ → (Place → WriteError → List ℕ → Type 0) → Option Place → Option Place → CopyError
-    → Type 0
-WhyKeyNotCopied Encoding read before after failures failures2 Refuses output output2 (Read asn1) =
-    IsAsn1 (λ e. WhyKeyNotRead read e.kind before after failures failures2) asn1 × (output2 ≡ output)
-WhyKeyNotCopied Encoding read before after failures failures2 Refuses output output2 (Write e) =
-    (failures2 ≡ failures) × (encoding : List ℕ) × GivesAll before after encoding × IsEncoded Encoding encoding
-    × PlaceRefuses Refuses output e encoding
-
--- All that the opened file gave until its end is the encoding of a key, and the other file got exactly that.
-abbrev pub CopiesFile : {V F : Type 0} → (V → List ℕ → Type 0) → (Option F → Type 0) → (F → Option (List ℕ))
-    → (List ℕ → Type 0) → Type 0
-CopiesFile Encoding Opens remaining Takes =
-    (encoding : List ℕ) × FileGives Opens remaining encoding × IsEncoded Encoding encoding × Takes encoding
-
--- The same from path to path. What is written may depend on both.
-abbrev pub CopiesAt : {V F : Type 0} → (V → List ℕ → Type 0) → (List ℕ → Option F → Type 0) → (F → Option (List ℕ))
-    → (List ℕ → List ℕ → List ℕ → Type 0) → List ℕ → List ℕ → Type 0
-CopiesAt Encoding opens remaining Takes input output =
-    CopiesFile Encoding (opens input) remaining (Takes input output)
+-- A file that is created with a mode, which may depend on that of the file that was read, and of the one that is
+-- replaced.
+abbrev pub creation_after : (ℕ → Option ℕ → ℕ) → (Option ℕ → Bool) → ℕ → List ℕ → Option ℕ → FileCall
+creation_after mode umask read path replaced = created_new path (mode read replaced) (umask replaced)
 
 -- No key was read from a file: it can't be opened; or it was, and no key was read from it.
 abbrev pub WhyFileNotRead : {V F : Type 0} → Reading V → (Option F → Type 0) → (F → Option (List ℕ)) → (F → ℕ)
@@ -70,28 +49,53 @@ WhyFileNotRead read Opens remaining failures e =
     (Opens None × (e ≡ kind.File)) ⊎ ((file : _) × (file2 : _) × Opens (Some file)
     × WhyKeyNotRead read e (remaining file) (remaining file2) (failures file) (failures file2))
 
--- Why a file isn't copied: no key was read from it; or it gave the encoding of a key, which the other file refused.
-abbrev pub WhyNotCopied : {V F : Type 0} → (V → List ℕ → Type 0) → Reading V → (Option F → Type 0)
-    → (F → Option (List ℕ)) → (F → ℕ) → (WriteError → List ℕ → Type 0) → CopyError → Type 0
-WhyNotCopied Encoding read Opens remaining failures Refuses (Read asn1) =
-    IsAsn1 (λ e. WhyFileNotRead read Opens remaining failures e.kind) asn1
-WhyNotCopied Encoding read Opens remaining failures Refuses (Write e) =
-    CopiesFile Encoding Opens remaining (Refuses e)
-
 -- The path of the file that an error is about.
 abbrev pub file_of : CopyError → List ℕ → List ℕ → List ℕ
 file_of (Read asn1) input output = input
 file_of (Write e) input output = output
 
+-- Copying from a file to another, which may be written in these ways. These calls on files are made.
+module _ {V F : Type 0} (Encoding : V → List ℕ → Type 0) (mode : ℕ → Option ℕ → ℕ) (umask : Option ℕ → Bool)
+    (Opens : Option F → Type 0) (HasMode : F → ℕ → Type 0) (remaining : F → Option (List ℕ))
+    (aims : List ℕ → Option Aim → Type 0) (old new : Fills) (Made : List FileCall → Type 0) (input output : List ℕ)
+  where
+    -- All that the opened file gave until its end is the encoding of a key, and writing that to the other file ended so.
+    -- Before that the first was opened, and the other looked for.
+    abbrev pub WritesKey : ((List ℕ → Option ℕ → FileCall) → (List FileCall → Type 0) → List ℕ → Type 0) → Type 0
+    WritesKey Ends = (read : ℕ) × (encoding : List ℕ) × KeyFileGives Encoding Opens HasMode remaining read encoding
+        × Ends (creation_after mode umask read) (λ calls. Made (opened input ∷ looked_for output ∷ calls)) encoding
+
+    -- The other file has exactly the key.
+    abbrev pub CopiesFile : Type 0
+    CopiesFile = WritesKey (λ creation Calls. PutsFile aims old new creation Calls output)
+
+    -- Why it hasn't: no key was read, and no other call was made; or the other file refused it.
+    abbrev pub WhyNotCopied : Reading V → (F → ℕ) → CopyError → Option (List ℕ) → Type 0
+    WhyNotCopied reading failures (Read asn1) left =
+        IsAsn1 (λ e. WhyFileNotRead reading Opens remaining failures e.kind) asn1 × Made (opened input ∷ [])
+        × (left ≡ None)
+    WhyNotCopied reading failures (Write e) left =
+        WritesKey (λ creation Calls. RefusesFile aims old new creation Calls output e left)
+
+    -- How it ended. An error names the file that it is about.
+    abbrev pub EndsCopy : {X : Type 0} → Reading V → (F → ℕ) → Result X FileError → Type 0
+    EndsCopy reading failures result = MatchResult result (λ _. CopiesFile)
+        (λ told. WhyNotCopied reading failures told.error (option_map path_buf_bytes told.left)
+        × (path_bytes told.path ≡ file_of told.error input output))
+
 abbrev pub write_error_text : WriteError → List ℕ
-write_error_text error.Used = codes "it was written before"
 write_error_text error.Memory = codes "no memory was found"
 write_error_text error.Open = codes "it can't be opened"
+write_error_text error.Dangling = codes "it is a link to nothing"
 write_error_text error.Create = codes "no file can be created beside it"
-write_error_text error.Taken = codes "no name for a file beside it is free"
 write_error_text error.Write = codes "a write failed"
 write_error_text error.Rename = codes "the new file can't be renamed to it"
+write_error_text error.Sync = codes "it is replaced, but its folder can't be synced"
 
-abbrev pub file_error_text : CopyError → List ℕ → List ℕ
-file_error_text (Read asn1) path = codes "reading " ++ (path ++ (codes ": " ++ error_text asn1))
-file_error_text (Write e) path = codes "writing " ++ (path ++ (codes ": " ++ write_error_text e))
+abbrev pub left_text : Option (List ℕ) → List ℕ
+left_text None = []
+left_text (Some path) = codes ", and " ++ (path ++ codes " can't be removed")
+
+abbrev pub file_error_text : CopyError → List ℕ → Option (List ℕ) → List ℕ
+file_error_text (Read asn1) path left = (codes "reading " ++ (path ++ (codes ": " ++ error_text asn1))) ++ left_text left
+file_error_text (Write e) path left = (codes "writing " ++ (path ++ (codes ": " ++ write_error_text e))) ++ left_text left

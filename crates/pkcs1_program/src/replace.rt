@@ -1,8 +1,8 @@
 //! Files of which a new one can take the place of an old one.
-ghost use Rattle.std.specs.Prelude.{◌≡◌, ◌≢◌, ◌⊎◌, ℕ, List, Bool, Option, Some, None, bit_and, is_ok, option_map, unwrap_or};
+ghost use Rattle.std.specs.Prelude.{◌≡◌, ℕ, List, Option, Some, is_ok};
 ghost use Rattle.std.specs.Path.{path_bytes};
-ghost use Rattle.der_core.specs.Words.{Obtains};
-ghost use Rattle.pkcs1_program.specs.Words.{Aim, FillsFile, ObtainsNew, aimed, whole};
+ghost use Rattle.der_core.specs.Words.{Obtains, created_new, looked_for, opened_in_place, removed, renamed, synced, with_call};
+ghost use Rattle.pkcs1_program.specs.Words.{Aim, FillsFile, aimed, whole};
 
 use der_core::{Close, FileSystem, Result};
 use std::alloc::{AllocError, Global};
@@ -12,10 +12,12 @@ use std::path::{Path, PathBuf};
 /// How a file is written.
 #[derive(Drop)]
 pub enum Target {
-    /// Not at all: it is a regular file that can't be written, or to which no path without a link leads.
+    /// Not at all: it can't be written, or no path without a link leads to it.
     Refused,
-    /// By opening it: it is no regular file. These are the rights of a file that this creates, as behind a link.
-    InPlace(Rights),
+    /// Not at all: it is a link to nothing.
+    Dangling,
+    /// By opening it: it is no regular file.
+    InPlace,
     /// By a new file, which takes its place.
     Beside(Beside),
 }
@@ -27,100 +29,76 @@ pub struct Beside {
     pub to: PathBuf,
     /// The path that the new file gets at first, in the same folder.
     pub path: PathBuf,
-    /// Who may use the new file.
-    pub rights: Rights,
+    /// The bits of the mode of the file that it replaces. `None`: there is none.
+    pub replaced: Option<u32>,
 }
 
-/// Who may use a new file.
+/// The mode of a new file.
 #[derive(Clone, Copy, Debug, PartialEq, Eq, Drop)]
-pub struct Rights {
-    /// The bits of the mode.
-    pub mode: u32,
-    /// Whether the umask has no effect on them.
-    pub are_kept: bool,
-    /// The group that gets its bits. `None`: any group does.
-    pub group: Option<u32>,
-}
-
-impl Rights {
-    /// The rights that the old file has, if there is one, and the model, if there is one: no more than either. Another
-    /// group than the model's gets none.
-    pub fn within(old: Option<u32>, model: Option<u32>, group: Option<u32>) -> Rights
-        ensures mode { result.mode ≡ bit_and (bit_and (unwrap_or old 0o666) (unwrap_or model 0o777)) 0o777 }
-        ensures group { result.group ≡ group }
-    {
-        Rights {
-            mode: old.unwrap_or(0o666) & model.unwrap_or(0o777) & 0o777,
-            are_kept: old.is_some(),
-            group,
-        }
-    }
-
-    /// The mode of a file of this group; `None`: it isn't known.
-    pub fn mode_in(&self, group: Option<u32>) -> u32
-        ensures same { (self.now.group ≡ None) ⊎ (self.now.group ≡ group) → result ≡ self.now.mode }
-        ensures other { self.now.group ≢ None → self.now.group ≢ group → result ≡ bit_and self.now.mode 0o707 }
-    {
-        match self.group {
-            Some(_) if self.group != group => self.mode & 0o707,
-            _ => self.mode,
-        }
-    }
+pub struct Mode {
+    /// The bits.
+    pub bits: u32,
+    /// Whether the umask takes from them.
+    pub umask_takes: bool,
 }
 
 /// Files of which a new one can take the place of an old one, by one call. Each `Files` of std is one.
 pub trait ReplaceFiles: FileSystem {
-    ghost use Rattle.pkcs1_program.specs.declared.replace.Rights.{Rights};
-
     /// A file that was created where none was.
     type New: Close + Drop;
 
-    /// With this model, what is at this path is written in this way; `None`: memory ran out before that was known.
-    ghost aims: { Option (List ℕ) → List ℕ → Option Aim → Type 0 };
+    /// The opened file has this mode.
+    ghost has_mode: { Self.Opened → ℕ → Type 0 };
 
-    /// Opening what isn't replaced, or creating it with these rights, gave this sink, to which nothing was written yet;
-    /// `None`: it gave none.
-    ghost opens_in_place: { List ℕ → Rights → Option Self.Created → Type 0 };
+    /// What is at this path is written in this way; `None`: memory ran out before that was known.
+    ghost aims: { List ℕ → Option Aim → Type 0 };
 
-    /// Creating with these rights where nothing was gave this sink, to which nothing was written yet; `None`: it gave
-    /// none.
-    ghost creates_new: { List ℕ → Rights → Option Self.New → Type 0 };
+    /// Opening what isn't replaced gave this sink, to which nothing was written yet; `None`: it gave none.
+    ghost opens_in_place: { List ℕ → Option Self.Created → Type 0 };
 
-    /// Renaming from the first path to the second was tried, and succeeded or failed.
-    ghost renames: { List ℕ → List ℕ → Bool → Type 0 };
+    /// Creating a file where nothing was gave this sink, to which nothing was written yet; `None`: it gave none.
+    ghost creates_new: { List ℕ → Option Self.New → Type 0 };
 
-    /// Removing was tried, and succeeded or failed.
-    ghost removes: { List ℕ → Bool → Type 0 };
+    /// The bits of the mode of an opened file. If they can't be read, they are those that let only the owner read and
+    /// write.
+    fn mode(&self, file: &Self::Opened) -> u32
+        ensures { has_mode file.now result };
 
-    /// How to write what is at the path. A new file gets no more rights than the model has, if there is one. Its name is
-    /// another one for each number.
-    fn target(
-        &self,
-        alloc: Global,
-        path: Path<'_>,
-        model: Option<Path<'_>>,
-        number: u32,
-    ) -> std::result::Result<Target, AllocError>
-        ensures { aims (option_map path_bytes model.entry) (path_bytes path.entry) (aimed result) };
+    /// How to write what is at the path. This changes nothing. A new file has a name that others don't foresee.
+    fn target(&mut self, alloc: Global, path: Path<'_>) -> std::result::Result<Target, AllocError>
+        ensures aim { aims (path_bytes path.entry) (aimed result) }
+        ensures called { Self.calls self.new
+            ≡ with_call (Self.calls self.old) (looked_for (path_bytes path.entry)) };
 
-    /// Opens what is no regular file, or creates one with these rights where nothing is.
-    fn open_in_place(&self, path: Path<'_>, rights: Rights) -> Result<Self::Created>
-        ensures { Obtains (opens_in_place (path_bytes path.entry) rights) result };
+    /// Opens what is no regular file.
+    fn open_in_place(&mut self, path: Path<'_>) -> Result<Self::Created>
+        ensures obtained { Obtains (opens_in_place (path_bytes path.entry)) result }
+        ensures called { Self.calls self.new
+            ≡ with_call (Self.calls self.old) (opened_in_place (path_bytes path.entry)) };
 
-    /// Creates a file with these rights where nothing is. `Ok(None)`: something is at the path.
-    fn create_new(&self, path: Path<'_>, rights: Rights) -> Result<Option<Self::New>>
-        ensures { ObtainsNew (creates_new (path_bytes path.entry) rights) result };
+    /// Creates a file with this mode where nothing is.
+    fn create_new(&mut self, path: Path<'_>, mode: Mode) -> Result<Self::New>
+        ensures obtained { Obtains (creates_new (path_bytes path.entry)) result }
+        ensures called { Self.calls self.new
+            ≡ with_call (Self.calls self.old) (created_new (path_bytes path.entry) mode.bits mode.umask_takes) };
 
     /// Renames a new file, which must have taken some bytes and been flushed and closed. What is at the other path is
     /// replaced.
-    fn rename(&self, from: Path<'_>, to: Path<'_>) -> io::Result<()>
+    fn rename(&mut self, from: Path<'_>, to: Path<'_>) -> io::Result<()>
         requires whole { let new = FillsFile creates_new Self.New.is_closed Self.New.contents Self.New.is_flushed
             Self.New.failures in
-            (rights : Rights) × (bytes : List ℕ) × new (path_bytes from) rights whole bytes }
-        ensures { renames (path_bytes from.entry) (path_bytes to.entry) (is_ok result) };
+            (bytes : List ℕ) × new (path_bytes from) whole bytes }
+        ensures called { Self.calls self.new
+            ≡ with_call (Self.calls self.old) (renamed (path_bytes from.entry) (path_bytes to.entry) (is_ok result)) };
+
+    /// Waits until the disk has the name of the file at the path.
+    fn sync_name(&mut self, path: Path<'_>) -> io::Result<()>
+        ensures called { Self.calls self.new
+            ≡ with_call (Self.calls self.old) (synced (path_bytes path.entry) (is_ok result)) };
 
     /// Removes a file that was created where nothing was.
-    fn remove(&self, path: Path<'_>) -> io::Result<()>
-        requires created { (rights : Rights) × (file : Self.New) × creates_new (path_bytes path) rights (Some file) }
-        ensures { removes (path_bytes path.entry) (is_ok result) };
+    fn remove(&mut self, path: Path<'_>) -> io::Result<()>
+        requires created { (file : Self.New) × creates_new (path_bytes path) (Some file) }
+        ensures called { Self.calls self.new
+            ≡ with_call (Self.calls self.old) (removed (path_bytes path.entry) (is_ok result)) };
 }

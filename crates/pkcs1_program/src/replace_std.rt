@@ -2,13 +2,14 @@
 ghost use Rattle.std.specs.Prelude.{◌≡◌, ⊤, IfSome};
 ghost use Rattle.der_core.specs.Words.{write_faults};
 
-use crate::replace::{Beside, ReplaceFiles, Rights, Target};
-use der_core::{Error, ErrorKind, Result, ToWrite};
+use crate::replace::{Beside, Mode, ReplaceFiles, Target};
+use der_core::{FromRead, Result, ToWrite};
 use std::alloc::{AllocError, Global};
 use std::fs::{File, Metadata, OpenFile, OpenOptions, Permissions};
 use std::io::Write;
 use std::os::unix::fs::{MetadataExt, OpenOptionsExt, PermissionsExt};
 use std::path::{Path, PathBuf};
+use std::random::RandomSource;
 use std::rt::Files;
 use std::{fs, io};
 
@@ -29,16 +30,16 @@ impl<W: Write + OpenFile> Write for Synced<W> {
     }
 }
 
-/// The path of a new file in the same folder.
-fn new_path(
+/// The path of a new file in the same folder. Its name is random, so others can't take it first. Where there are no
+/// random bytes it is the same each time.
+fn new_path<Rt: RandomSource>(
+    random: &Rt,
     alloc: Global,
     path: Path<'_>,
-    number: u32,
 ) -> std::result::Result<PathBuf, AllocError> {
-    if number == 0 {
-        return path.with_file_name(alloc, ".pkcs1_tool");
-    }
-    let name = format!(in alloc; ".pkcs1_tool.{}", number - 1)?;
+    let mut bytes = [0; 8];
+    let _ = random.fill_bytes(&mut bytes);
+    let name = format!(in alloc; ".pkcs1_tool.{:016x}", u64::from_be_bytes(bytes))?;
     path.with_file_name(alloc, name.as_str())
 }
 
@@ -70,138 +71,107 @@ fn real_path<Rt: Files>(
     }
 }
 
-/// The rights that the model, if there is one, leaves a new file. Only the owner's if its own can't be read.
-fn rights_within<Rt: Files>(files: &Rt, old: Option<u32>, model: Option<Path<'_>>) -> Rights {
-    let Some(model) = model else {
-        return Rights::within(old, None, None);
-    };
-    match fs::metadata(files, model) {
-        Ok(model) => Rights::within(old, Some(model.mode()), Some(model.gid())),
-        Err(_) => Rights::within(old, Some(0o600), None),
-    }
-}
-
 /// Whether the file can be opened for writing, which leaves it as it is.
 fn is_writable<Rt: Files>(files: &Rt, path: Path<'_>) -> bool {
     OpenOptions::new().write(true).open(files, path).is_ok()
 }
 
-/// The same file, unless it is a regular one that holds something: a write that fails would lose that.
-fn unless_it_holds<W: OpenFile + Drop>(file: W) -> io::Result<W> {
-    let found = file.metadata()?;
-    if found.is_file() && found.len() != 0 {
+/// The same file, unless it is a regular one, which is never written in place.
+fn unless_regular<W: OpenFile + Drop>(file: W) -> io::Result<W> {
+    if file.metadata()?.is_file() {
         return Err(io::Error::from(io::ErrorKind::AlreadyExists));
     }
     Ok(file)
 }
 
-/// Creates a file where nothing is. The umask takes from its mode unless that is kept.
-fn new_file<Rt: Files>(
-    files: &Rt,
-    path: Path<'_>,
-    mode: u32,
-    is_kept: bool,
-) -> io::Result<Rt::File> {
+/// Creates a file with this mode where nothing is.
+fn new_file<Rt: Files>(files: &Rt, path: Path<'_>, mode: Mode) -> io::Result<Rt::File> {
     let mut options = OpenOptions::new();
-    options.write(true).create_new(true).mode(mode);
+    options.write(true).create_new(true).mode(mode.bits);
     let file = options.open(files, path)?;
-    if is_kept {
-        let _ = file.set_permissions(Permissions::from_mode(mode));
+    if !mode.umask_takes {
+        let _ = file.set_permissions(Permissions::from_mode(mode.bits));
     }
     Ok(file)
 }
 
-/// Creates a file with these rights where nothing is.
-fn new_file_within<Rt: Files>(files: &Rt, path: Path<'_>, rights: Rights) -> io::Result<Rt::File> {
-    let file = new_file(files, path, rights.mode, rights.are_kept)?;
-    if rights.mode_in(None) == rights.mode {
-        return Ok(file);
-    }
-    let mode = rights.mode_in(file.metadata().ok().map(|found| found.gid()));
-    if mode == rights.mode {
-        return Ok(file);
-    }
-    // Who is in its group may have opened it.
-    fs::remove_file(files, path)?;
-    new_file(files, path, mode, rights.are_kept)
-}
-
-/// Waits until the disk has the name of the file at the path, if its folder can be waited for.
-fn sync_folder<Rt: Files>(files: &Rt, path: Path<'_>) {
+/// Waits until the disk has what stands in the folder of the file at the path. Where the system doesn't know how to
+/// wait for a folder, nothing is waited for.
+fn sync_folder<Rt: Files>(files: &Rt, path: Path<'_>) -> io::Result<()> {
     let folder = match path.parent() {
         Some(folder) if !folder.as_str().is_empty() => folder,
         _ => Path::new("."),
     };
-    if let Ok(folder) = File::open(files, folder) {
-        let _ = folder.sync_all();
+    match File::open(files, folder) {
+        Ok(folder) => folder.sync_all(),
+        Err(error) if error.kind() == io::ErrorKind::Unsupported => Ok(()),
+        Err(error) => Err(error),
     }
 }
 
-impl<Rt: Files> ReplaceFiles for Rt {
+impl<Rt: Files + RandomSource> ReplaceFiles for Rt {
     type New = ToWrite<Synced<Rt::File>>;
 
-    ghost aims = { λ _ _ _. ⊤ };
+    ghost has_mode = { λ _ _. ⊤ };
 
-    ghost opens_in_place = { λ _ _ opened. IfSome opened (λ sink. write_faults sink ≡ 0) };
+    ghost aims = { λ _ _. ⊤ };
 
-    ghost creates_new = { λ _ _ created. IfSome created (λ sink. write_faults sink ≡ 0) };
+    ghost opens_in_place = { λ _ opened. IfSome opened (λ sink. write_faults sink ≡ 0) };
 
-    ghost renames = { λ _ _ _. ⊤ };
+    ghost creates_new = { λ _ created. IfSome created (λ sink. write_faults sink ≡ 0) };
 
-    ghost removes = { λ _ _. ⊤ };
-
-    fn target(
-        &self,
-        alloc: Global,
-        path: Path<'_>,
-        model: Option<Path<'_>>,
-        number: u32,
-    ) -> std::result::Result<Target, AllocError> {
-        let (to, old) = match fs::metadata(self, path) {
-            Ok(old) if old.is_file() => {
-                if !is_writable(self, path) {
-                    return Ok(Target::Refused);
-                }
-                match real_path(self, alloc, path, &old)? {
-                    Some(to) => (to, Some(old.mode())),
-                    None => return Ok(Target::Refused),
-                }
-            }
-            Err(_) if fs::symlink_metadata(self, path).is_err() => {
-                (path.to_path_buf(alloc)?, None)
-            }
-            _ => return Ok(Target::InPlace(rights_within(self, None, model))),
-        };
-        let path = new_path(alloc, to.as_path(), number)?;
-        let rights = rights_within(self, old, model);
-        Ok(Target::Beside(Beside { to, path, rights }))
-    }
-
-    fn open_in_place(&self, path: Path<'_>, rights: Rights) -> Result<ToWrite<Rt::File>> {
-        let mut options = OpenOptions::new();
-        options.write(true).create(true).mode(rights.mode_in(None));
-        ToWrite::created(options.open(self, path).and_then(unless_it_holds))
-    }
-
-    fn create_new(
-        &self,
-        path: Path<'_>,
-        rights: Rights,
-    ) -> Result<Option<ToWrite<Synced<Rt::File>>>> {
-        match new_file_within(self, path, rights) {
-            Ok(file) => Ok(Some(ToWrite::new(Synced { file }))),
-            Err(error) if error.kind() == io::ErrorKind::AlreadyExists => Ok(None),
-            Err(_) => Err(Error::new(ErrorKind::File)),
+    fn mode(&self, file: &FromRead<Rt::File>) -> u32 {
+        match file.get_ref().metadata() {
+            Ok(found) => found.mode(),
+            Err(_) => 0o600,
         }
     }
 
-    fn rename(&self, from: Path<'_>, to: Path<'_>) -> io::Result<()> {
-        fs::rename(self, from, to)?;
-        sync_folder(self, to);
-        Ok(())
+    fn target(&mut self, alloc: Global, path: Path<'_>) -> std::result::Result<Target, AllocError> {
+        let (to, replaced) = match fs::metadata(&*self, path) {
+            Ok(file) if !file.is_file() => return Ok(Target::InPlace),
+            Ok(file) if !is_writable(&*self, path) => return Ok(Target::Refused),
+            Ok(file) => match real_path(&*self, alloc, path, &file)? {
+                Some(to) => (to, Some(file.mode())),
+                None => return Ok(Target::Refused),
+            },
+            Err(error) if error.kind() == io::ErrorKind::NotFound => {
+                match fs::symlink_metadata(&*self, path) {
+                    Ok(_) => return Ok(Target::Dangling),
+                    Err(error) if error.kind() == io::ErrorKind::NotFound => {
+                        (path.to_path_buf(alloc)?, None)
+                    }
+                    Err(_) => return Ok(Target::Refused),
+                }
+            }
+            Err(_) => return Ok(Target::Refused),
+        };
+        let path = new_path(&*self, alloc, to.as_path())?;
+        Ok(Target::Beside(Beside { to, path, replaced }))
     }
 
-    fn remove(&self, path: Path<'_>) -> io::Result<()> {
-        fs::remove_file(self, path)
+    fn open_in_place(&mut self, path: Path<'_>) -> Result<ToWrite<Rt::File>> {
+        let file = OpenOptions::new().write(true).open(&*self, path);
+        ToWrite::created(file.and_then(unless_regular))
+    }
+
+    fn create_new(&mut self, path: Path<'_>, mode: Mode) -> Result<ToWrite<Synced<Rt::File>>> {
+        ToWrite::created(new_file(&*self, path, mode).map(|file| Synced { file }))
+    }
+
+    fn rename(&mut self, from: Path<'_>, to: Path<'_>) -> io::Result<()> {
+        fs::rename(&*self, from, to)
+    }
+
+    fn sync_name(&mut self, path: Path<'_>) -> io::Result<()> {
+        sync_folder(&*self, path)
+    }
+
+    /// If nothing is there any more, it is as good as removed.
+    fn remove(&mut self, path: Path<'_>) -> io::Result<()> {
+        match fs::remove_file(&*self, path) {
+            Err(error) if error.kind() == io::ErrorKind::NotFound => Ok(()),
+            removed => removed,
+        }
     }
 }

@@ -23,10 +23,10 @@ DEEP = [
     ("link", True, "", REFUSED),
     ("link", False, "writing {}: a write failed\n", REFUSED),
     ("empty_link", True, "", REFUSED),
-    ("link_to_nothing", True, "", ""),
+    ("link_to_nothing", True, "writing {}: it is a link to nothing\n", "writing {}: it is a link to nothing\n"),
 ]
-# Which file is another one behind a copy to OUT.
-WRITTEN = {"link": "old", "empty_link": "empty", "link_to_nothing": "nothing"}
+# Which file is another one after a copy to OUT.
+WRITTEN = {"link": "old", "empty_link": "empty"}
 # Folders that have no path any more, and what is said of copies there by the script below.
 MOUNTED = {
     "an unmounted folder": 'mkdir m; mount -t tmpfs none m; cd m; cp ../key ../old .; umount -l ../m',

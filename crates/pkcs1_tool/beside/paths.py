@@ -11,7 +11,6 @@ from tools import OLD, PRIVATE, PUBLIC
 
 KEYS = {"pub": PUBLIC, "priv": PRIVATE}
 PARTS = [".", "..", "...", "", "a", "b", "l", "f", "f.", "é", "x" * 255, "x" * 256, "new", "dl", "none", "loop"]
-PARTS += [".pkcs1_tool"]
 # The folder in which the tool runs, below the one that is looked at.
 AT = "1/2/3/r"
 

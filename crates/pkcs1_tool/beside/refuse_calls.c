@@ -1,8 +1,10 @@
 /* Makes calls on files fail, and reports each call. Preloaded by faults.py.
  *
- * REFUSED is a list of KIND,NUMBER,ERROR: the call of this number of this kind fails with this error. SHORT: no read or
- * write is of more octets. To the descriptor CALLS it writes the kind of each call, behind `!` if it failed so, and of
- * fsync the name of the file. What is printed to standard error may be shortened, but doesn't fail. */
+ * REFUSED is a list of KIND,NUMBER,ERROR: the call of this number of this kind fails with this error. LYING is such a
+ * list for renames that are done all the same. SHORT: no read or write is of more octets. LAZY: the disk has no room, as
+ * it finds out when a file is closed that was written and not synced. To the descriptor CALLS it writes the kind of each
+ * call, after `!` if it was refused, and of fsync the name of the file. What is printed to standard error may be
+ * shortened, but doesn't fail. */
 #define _GNU_SOURCE
 #include <dlfcn.h>
 #include <errno.h>
@@ -19,14 +21,14 @@ enum kind { OPEN, READ, WRITE, FSYNC, CLOSE, FCHMOD, RENAME, UNLINK, REALPATH, S
 static const char *const names[KINDS] = {"open",   "read",   "write",    "fsync", "close", "fchmod",
                                          "rename", "unlink", "realpath", "stat",  "lstat", "fstat"};
 
-/* The error of this call, or 0. */
-static int error_of(enum kind kind) {
-    static long seen[KINDS];
-    const char *rest = getenv("REFUSED");
+static long seen[KINDS];
+
+/* The error that this list has for the last call of a kind, or 0. */
+static int error_in(const char *list, enum kind kind) {
+    const char *rest = getenv(list);
     char name[16];
     long number;
     int error, len;
-    seen[kind]++;
     while (rest != NULL && sscanf(rest, "%15[a-z],%ld,%d%n", name, &number, &error, &len) == 3) {
         if (strcmp(name, names[kind]) == 0 && number == seen[kind])
             return error;
@@ -38,7 +40,8 @@ static int error_of(enum kind kind) {
 /* Whether this call fails, which is of a file of this name. */
 static int is_refused_of(enum kind kind, const char *name) {
     char line[300];
-    int error = error_of(kind), kept = errno;
+    seen[kind]++;
+    int error = error_in("REFUSED", kind), kept = errno;
     int len = snprintf(line, sizeof line, "%s%s%.255s\n", error == 0 ? "" : "!", names[kind], name);
     const char *calls = getenv("CALLS");
     if (calls != NULL)
@@ -49,6 +52,21 @@ static int is_refused_of(enum kind kind, const char *name) {
 
 static int is_refused(enum kind kind) {
     return is_refused_of(kind, "");
+}
+
+/* The same of a call that was made. */
+static int told(enum kind kind, int returned) {
+    int error = error_in("LYING", kind);
+    errno = error == 0 ? errno : error;
+    return error == 0 ? returned : -1;
+}
+
+/* The files that were written and not synced. */
+static unsigned char unsynced[1024];
+
+static void note(int file, unsigned char is_unsynced) {
+    if (file > 2 && file < (int)sizeof unsynced)
+        unsynced[file] = is_unsynced;
 }
 
 static size_t shortened(size_t len) {
@@ -90,6 +108,7 @@ ssize_t read(int file, void *room, size_t len) {
     return is_refused(READ) ? -1 : NEXT(ssize_t, "read", int, void *, size_t)(file, room, shortened(len));
 }
 ssize_t write(int file, const void *octets, size_t len) {
+    note(file, 1);
     return file != 2 && is_refused(WRITE)
                ? -1
                : NEXT(ssize_t, "write", int, const void *, size_t)(file, octets, shortened(len));
@@ -98,11 +117,17 @@ int fsync(int file) {
     char at[30], path[4096] = "", *name;
     (void)snprintf(at, sizeof at, "/proc/self/fd/%d", file);
     name = readlink(at, path, sizeof path - 1) < 0 ? NULL : strrchr(path, '/');
-    return is_refused_of(FSYNC, name == NULL ? "" : name) ? -1 : NEXT(int, "fsync", int)(file);
+    if (is_refused_of(FSYNC, name == NULL ? "" : name))
+        return -1;
+    note(file, 0);
+    return NEXT(int, "fsync", int)(file);
 }
 /* It closes the file all the same, as Linux does. */
 int close(int file) {
     int refused = is_refused(CLOSE), error = errno;
+    if (getenv("LAZY") != NULL && file > 2 && file < (int)sizeof unsynced && unsynced[file] && !ftruncate(file, 0))
+        refused = 1, error = ENOSPC;
+    note(file, 0);
     int closed = NEXT(int, "close", int)(file);
     errno = refused ? error : errno;
     return refused ? -1 : closed;
@@ -111,11 +136,12 @@ int fchmod(int file, mode_t mode) {
     return is_refused(FCHMOD) ? -1 : NEXT(int, "fchmod", int, mode_t)(file, mode);
 }
 int rename(const char *from, const char *to) {
-    return is_refused(RENAME) ? -1 : NEXT(int, "rename", const char *, const char *)(from, to);
+    return is_refused(RENAME) ? -1 : told(RENAME, NEXT(int, "rename", const char *, const char *)(from, to));
 }
 int renameat(int one, const char *from, int other, const char *to) {
-    return is_refused(RENAME) ? -1
-                              : NEXT(int, "renameat", int, const char *, int, const char *)(one, from, other, to);
+    if (is_refused(RENAME))
+        return -1;
+    return told(RENAME, NEXT(int, "renameat", int, const char *, int, const char *)(one, from, other, to));
 }
 int unlink(const char *path) {
     return is_refused(UNLINK) ? -1 : NEXT(int, "unlink", const char *)(path);

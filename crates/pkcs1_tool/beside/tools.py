@@ -2,6 +2,7 @@
 import contextlib
 import dataclasses
 import os
+import re
 import shutil
 import stat
 import subprocess
@@ -12,6 +13,8 @@ from concurrent.futures import ThreadPoolExecutor
 PUBLIC = bytes.fromhex("3006020107020103")
 PRIVATE = bytes.fromhex("301b02010002010702010302010502010b02010d020102020104020106")
 OLD = b"old"
+# The name of a new file, in place of which another stands in what is compared.
+RANDOM = re.compile(rb"\.pkcs1_tool\.[0-9a-f]{16}\b")
 # The tool that rattle builds has a std of its own, by which it does other calls again.
 RATTLE = "rattle"
 
@@ -87,7 +90,8 @@ def files_below(top):
     for at, _, names in os.walk(top):
         for path in (os.path.join(at, name) for name in names):
             mode = os.lstat(path).st_mode
-            found.append((os.path.relpath(path, top), what_is_at(path, mode), mode))
+            name = RANDOM.sub(b".pkcs1_tool.NEW", os.path.relpath(path, top).encode()).decode()
+            found.append((name, what_is_at(path, mode), mode))
     return tuple(sorted(found))
 
 
@@ -95,7 +99,8 @@ def run(tool, words, at, top=None, **more):
     """Runs it in the folder. What is told of files is told of those below `top`."""
     ran = subprocess.run([tool.path, *words], cwd=at, capture_output=True, check=False, **more)
     top = top or at
-    return Result(ran.returncode, ran.stdout, ran.stderr.replace(top.encode(), b"TOP"), files_below(top))
+    error = RANDOM.sub(b".pkcs1_tool.NEW", ran.stderr.replace(top.encode(), b"TOP"))
+    return Result(ran.returncode, ran.stdout, error, files_below(top))
 
 
 def try_all(name, compared, trials):

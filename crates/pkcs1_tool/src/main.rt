@@ -6,7 +6,7 @@
 ghost use Rattle.std.specs.Prelude.{◌≡◌, ℕ, List, Bool, is_ok};
 ghost use Rattle.der_core.specs.Words.{GivesAll};
 ghost use Rattle.standard.specs.Statement.{PrivateKeyEncoding, PublicKeyEncoding};
-ghost use Rattle.pkcs1_program.specs.Words.{CopiesAt, FillsFile, IsDone, PutsFile, WritesOutput, exit_status_of, lines_of};
+ghost use Rattle.pkcs1_program.specs.Words.{CopiesFile, FillsFile, IsDone, MakesCalls, WritesOutput, exit_status_of, lines_of, private_key_mode, public_key_mode, public_key_umask, umask_always};
 
 #[cfg(test)]
 mod tests;
@@ -51,7 +51,7 @@ fn carry_out<P: Eprint, F: ReplaceFiles, R: Source, W: Sink>(
     rt: &P,
     alloc: Global,
     plan: &Plan<'_>,
-    files: &F,
+    files: &mut F,
     source: &mut R,
     sink: &mut W,
 ) -> u8
@@ -61,10 +61,12 @@ fn carry_out<P: Eprint, F: ReplaceFiles, R: Source, W: Sink>(
         let old = FillsFile F.opens_in_place F.Created.is_closed F.Created.contents F.Created.is_flushed
         F.Created.failures in
         let new = FillsFile F.creates_new F.New.is_closed F.New.contents F.New.is_flushed F.New.failures in
+        let Made = MakesCalls (F.calls files.old) (F.calls files.new) in
         result ≡ 0 → IsDone plan.now answered
-        (CopiesAt PublicKeyEncoding F.opens F.Opened.remaining (λ _. PutsFile (F.aims None) old new F.renames))
-        (CopiesAt PrivateKeyEncoding F.opens F.Opened.remaining
-        (λ input. PutsFile (F.aims (Some input)) old new F.renames)) }
+        (λ input output. CopiesFile PublicKeyEncoding public_key_mode public_key_umask (F.opens input) F.has_mode
+        F.Opened.remaining F.aims old new Made input output)
+        (λ input output. CopiesFile PrivateKeyEncoding private_key_mode umask_always (F.opens input) F.has_mode
+        F.Opened.remaining F.aims old new Made input output) }
 {
     let ok = match plan {
         Plan::Usage => reported::<(), _>(rt, Err(USAGE)),
@@ -86,7 +88,7 @@ fn main(rt: HostRuntime) -> ExitCode {
         Ok(arguments) => {
             let plan = plan_of(behind_name(arguments.as_slice()));
             let (mut source, mut sink) = (FromRead::new(rt.stdin()), ToWrite::new(rt.stdout()));
-            carry_out(&rt, rt.alloc(), &plan, &rt, &mut source, &mut sink)
+            carry_out(&rt, rt.alloc(), &plan, &mut &rt, &mut source, &mut sink)
         }
         Err(error) if error.kind() == io::ErrorKind::OutOfMemory => {
             status(&Plan::Lines, reported::<(), _>(&rt, Err(Fault::Memory)))

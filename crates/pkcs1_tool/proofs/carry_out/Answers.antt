@@ -1,5 +1,5 @@
 -- `carry_out`: its status is 0 only behind a call that succeeded, and so what that call promises holds.
-use Rattle.std.proofs.Common.{◌≡◌, ◌∙◌, ℕ, is_ok, sym, arith, Result, Ok, Err, OnOk, if◌then◌else◌}
+use Rattle.std.proofs.Common.{◌≡◌, ◌∙◌, ℕ, is_ok, sym, arith, Result, MatchResult, Ok, Err, OnOk, if◌then◌else◌}
 use Rattle.pkcs1_tool.proofs.carry_out.Goals.{in-Usage, in-Lines, in-CopyPub, in-CopyPriv}
 use Rattle.pkcs1_tool.proofs.carry_out.Goals as goal
 
@@ -10,6 +10,12 @@ done_by P (Ok x) status is h zero = h
 done_by P (Err e) status is h zero =
     let one : status ≡ 1 = is in
     absurd (omega (arith, one, zero))
+
+-- A copy that ended well copied the file.
+copied_by : {X E : Type 0} (Copied : Type 0) (Failed : E → Type 0) (r : Result X E)
+    → MatchResult r (λ _. Copied) Failed → OnOk r Copied
+copied_by Copied Failed (Ok x) copied = copied
+copied_by Copied Failed (Err e) why = tt
 
 pub returns-clause-done : goal.returns-clause-done
 returns-clause-done g c zero =
@@ -26,11 +32,13 @@ returns-clause-done g c zero =
       | in-CopyPub w ↦
           let is : c.status.result ≡ (if is_ok w.copy_pub.result then 0 else 1) =
           rw (w.in-CopyPub.is, w.ok-is, w.reported-ok-in-CopyPub.ensures) at c.status.ensures in
-          let copied = done_by _ w.copy_pub.result c.status.result is w.copy_pub.ensures.copied zero in
-          rw w.in-CopyPub.is (rw (w.new-input.ensures, w.new-output.ensures) at copied)
+          let copied = done_by _ w.copy_pub.result c.status.result is
+          (copied_by _ _ w.copy_pub.result w.copy_pub.ensures) zero in
+          rw (w.in-CopyPub.is, w.files-is) (rw (w.new-input.ensures, w.new-output.ensures) at copied)
       | in-CopyPriv w ↦
           let is : c.status.result ≡ (if is_ok w.copy_priv.result then 0 else 1) =
           rw (w.in-CopyPriv.is, w.ok-is, w.reported-ok-in-CopyPriv.ensures) at c.status.ensures in
-          let copied = done_by _ w.copy_priv.result c.status.result is w.copy_priv.ensures.copied zero in
-          rw w.in-CopyPriv.is (rw (w.new-input-in-CopyPriv.ensures, w.new-output-in-CopyPriv.ensures) at copied)
+          let copied = done_by _ w.copy_priv.result c.status.result is
+          (copied_by _ _ w.copy_priv.result w.copy_priv.ensures) zero in
+          rw (w.in-CopyPriv.is, w.files-is) (rw (w.new-input-in-CopyPriv.ensures, w.new-output-in-CopyPriv.ensures) at copied)
     ]

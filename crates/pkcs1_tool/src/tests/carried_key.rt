@@ -78,8 +78,8 @@ impl EncodeRsaPublicKey for CarriedKey {
 fn a_carried_key_goes_through_a_file(rt: HostRuntime) -> std::result::Result<(), Fail> {
     let key = CarriedKey::from_pkcs1_der(rt.alloc(), PRIVATE)?;
     let path = Path::new("carried_key.der");
-    EncodeRsaPrivateKey::write_pkcs1_der_file(&key, &rt, rt.alloc(), path)?;
-    let again = CarriedKey::read_pkcs1_der_file(&rt, rt.alloc(), path)?;
+    EncodeRsaPrivateKey::write_pkcs1_der_file(&key, &mut &rt, rt.alloc(), path)?;
+    let again = CarriedKey::read_pkcs1_der_file(&mut &rt, rt.alloc(), path)?;
     fs::remove_file(&rt, path)?;
     equal(&rt, again.bytes.as_slice(), PRIVATE);
     Ok(())
@@ -99,8 +99,8 @@ fn a_carried_key_that_is_no_document_leaves_an_old_file(
     equal(&rt, private, Err(rejected));
     let path = Path::new("untouched.der");
     fs::write(&rt, path, "old")?;
-    let private = EncodeRsaPrivateKey::write_pkcs1_der_file(&key, &rt, rt.alloc(), path);
-    let public = EncodeRsaPublicKey::write_pkcs1_der_file(&key, &rt, rt.alloc(), path);
+    let private = EncodeRsaPrivateKey::write_pkcs1_der_file(&key, &mut &rt, rt.alloc(), path);
+    let public = EncodeRsaPublicKey::write_pkcs1_der_file(&key, &mut &rt, rt.alloc(), path);
     let kept = fs::read(&rt, path)?;
     fs::remove_file(&rt, path)?;
     equal(&rt, private, Err(rejected));

@@ -28,9 +28,9 @@ fn owned_private_keys_go_through_files(rt: HostRuntime) -> Result<(), Fail> {
     let alloc = rt.alloc();
     let path = Path::new("owned.der");
     let key = RsaPrivateKeyOwned::from_pkcs1_der(alloc, PRIVATE)?;
-    key.write_pkcs1_der_file(&rt, alloc, path)?;
-    let again = RsaPrivateKeyOwned::read_pkcs1_der_file(&rt, alloc, path)?;
-    let no_public = RsaPublicKeyOwned::read_pkcs1_der_file(&rt, alloc, path);
+    key.write_pkcs1_der_file(&mut &rt, alloc, path)?;
+    let again = RsaPrivateKeyOwned::read_pkcs1_der_file(&mut &rt, alloc, path)?;
+    let no_public = RsaPublicKeyOwned::read_pkcs1_der_file(&mut &rt, alloc, path);
     let held = fs::read(&rt, path)?;
     fs::remove_file(&rt, path)?;
     equal(&rt, held.as_slice(), PRIVATE);
@@ -44,7 +44,7 @@ fn owned_private_keys_go_through_files(rt: HostRuntime) -> Result<(), Fail> {
 fn borrowed_private_keys_go_to_files(rt: HostRuntime) -> Result<(), Fail> {
     let alloc = rt.alloc();
     let path = Path::new("borrowed.der");
-    RsaPrivateKeyRef::decode_key(alloc, PRIVATE)?.write_pkcs1_der_file(&rt, alloc, path)?;
+    RsaPrivateKeyRef::decode_key(alloc, PRIVATE)?.write_pkcs1_der_file(&mut &rt, alloc, path)?;
     let held = fs::read(&rt, path)?;
     fs::remove_file(&rt, path)?;
     equal(&rt, held.as_slice(), PRIVATE);
@@ -55,9 +55,9 @@ fn borrowed_private_keys_go_to_files(rt: HostRuntime) -> Result<(), Fail> {
 fn public_keys_go_through_files(rt: HostRuntime) -> Result<(), Fail> {
     let alloc = rt.alloc();
     let path = Path::new("public.der");
-    RsaPublicKeyRef::try_from(PUBLIC)?.write_pkcs1_der_file(&rt, alloc, path)?;
-    let again = RsaPublicKeyOwned::read_pkcs1_der_file(&rt, alloc, path)?;
-    let no_private = RsaPrivateKeyOwned::read_pkcs1_der_file(&rt, alloc, path);
+    RsaPublicKeyRef::try_from(PUBLIC)?.write_pkcs1_der_file(&mut &rt, alloc, path)?;
+    let again = RsaPublicKeyOwned::read_pkcs1_der_file(&mut &rt, alloc, path)?;
+    let no_private = RsaPrivateKeyOwned::read_pkcs1_der_file(&mut &rt, alloc, path);
     let held = fs::read(&rt, path)?;
     fs::remove_file(&rt, path)?;
     equal(&rt, held.as_slice(), PUBLIC);
@@ -81,9 +81,9 @@ fn keys_are_encoded_again(rt: HostRuntime) -> Result<(), Fail> {
 #[test]
 fn absent_files_are_told(rt: HostRuntime) {
     let path = Path::new("absent.der");
-    let absent = RsaPublicKeyOwned::read_pkcs1_der_file(&rt, rt.alloc(), path);
+    let absent = RsaPublicKeyOwned::read_pkcs1_der_file(&mut &rt, rt.alloc(), path);
     equal(&rt, absent, Err(FILE_ERROR));
-    let absent = RsaPrivateKeyOwned::read_pkcs1_der_file(&rt, rt.alloc(), path).map(|_| ());
+    let absent = RsaPrivateKeyOwned::read_pkcs1_der_file(&mut &rt, rt.alloc(), path).map(|_| ());
     equal(&rt, absent, Err(FILE_ERROR));
     equal(&rt, fs::metadata(&rt, path).is_err(), true);
 }
@@ -93,10 +93,10 @@ fn full_devices_are_told(rt: HostRuntime) -> Result<(), Fail> {
     let alloc = rt.alloc();
     let full = Path::new("/dev/full");
     let public = RsaPublicKeyRef::try_from(PUBLIC)?;
-    let written = public.write_pkcs1_der_file(&rt, alloc, full);
+    let written = public.write_pkcs1_der_file(&mut &rt, alloc, full);
     equal(&rt, written, Err(FILE_ERROR));
     let private = RsaPrivateKeyRef::decode_key(alloc, PRIVATE)?;
-    let written = private.write_pkcs1_der_file(&rt, alloc, full);
+    let written = private.write_pkcs1_der_file(&mut &rt, alloc, full);
     equal(&rt, written, Err(FILE_ERROR));
     Ok(())
 }

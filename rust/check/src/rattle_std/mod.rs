@@ -9,7 +9,7 @@ pub mod test;
 mod tool;
 
 pub use std::{cell, hash, mem};
-pub use tool::{NO_OCTETS, alloc, arrayvec, cmp, env, fmt, io, marker, os, path, result, rt};
+pub use tool::{NO_OCTETS, alloc, arrayvec, cmp, env, fmt, io, marker, os, path, random, result, rt};
 
 use alloc::{AllocError, Global};
 use prelude::{HostRuntime, String, Vec};

@@ -133,7 +133,7 @@ impl<S> DocumentOf<S> {
     /// Reads the document in a file. Ok: it is all that the file opened at this path gave, from its opening to its
     /// end. Err: `File` if the file can't be opened, else as of `read_from`. It is never `NoRoom`.
     pub fn read_der_file<F: FileSystem>(
-        files: &F,
+        files: &mut F,
         alloc: Global,
         path: Path<'_>,
     ) -> Result<DocumentOf<S>> {
@@ -144,7 +144,7 @@ impl<S> DocumentOf<S> {
     /// Creates the file, or truncates an old one, writes the document, and closes the file. Ok: the file took exactly
     /// the document, from its creation until it was closed, and was flushed. Err: it is `File`. Either the file can't
     /// be created, or one call of it failed, and it was closed when it had taken a beginning of the bytes.
-    pub fn write_der_file<F: FileSystem>(&self, files: &F, path: Path<'_>) -> Result<()> {
+    pub fn write_der_file<F: FileSystem>(&self, files: &mut F, path: Path<'_>) -> Result<()> {
         let mut sink = files.create(path)?;
         let written = self.write_to(&mut sink);
         sink.close();

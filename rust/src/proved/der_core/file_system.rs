@@ -9,7 +9,7 @@ use crate::rattle_std::path::Path;
 use crate::rattle_std::rt::Files;
 
 /// Opens files as sources, and creates them as sinks. Each `Files` of std is one. A caller's own says by `opens` and
-/// `creates` what a path stands for.
+/// `creates` what a path stands for, and by `calls` which calls were made. Std's files don't report their calls.
 pub trait FileSystem {
     /// A file that was opened.
     type Opened: Source;
@@ -18,11 +18,11 @@ pub trait FileSystem {
     type Created: Close;
 
     /// Opens the file at the path. Ok: what the path stands for, by `opens`. Err: `File`, and it stands for nothing.
-    fn open(&self, path: Path<'_>) -> Result<Self::Opened>;
+    fn open(&mut self, path: Path<'_>) -> Result<Self::Opened>;
 
     /// Creates the file at the path, or truncates an old one. Ok: what the path stands for, by `creates`. Err: `File`,
     /// and it stands for nothing.
-    fn create(&self, path: Path<'_>) -> Result<Self::Created>;
+    fn create(&mut self, path: Path<'_>) -> Result<Self::Created>;
 }
 
 impl<Rt: Files> FileSystem for Rt {
@@ -30,11 +30,11 @@ impl<Rt: Files> FileSystem for Rt {
 
     type Created = ToWrite<Rt::File>;
 
-    fn open(&self, path: Path<'_>) -> Result<FromRead<Rt::File>> {
-        FromRead::opened(File::open(self, path))
+    fn open(&mut self, path: Path<'_>) -> Result<FromRead<Rt::File>> {
+        FromRead::opened(File::open(&*self, path))
     }
 
-    fn create(&self, path: Path<'_>) -> Result<ToWrite<Rt::File>> {
-        ToWrite::created(File::create(self, path))
+    fn create(&mut self, path: Path<'_>) -> Result<ToWrite<Rt::File>> {
+        ToWrite::created(File::create(&*self, path))
     }
 }

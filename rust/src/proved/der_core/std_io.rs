@@ -32,6 +32,11 @@ impl<R: Read> FromRead<R> {
         }
     }
 
+    /// The reader.
+    pub fn get_ref(&self) -> &R {
+        &self.inner
+    }
+
     /// Returns the reader.
     pub fn into_inner(self) -> R {
         let FromRead { inner, faults: _ } = self;

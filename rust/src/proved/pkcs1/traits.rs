@@ -23,7 +23,11 @@ pub trait DecodeRsaPrivateKey: Sized {
     /// document, which is all that the file opened at this path gave. Err: as of `Document::read_der_file`, so `File`
     /// if the file can't be opened or read, and `Overflow` if it has more bytes than `Length::MAX`; or the file gave a
     /// document that the type rejects with this error.
-    fn read_pkcs1_der_file<F: FileSystem>(files: &F, alloc: Global, path: Path<'_>) -> Result<Self> {
+    fn read_pkcs1_der_file<F: FileSystem>(
+        files: &mut F,
+        alloc: Global,
+        path: Path<'_>,
+    ) -> Result<Self> {
         let document = SecretDocument::read_der_file(files, alloc, path)?;
         Self::from_pkcs1_der(alloc, document.as_bytes())
     }
@@ -41,7 +45,11 @@ pub trait DecodeRsaPublicKey: Sized {
     /// document, which is all that the file opened at this path gave. Err: as of `Document::read_der_file`, so `File`
     /// if the file can't be opened or read, and `Overflow` if it has more bytes than `Length::MAX`; or the file gave a
     /// document that the type rejects with this error.
-    fn read_pkcs1_der_file<F: FileSystem>(files: &F, alloc: Global, path: Path<'_>) -> Result<Self> {
+    fn read_pkcs1_der_file<F: FileSystem>(
+        files: &mut F,
+        alloc: Global,
+        path: Path<'_>,
+    ) -> Result<Self> {
         let document = Document::read_der_file(files, alloc, path)?;
         Self::from_pkcs1_der(alloc, document.as_bytes())
     }
@@ -55,12 +63,11 @@ pub trait EncodeRsaPrivateKey {
     fn to_pkcs1_der(&self, alloc: Global) -> Result<SecretDocument>;
 
     /// Writes the encoding of the key to a file. Ok: the key is written as a document, which the file took, as of
-    /// `Document::write_der_file`. Err: the type rejects the key with this error; or it is `File`, and the file refused
-    /// that document. The key is encoded before the file is created or truncated. So a key that can't be encoded leaves
-    /// an old file as it was, which is only tested. A failed write may leave a beginning.
+    /// `Document::write_der_file`. Err: the type rejects the key with this error, and no file was created or truncated;
+    /// or it is `File`, and the file refused that document. A failed write may leave a beginning.
     fn write_pkcs1_der_file<F: FileSystem>(
         &self,
-        files: &F,
+        files: &mut F,
         alloc: Global,
         path: Path<'_>,
     ) -> Result<()> {
@@ -77,12 +84,11 @@ pub trait EncodeRsaPublicKey {
     fn to_pkcs1_der(&self, alloc: Global) -> Result<Document>;
 
     /// Writes the encoding of the key to a file. Ok: the key is written as a document, which the file took, as of
-    /// `Document::write_der_file`. Err: the type rejects the key with this error; or it is `File`, and the file refused
-    /// that document. The key is encoded before the file is created or truncated. So a key that can't be encoded leaves
-    /// an old file as it was, which is only tested. A failed write may leave a beginning.
+    /// `Document::write_der_file`. Err: the type rejects the key with this error, and no file was created or truncated;
+    /// or it is `File`, and the file refused that document. A failed write may leave a beginning.
     fn write_pkcs1_der_file<F: FileSystem>(
         &self,
-        files: &F,
+        files: &mut F,
         alloc: Global,
         path: Path<'_>,
     ) -> Result<()> {

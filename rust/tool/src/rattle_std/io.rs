@@ -10,6 +10,8 @@ pub type Result<T> = core::result::Result<T, Error>;
 pub enum ErrorKind {
     OutOfMemory,
     AlreadyExists,
+    NotFound,
+    Unsupported,
     Other,
 }
 

@@ -15,7 +15,7 @@ mod text;
 #[path = "../../../src/bin/pkcs1_tool/rattle_std/vec.rs"]
 mod vec;
 
-pub use files::{fs, os, rt};
+pub use files::{fs, os, random, rt};
 pub use library::{NO_OCTETS, alloc, arrayvec, cmp, fmt, hash, marker, result};
 pub use system::Words;
 

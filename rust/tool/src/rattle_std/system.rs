@@ -21,6 +21,7 @@ unsafe extern "C" {
     fn pkcs1_os_real_path(path: *const c_char, room: *mut c_char) -> isize;
     fn pkcs1_os_rename(from: *const c_char, to: *const c_char) -> isize;
     fn pkcs1_os_remove(path: *const c_char) -> isize;
+    fn pkcs1_os_random(room: *mut u8, len: usize) -> isize;
     safe fn malloc(len: usize) -> *mut c_void;
     fn realloc(old: *mut c_void, len: usize) -> *mut c_void;
     fn free(old: *mut c_void);
@@ -53,10 +54,11 @@ unsafe impl GlobalAlloc for Malloc {
     }
 }
 
-/// What `ffi/lib/os.c` returns where there was no memory, or where a file is already. Of another failure it returns
-/// -1.
+/// What `ffi/lib/os.c` returns where there was no memory, where a file is already, or where none is. Of another failure
+/// it returns -1.
 const NO_MEMORY: isize = -2;
 const EXISTS: isize = -3;
+const NOT_FOUND: isize = -4;
 
 /// What a call returned, if it didn't fail.
 fn count(returned: isize) -> Result<usize> {
@@ -64,6 +66,7 @@ fn count(returned: isize) -> Result<usize> {
         Ok(count) => Ok(count),
         Err(_) if returned == NO_MEMORY => Err(ErrorKind::OutOfMemory.into()),
         Err(_) if returned == EXISTS => Err(ErrorKind::AlreadyExists.into()),
+        Err(_) if returned == NOT_FOUND => Err(ErrorKind::NotFound.into()),
         Err(_) => Err(ErrorKind::Other.into()),
     }
 }
@@ -197,6 +200,12 @@ pub fn remove(path: Path<'_>) -> Result<()> {
     let name = Name::of(path)?;
     // SAFETY: the name ends with a zero octet.
     done(unsafe { pkcs1_os_remove(name.as_ptr()) })
+}
+
+/// Fills the room with random bytes of the system: at most 256.
+pub fn fill_random(room: &mut [u8]) -> Result<()> {
+    // SAFETY: the room has `len` octets, which may be written.
+    done(unsafe { pkcs1_os_random(room.as_mut_ptr(), room.len()) })
 }
 
 /// The words of the command line.

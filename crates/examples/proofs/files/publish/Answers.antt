@@ -19,7 +19,7 @@ half_taken Gives Takes key half is given (Err e) wrote = tt
 
 -- At the end: `read_pkcs1_der_file` has read the key, and `write_pkcs1_der_file` says what took the encoding of its
 -- half.
-pub returns : goal.returns
-returns g c =
+pub returns-clause-published : goal.returns-clause-published
+returns-clause-published g c =
     half_taken _ _ (held_private_key own_bytes_of c.in_ok-key.key) (held_public_key bytes_of c.public_key.result)
     c.public_key.ensures c.in_ok-key.ensures.read c.write_pkcs1_der_file.result c.write_pkcs1_der_file.ensures.written

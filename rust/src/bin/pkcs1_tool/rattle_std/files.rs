@@ -12,12 +12,10 @@ pub enum How {
     Read = 0,
     /// For writing.
     Write = 1,
-    /// For writing, and creates it if nothing is there.
-    Create = 2,
     /// For writing, if nothing is there.
-    CreateNew = 3,
+    CreateNew = 2,
     /// For writing, and empties what is there. Tests do so, and the tool never does.
-    Empty = 4,
+    Empty = 3,
 }
 
 /// What stands at a path.
@@ -36,7 +34,6 @@ pub struct Found {
     pub number: u64,
     pub len: u64,
     pub mode: u32,
-    pub group: u32,
 }
 
 /// Handles of the runtime.
@@ -64,6 +61,41 @@ pub mod rt {
 
         fn canonicalize(&self, alloc: Global, path: &str) -> io::Result<PathBuf> {
             system::real_path(alloc, Path::new(path))
+        }
+    }
+
+    impl<R: Files> Files for &R {
+        type File = R::File;
+
+        fn open_file(&self, how: How, mode: u32, path: Path<'_>) -> io::Result<R::File> {
+            (**self).open_file(how, mode, path)
+        }
+
+        fn canonicalize(&self, alloc: Global, path: &str) -> io::Result<PathBuf> {
+            (**self).canonicalize(alloc, path)
+        }
+    }
+}
+
+/// Random bytes.
+pub mod random {
+    use super::{io, system};
+
+    /// Gives bytes that others don't foresee.
+    pub trait RandomSource {
+        /// Fills the room with them.
+        fn fill_bytes(&self, room: &mut [u8]) -> io::Result<()>;
+    }
+
+    impl RandomSource for super::super::HostRuntime {
+        fn fill_bytes(&self, room: &mut [u8]) -> io::Result<()> {
+            system::fill_random(room)
+        }
+    }
+
+    impl<R: RandomSource> RandomSource for &R {
+        fn fill_bytes(&self, room: &mut [u8]) -> io::Result<()> {
+            (**self).fill_bytes(room)
         }
     }
 }
@@ -108,12 +140,7 @@ pub mod fs {
             self.asks(How::Write, write)
         }
 
-        /// Behind `write`.
-        pub fn create(&mut self, create: bool) -> &mut OpenOptions {
-            self.asks(How::Create, create)
-        }
-
-        /// Behind `write`.
+        /// After `write`.
         pub fn create_new(&mut self, create_new: bool) -> &mut OpenOptions {
             self.asks(How::CreateNew, create_new)
         }
@@ -198,8 +225,6 @@ pub mod os {
                 fn ino(&self) -> u64;
 
                 fn mode(&self) -> u32;
-
-                fn gid(&self) -> u32;
             }
 
             impl MetadataExt for Metadata {
@@ -213,10 +238,6 @@ pub mod os {
 
                 fn mode(&self) -> u32 {
                     self.0.1.mode
-                }
-
-                fn gid(&self) -> u32 {
-                    self.0.1.group
                 }
             }
 

@@ -9,7 +9,7 @@ mod system;
 mod text;
 mod vec;
 
-pub use files::{fs, os, rt};
+pub use files::{fs, os, random, rt};
 pub use library::{NO_OCTETS, alloc, arrayvec, cmp, fmt, hash, marker, result};
 pub use std::io;
 

@@ -1,11 +1,13 @@
-//! What cargo's tool asks of Rust's std about files. Where there is no Unix, each has a mode that lets all read and write,
-//! and none is set, and all have the same numbers.
+//! What cargo's tool asks of Rust's std about files, and random bytes. Where there is no Unix, each file has a mode that
+//! lets all read and write, and none is set, all have the same numbers, and no folder is opened.
 
 use super::alloc::Global;
 use super::files::{Found, How, Kind};
 use super::io::Result;
 use super::path::{Path, PathBuf};
+use std::collections::hash_map::RandomState;
 use std::fs::{Metadata, OpenOptions};
+use std::hash::{BuildHasher, Hasher};
 
 /// An open file.
 pub use std::fs::File;
@@ -16,12 +18,15 @@ pub fn open(path: Path<'_>, how: How, _mode: u32) -> Result<File> {
     match how {
         How::Read => options.read(true),
         How::Write => options.write(true),
-        How::Create => options.write(true).create(true),
         How::CreateNew => options.write(true).create_new(true),
         How::Empty => options.write(true).create(true).truncate(true),
     };
     #[cfg(unix)]
     std::os::unix::fs::OpenOptionsExt::mode(&mut options, _mode);
+    #[cfg(not(unix))]
+    if path.0.is_dir() {
+        return Err(std::io::ErrorKind::Unsupported.into());
+    }
     options.open(path.0)
 }
 
@@ -46,7 +51,7 @@ fn told(it: Metadata) -> (Kind, Found) {
     #[cfg(unix)]
     let found = {
         use std::os::unix::fs::MetadataExt;
-        Found { device: it.dev(), number: it.ino(), len: it.len(), mode: it.mode(), group: it.gid() }
+        Found { device: it.dev(), number: it.ino(), len: it.len(), mode: it.mode() }
     };
     #[cfg(not(unix))]
     let found = Found { len: it.len(), mode: 0o666, ..Found::default() };
@@ -73,4 +78,13 @@ pub fn rename(from: Path<'_>, to: Path<'_>) -> Result<()> {
 
 pub fn remove(path: Path<'_>) -> Result<()> {
     std::fs::remove_file(path.0)
+}
+
+/// Fills the room with bytes of Rust's hash keys, which come from the system.
+pub fn fill_random(room: &mut [u8]) -> Result<()> {
+    for part in room.chunks_mut(8) {
+        let bytes = RandomState::new().build_hasher().finish().to_ne_bytes();
+        part.copy_from_slice(&bytes[..part.len()]);
+    }
+    Ok(())
 }

@@ -3,37 +3,37 @@
 
 use crate::proved::pkcs1::Error;
 use crate::rattle_std::fmt;
-use crate::rattle_std::path::Path;
+use crate::rattle_std::path::{Path, PathBuf};
 
-/// What failed at the place where a key is written.
+/// What failed at the file to which a key is written.
 #[derive(Clone, Copy, Debug, PartialEq, Eq)]
 pub enum WriteError {
-    /// The place was used up before.
-    Used,
     /// Memory ran out.
     Memory,
     /// The file can't be opened for writing.
     Open,
+    /// It is a link to nothing.
+    Dangling,
     /// No new file can be created beside the file.
     Create,
-    /// Something is at each path of a new file beside the file.
-    Taken,
     /// A write, or the wait for the disk, failed.
     Write,
     /// The new file can't take the place of the file.
     Rename,
+    /// The new file took its place, but the disk can't be waited for: after a crash the old one may be there.
+    Sync,
 }
 
 impl fmt::Display for WriteError {
     fn fmt(&self, f: &mut fmt::Formatter<'_>) -> fmt::Result {
         match self {
-            WriteError::Used => write!(f, "it was written before"),
             WriteError::Memory => write!(f, "no memory was found"),
             WriteError::Open => write!(f, "it can't be opened"),
+            WriteError::Dangling => write!(f, "it is a link to nothing"),
             WriteError::Create => write!(f, "no file can be created beside it"),
-            WriteError::Taken => write!(f, "no name for a file beside it is free"),
             WriteError::Write => write!(f, "a write failed"),
             WriteError::Rename => write!(f, "the new file can't be renamed to it"),
+            WriteError::Sync => write!(f, "it is replaced, but its folder can't be synced"),
         }
     }
 }
@@ -41,61 +41,52 @@ impl fmt::Display for WriteError {
 /// Why a key isn't copied.
 #[derive(Clone, Copy, Debug, PartialEq, Eq)]
 pub enum CopyError {
-    /// The source can't be read, or what it gave is no key. The place is unused.
+    /// The file can't be read, or what it gave is no key. The other file isn't touched.
     Read(Error),
-    /// The place refused the key.
+    /// The other file refused the key.
     Write(WriteError),
 }
 
-impl From<Error> for CopyError {
-    fn from(error: Error) -> CopyError {
-        CopyError::Read(error)
-    }
-}
-
-impl From<crate::proved::der_core::Error> for CopyError {
-    fn from(error: crate::proved::der_core::Error) -> CopyError {
-        CopyError::Read(Error::Asn1(error))
-    }
-}
-
-impl From<WriteError> for CopyError {
-    fn from(error: WriteError) -> CopyError {
-        CopyError::Write(error)
-    }
-}
-
-/// Why a key isn't copied from file to file, with the path of the file that it is about.
-#[derive(Clone, Copy, Debug)]
+/// Why a key isn't copied from file to file.
+#[derive(Debug)]
 pub struct FileError<'a> {
     pub error: CopyError,
+    /// The path of the file that the error is about.
     pub path: Path<'a>,
+    /// The path of a new file that couldn't be removed again. A beginning of the key, or all of it, is in it.
+    pub left: Option<PathBuf>,
+}
+
+impl<'a> FileError<'a> {
+    /// The file at this path wasn't read, for this reason.
+    pub fn reading(path: Path<'a>, error: Error) -> FileError<'a> {
+        FileError {
+            error: CopyError::Read(error),
+            path,
+            left: None,
+        }
+    }
+
+    /// The file at this path wasn't written, for this reason. A new file may be left at the other path.
+    pub fn writing(path: Path<'a>, error: WriteError, left: Option<PathBuf>) -> FileError<'a> {
+        FileError {
+            error: CopyError::Write(error),
+            path,
+            left,
+        }
+    }
 }
 
 impl fmt::Display for FileError<'_> {
     fn fmt(&self, f: &mut fmt::Formatter<'_>) -> fmt::Result {
         let path = self.path.as_str();
         match self.error {
-            CopyError::Read(error) => write!(f, "reading {path}: {error}"),
-            CopyError::Write(error) => write!(f, "writing {path}: {error}"),
+            CopyError::Read(error) => write!(f, "reading {path}: {error}")?,
+            CopyError::Write(error) => write!(f, "writing {path}: {error}")?,
         }
-    }
-}
-
-/// The same result, with the path of the file that an error is about.
-pub fn with_path<'a>(
-    copied: Result<(), CopyError>,
-    input: Path<'a>,
-    output: Path<'a>,
-) -> Result<(), FileError<'a>> {
-    match copied {
-        Ok(()) => Ok(()),
-        Err(error) => Err(FileError {
-            error,
-            path: match error {
-                CopyError::Read(_) => input,
-                CopyError::Write(_) => output,
-            },
-        }),
+        match &self.left {
+            Some(left) => write!(f, ", and {} can't be removed", left.as_path().as_str()),
+            None => Ok(()),
+        }
     }
 }

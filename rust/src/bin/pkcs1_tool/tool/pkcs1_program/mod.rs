@@ -7,6 +7,7 @@
 //! means none; `bad line` if a line has another form.
 
 mod answer;
+mod copied;
 mod copy;
 mod copy_error;
 mod digits;
@@ -15,9 +16,9 @@ mod filter;
 mod keys;
 mod laws;
 mod lines;
+mod output_file;
 mod parameter_answers;
 mod parameter_text;
-mod place;
 mod plan;
 mod replace;
 mod replace_std;
@@ -26,15 +27,14 @@ mod sequence;
 mod verdict;
 
 pub use answer::answer_line;
-pub use copy::{copy_priv, copy_private_key, copy_pub, copy_public_key};
+pub use copy::{copy_priv, copy_pub};
 pub use copy_error::{CopyError, FileError, WriteError};
 pub use fault::Fault;
 pub use filter::{LIMIT, run};
 pub use laws::lemma_answers_are_one;
 pub use lines::split_line;
-pub use place::{FileAt, Place};
 pub use plan::{Plan, behind_name, plan_of, status};
-pub use replace::{Beside, ReplaceFiles, Rights, Target};
+pub use replace::{Beside, Mode, ReplaceFiles, Target};
 pub use replace_std::Synced;
 pub use request::Encodings;
 pub use sequence::read_sequence;

@@ -8,10 +8,12 @@ use crate::rattle_std::path::{Path, PathBuf};
 
 /// How a file is written.
 pub enum Target {
-    /// Not at all: it is a regular file that can't be written, or to which no path without a link leads.
+    /// Not at all: it can't be written, or no path without a link leads to it.
     Refused,
-    /// By opening it: it is no regular file. These are the rights of a file that this creates, as behind a link.
-    InPlace(Rights),
+    /// Not at all: it is a link to nothing.
+    Dangling,
+    /// By opening it: it is no regular file.
+    InPlace,
     /// By a new file, which takes its place.
     Beside(Beside),
 }
@@ -22,39 +24,17 @@ pub struct Beside {
     pub to: PathBuf,
     /// The path that the new file gets at first, in the same folder.
     pub path: PathBuf,
-    /// Who may use the new file.
-    pub rights: Rights,
+    /// The bits of the mode of the file that it replaces. `None`: there is none.
+    pub replaced: Option<u32>,
 }
 
-/// Who may use a new file.
+/// The mode of a new file.
 #[derive(Clone, Copy, Debug, PartialEq, Eq)]
-pub struct Rights {
-    /// The bits of the mode.
-    pub mode: u32,
-    /// Whether the umask has no effect on them.
-    pub are_kept: bool,
-    /// The group that gets its bits. `None`: any group does.
-    pub group: Option<u32>,
-}
-
-impl Rights {
-    /// The rights that the old file has, if there is one, and the model, if there is one: no more than either. Another
-    /// group than the model's gets none.
-    pub fn within(old: Option<u32>, model: Option<u32>, group: Option<u32>) -> Rights {
-        Rights {
-            mode: old.unwrap_or(0o666) & model.unwrap_or(0o777) & 0o777,
-            are_kept: old.is_some(),
-            group,
-        }
-    }
-
-    /// The mode of a file of this group; `None`: it isn't known.
-    pub fn mode_in(&self, group: Option<u32>) -> u32 {
-        match self.group {
-            Some(_) if self.group != group => self.mode & 0o707,
-            _ => self.mode,
-        }
-    }
+pub struct Mode {
+    /// The bits.
+    pub bits: u32,
+    /// Whether the umask takes from them.
+    pub umask_takes: bool,
 }
 
 /// Files of which a new one can take the place of an old one, by one call. Each `Files` of std is one.
@@ -62,26 +42,26 @@ pub trait ReplaceFiles: FileSystem {
     /// A file that was created where none was.
     type New: Close;
 
-    /// How to write what is at the path. A new file gets no more rights than the model has, if there is one. Its name is
-    /// another one for each number.
-    fn target(
-        &self,
-        alloc: Global,
-        path: Path<'_>,
-        model: Option<Path<'_>>,
-        number: u32,
-    ) -> crate::rattle_std::result::Result<Target, AllocError>;
+    /// The bits of the mode of an opened file. If they can't be read, they are those that let only the owner read and
+    /// write.
+    fn mode(&self, file: &Self::Opened) -> u32;
 
-    /// Opens what is no regular file, or creates one with these rights where nothing is.
-    fn open_in_place(&self, path: Path<'_>, rights: Rights) -> Result<Self::Created>;
+    /// How to write what is at the path. This changes nothing. A new file has a name that others don't foresee.
+    fn target(&mut self, alloc: Global, path: Path<'_>) -> crate::rattle_std::result::Result<Target, AllocError>;
 
-    /// Creates a file with these rights where nothing is. `Ok(None)`: something is at the path.
-    fn create_new(&self, path: Path<'_>, rights: Rights) -> Result<Option<Self::New>>;
+    /// Opens what is no regular file.
+    fn open_in_place(&mut self, path: Path<'_>) -> Result<Self::Created>;
+
+    /// Creates a file with this mode where nothing is.
+    fn create_new(&mut self, path: Path<'_>, mode: Mode) -> Result<Self::New>;
 
     /// Renames a new file, which must have taken some bytes and been flushed and closed. What is at the other path is
     /// replaced.
-    fn rename(&self, from: Path<'_>, to: Path<'_>) -> io::Result<()>;
+    fn rename(&mut self, from: Path<'_>, to: Path<'_>) -> io::Result<()>;
+
+    /// Waits until the disk has the name of the file at the path.
+    fn sync_name(&mut self, path: Path<'_>) -> io::Result<()>;
 
     /// Removes a file that was created where nothing was.
-    fn remove(&self, path: Path<'_>) -> io::Result<()>;
+    fn remove(&mut self, path: Path<'_>) -> io::Result<()>;
 }

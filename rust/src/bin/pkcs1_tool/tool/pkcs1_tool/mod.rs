@@ -45,7 +45,7 @@ fn carry_out<P: Eprint, F: ReplaceFiles, R: Source, W: Sink>(
     rt: &P,
     alloc: Global,
     plan: &Plan<'_>,
-    files: &F,
+    files: &mut F,
     source: &mut R,
     sink: &mut W,
 ) -> u8 {
@@ -69,7 +69,7 @@ pub fn main(rt: HostRuntime) -> ExitCode {
         Ok(arguments) => {
             let plan = plan_of(behind_name(arguments.as_slice()));
             let (mut source, mut sink) = (FromRead::new(rt.stdin()), ToWrite::new(rt.stdout()));
-            carry_out(&rt, rt.alloc(), &plan, &rt, &mut source, &mut sink)
+            carry_out(&rt, rt.alloc(), &plan, &mut &rt, &mut source, &mut sink)
         }
         Err(error) if error.kind() == io::ErrorKind::OutOfMemory => {
             status(&Plan::Lines, reported::<(), _>(&rt, Err(Fault::Memory)))

@@ -58,11 +58,11 @@ fn documents_go_to_sinks() -> Result<(), Fail> { let rt = HostRuntime;
     Ok(())
 }
 
-/// A document of more than three pieces of 64 KiB.
+/// A document of more than 1 MiB, which is more than 16 pieces of 64 KiB.
 fn long_encoding(alloc: Global) -> Result<Vec<u8>, Fail> {
     let mut encoding = Vec::new(alloc);
-    encoding.extend_from_slice(&[0x30, 0x83, 0x03, 0x0d, 0x40])?;
-    for place in 0..200_000_u32 {
+    encoding.extend_from_slice(&[0x30, 0x83, 0x10, 0x00, 0x00])?;
+    for place in 0..0x10_0000_u32 {
         encoding.push(u8::try_from(place % 251).unwrap_or(0))?;
     }
     Ok(encoding)
@@ -124,9 +124,9 @@ fn open_documents_go_through_files() -> Result<(), Fail> { let rt = HostRuntime;
     let document = Document::from_der(alloc, TEXT)?;
     let path = Path::new("document.der");
     fs::write(&rt, path, OLD)?;
-    document.write_der_file(&rt, path)?;
+    document.write_der_file(&mut &rt, path)?;
     let held = fs::read(&rt, path)?;
-    let read = Document::read_der_file(&rt, alloc, path)?;
+    let read = Document::read_der_file(&mut &rt, alloc, path)?;
     fs::remove_file(&rt, path)?;
     equal(&rt, held.as_slice(), TEXT);
     equal(&rt, read.as_bytes(), TEXT);
@@ -139,9 +139,9 @@ fn secret_documents_go_through_files() -> Result<(), Fail> { let rt = HostRuntim
     let document = SecretDocument::from_der(alloc, TEXT)?;
     let path = Path::new("secret.der");
     fs::write(&rt, path, OLD)?;
-    document.write_der_file(&rt, path)?;
+    document.write_der_file(&mut &rt, path)?;
     let held = fs::read(&rt, path)?;
-    let read = SecretDocument::read_der_file(&rt, alloc, path)?;
+    let read = SecretDocument::read_der_file(&mut &rt, alloc, path)?;
     fs::remove_file(&rt, path)?;
     equal(&rt, held.as_slice(), TEXT);
     equal(&rt, read.as_bytes(), TEXT);
@@ -152,12 +152,12 @@ fn secret_documents_go_through_files() -> Result<(), Fail> { let rt = HostRuntim
 fn files_that_are_not_read_are_told() -> Result<(), Fail> { let rt = HostRuntime;
     let alloc = rt.alloc();
     let path = Path::new("no_document.der");
-    let absent = Document::read_der_file(&rt, alloc, path);
+    let absent = Document::read_der_file(&mut &rt, alloc, path);
     equal(&rt, absent, Err(FILE_ERROR));
-    let folder = Document::read_der_file(&rt, alloc, Path::new("."));
+    let folder = Document::read_der_file(&mut &rt, alloc, Path::new("."));
     equal(&rt, folder, Err(FILE_ERROR));
     fs::write(&rt, path, OLD)?;
-    let read = Document::read_der_file(&rt, alloc, path);
+    let read = Document::read_der_file(&mut &rt, alloc, path);
     fs::remove_file(&rt, path)?;
     let found = ErrorKind::TagUnexpected {
         expected: Tag::SEQUENCE,
@@ -173,9 +173,9 @@ fn files_that_are_not_written_are_told() -> Result<(), Fail> { let rt = HostRunt
     let document = Document::from_der(alloc, TEXT)?;
     let secret = SecretDocument::from_der(alloc, TEXT)?;
     for path in ["no_such_folder/document.der", "/dev/full"] {
-        let written = document.write_der_file(&rt, Path::new(path));
+        let written = document.write_der_file(&mut &rt, Path::new(path));
         equal(&rt, written, Err(FILE_ERROR));
-        let written = secret.write_der_file(&rt, Path::new(path));
+        let written = secret.write_der_file(&mut &rt, Path::new(path));
         equal(&rt, written, Err(FILE_ERROR));
     }
     Ok(())

@@ -9,9 +9,10 @@ use crate::proved::pkcs1::{
     DecodeRsaPrivateKey, DecodeRsaPublicKey, EncodeRsaPrivateKey, EncodeRsaPublicKey,
     RsaPrivateKeyOwned, RsaPublicKeyOwned, RsaPublicKeyRef,
 };
-use crate::tool::pkcs1_program::{CopyError, ReplaceFiles, Rights, Target, WriteError, copy_priv, copy_pub};
+use crate::tool::pkcs1_program::{CopyError, Mode, ReplaceFiles, WriteError, copy_priv, copy_pub};
 use crate::rattle_std::alloc::Global;
 use crate::rattle_std::cell::RefCell;
+use crate::rattle_std::fs;
 use crate::rattle_std::path::Path;
 use crate::rattle_std::test::Fail;
 
@@ -40,6 +41,7 @@ const REPLACED: &[Call] = &[
     Call::Flush,
     Call::Close,
     Call::Rename,
+    Call::SyncName,
 ];
 
 /// The calls behind one of a new file that failed.
@@ -57,14 +59,21 @@ const IN_PLACE: &[Call] = &[
     Call::Close,
 ];
 
+/// What a new file of a private key gets.
+const OWNER: Mode = Mode {
+    bits: 0o600,
+    umask_takes: true,
+};
+
 /// Files over an input, of which one call may fail.
 fn files<'a>(calls: &'a Calls, input: &'a [u8], failing: Option<Call>) -> Recorder<'a> {
     Recorder {
         calls,
         input,
         failing,
-        way: Way::Beside,
-        free: "new.0",
+        also_failing: None,
+        way: Way::Beside(None),
+        mode: OWNER,
     }
 }
 
@@ -72,22 +81,37 @@ fn files<'a>(calls: &'a Calls, input: &'a [u8], failing: Option<Call>) -> Record
 fn copies_call_files_in_order() { let rt = HostRuntime;
     let alloc = rt.alloc();
     let (from, to) = (Path::new("in"), Path::new("out"));
-    for (input, way, private) in [
-        (PUBLIC, Way::Beside, READ),
-        (PRIVATE, Way::Beside, REPLACED),
-        (PRIVATE, Way::InPlace, IN_PLACE),
-        (PRIVATE, Way::NotAtAll, &REPLACED[..4]),
-        (b"0\x00".as_slice(), Way::Beside, READ),
-        (b"1\x00".as_slice(), Way::Beside, &READ[..2]),
+    for (input, way, wanted, error) in [
+        (PUBLIC, Way::Beside(None), READ, None),
+        (PRIVATE, Way::Beside(None), REPLACED, None),
+        (PRIVATE, Way::Beside(Some(0o664)), REPLACED, None),
+        (PRIVATE, Way::InPlace, IN_PLACE, None),
+        (
+            PRIVATE,
+            Way::NotAtAll,
+            &REPLACED[..4],
+            Some(WriteError::Open),
+        ),
+        (
+            PRIVATE,
+            Way::LinkToNothing,
+            &REPLACED[..4],
+            Some(WriteError::Dangling),
+        ),
+        (b"0\x00".as_slice(), Way::Beside(None), READ, None),
+        (b"1\x00".as_slice(), Way::Beside(None), &READ[..2], None),
     ] {
         let calls = RefCell::new(Vec::new(alloc));
-        let recorder = Recorder {
+        let mut recorder = Recorder {
             way,
             ..files(&calls, input, None)
         };
-        let done = copy_priv(&recorder, alloc, from, to);
-        equal(&rt, done.is_ok(), input == PRIVATE && way != Way::NotAtAll);
-        equal(&rt, calls.into_inner().as_slice(), private);
+        let done = copy_priv(&mut recorder, alloc, from, to);
+        equal(&rt, done.is_ok(), input == PRIVATE && error.is_none());
+        if let (Err(told), Some(error)) = (done, error) {
+            equal(&rt, told.error, CopyError::Write(error));
+        }
+        equal(&rt, calls.into_inner().as_slice(), wanted);
     }
 }
 
@@ -96,19 +120,19 @@ fn keys_call_files_in_order() -> Result<(), Fail> { let rt = HostRuntime;
     let alloc = rt.alloc();
     let (from, to) = (Path::new("in"), Path::new("out"));
     let calls = RefCell::new(Vec::new(alloc));
-    let recorder = files(&calls, PRIVATE, None);
-    let key = RsaPrivateKeyOwned::read_pkcs1_der_file(&recorder, alloc, from)?;
-    key.write_pkcs1_der_file(&recorder, alloc, to)?;
+    let mut recorder = files(&calls, PRIVATE, None);
+    let key = RsaPrivateKeyOwned::read_pkcs1_der_file(&mut recorder, alloc, from)?;
+    key.write_pkcs1_der_file(&mut recorder, alloc, to)?;
     equal(&rt, calls.into_inner().as_slice(), READ_AND_WRITTEN);
     let calls = RefCell::new(Vec::new(alloc));
-    let recorder = files(&calls, PUBLIC, None);
-    let key = RsaPublicKeyOwned::read_pkcs1_der_file(&recorder, alloc, from)?;
-    key.write_pkcs1_der_file(&recorder, alloc, to)?;
+    let mut recorder = files(&calls, PUBLIC, None);
+    let key = RsaPublicKeyOwned::read_pkcs1_der_file(&mut recorder, alloc, from)?;
+    key.write_pkcs1_der_file(&mut recorder, alloc, to)?;
     equal(&rt, calls.into_inner().as_slice(), READ_AND_WRITTEN);
     let calls = RefCell::new(Vec::new(alloc));
-    let recorder = files(&calls, PUBLIC, None);
+    let mut recorder = files(&calls, PUBLIC, None);
     let key = RsaPublicKeyRef::try_from(PUBLIC)?;
-    key.write_pkcs1_der_file(&recorder, alloc, to)?;
+    key.write_pkcs1_der_file(&mut recorder, alloc, to)?;
     equal(&rt, calls.into_inner().as_slice(), WRITTEN);
     Ok(())
 }
@@ -116,8 +140,8 @@ fn keys_call_files_in_order() -> Result<(), Fail> { let rt = HostRuntime;
 /// The calls of reading a public key's file.
 fn calls_of_reading(alloc: Global, input: &[u8], failing: Option<Call>) -> Vec<Call> {
     let calls = RefCell::new(Vec::new(alloc));
-    let recorder = files(&calls, input, failing);
-    let _ = RsaPublicKeyOwned::read_pkcs1_der_file(&recorder, alloc, Path::new("in"));
+    let mut recorder = files(&calls, input, failing);
+    let _ = RsaPublicKeyOwned::read_pkcs1_der_file(&mut recorder, alloc, Path::new("in"));
     calls.into_inner()
 }
 
@@ -132,86 +156,65 @@ fn reading_ends_at_a_failed_call() { let rt = HostRuntime;
     }
 }
 
-/// Behind a call that fails, a file is only closed and removed.
+/// After a call that fails, a file is only closed and removed. If it can't be removed, the error has its path.
 #[test]
 fn a_new_file_is_removed() { let rt = HostRuntime;
     let alloc = rt.alloc();
     let (from, to) = (Path::new("in"), Path::new("out"));
-    for (failing, front, behind) in [
+    for (failing, front, after) in [
         (Call::Read, &REPLACED[..2], &REMOVED[2..]),
         (Call::Target, &REPLACED[..4], &REMOVED[2..]),
         (Call::CreateNew, &REPLACED[..5], &REMOVED[2..]),
         (Call::Write, &REPLACED[..6], REMOVED),
         (Call::Flush, &REPLACED[..7], REMOVED),
         (Call::Rename, &REPLACED[..9], &REMOVED[1..]),
+        (Call::SyncName, REPLACED, &REMOVED[2..]),
     ] {
-        let calls = RefCell::new(Vec::new(alloc));
-        let recorder = files(&calls, PRIVATE, Some(failing));
-        let done = copy_priv(&recorder, alloc, from, to);
-        equal(&rt, done.is_err(), true);
-        let calls = calls.into_inner();
-        let count = front.len().min(calls.len());
-        equal(&rt, &calls.as_slice()[..count], front);
-        equal(&rt, &calls.as_slice()[count..], behind);
+        for also_failing in [None, Some(Call::Remove)] {
+            let calls = RefCell::new(Vec::new(alloc));
+            let mut recorder = Recorder {
+                also_failing,
+                ..files(&calls, PRIVATE, Some(failing))
+            };
+            let Err(told) = copy_priv(&mut recorder, alloc, from, to) else {
+                return holds(&rt, false);
+            };
+            let is_left = also_failing.is_some() && after.len() > REMOVED[2..].len();
+            equal(&rt, told.left.is_some(), is_left);
+            let calls = calls.into_inner();
+            let count = front.len().min(calls.len());
+            equal(&rt, &calls.as_slice()[..count], front);
+            equal(&rt, &calls.as_slice()[count..], after);
+        }
     }
 }
 
-/// Where the name of a new file is taken, the next one is tried, up to 101 of them.
+/// A new file of a public key has the mode of the one that it replaces or, if there is none, of the one that was read.
 #[test]
-fn the_next_name_is_tried() { let rt = HostRuntime;
+fn a_new_file_of_a_public_key_has_a_mode() { let rt = HostRuntime;
     let alloc = rt.alloc();
-    for (free, tried, is_copied) in [
-        ("new.1", 2 * 2, true),
-        ("new.100", 2 * 101, true),
-        ("new.101", 2 * 101, false),
-    ] {
+    for (replaced, bits, umask_takes) in [(None, 0o664, true), (Some(0o100640), 0o640, false)] {
         let calls = RefCell::new(Vec::new(alloc));
-        let recorder = Recorder {
-            free,
-            ..files(&calls, PRIVATE, None)
+        let mut recorder = Recorder {
+            way: Way::Beside(replaced),
+            mode: Mode { bits, umask_takes },
+            ..files(&calls, PUBLIC, None)
         };
-        let done = copy_priv(&recorder, alloc, Path::new("in"), Path::new("out"));
-        equal(&rt, done.is_ok(), is_copied);
-        if let Err(told) = done {
-            equal(&rt, told.error, CopyError::Write(WriteError::Taken));
-        }
-        let behind = if is_copied { &REPLACED[5..] } else { &[] };
-        let calls = calls.into_inner();
-        let (read, others) = calls.as_slice().split_at(calls.len().min(3));
-        let (pairs, last) = others.split_at(others.len().min(tried));
-        equal(&rt, read, READ);
-        equal(&rt, pairs.len(), tried);
-        for pair in pairs.chunks_exact(2) {
-            equal(&rt, pair, &REPLACED[3..5]);
-        }
-        equal(&rt, last, behind);
+        let done = copy_pub(&mut recorder, alloc, Path::new("in"), Path::new("out"));
+        equal(&rt, done.is_ok(), true);
+        equal(&rt, calls.into_inner().as_slice(), REPLACED);
     }
 }
 
-/// A new file for a public key gets the rights that the umask leaves.
+/// A file of std that came to be regular isn't written in place.
 #[test]
-fn only_a_private_key_has_a_model() { let rt = HostRuntime;
-    let alloc = rt.alloc();
-    let calls = RefCell::new(Vec::new(alloc));
-    let recorder = files(&calls, PUBLIC, None);
-    let done = copy_pub(&recorder, alloc, Path::new("in"), Path::new("out"));
-    equal(&rt, done.is_err(), true);
-    equal(&rt, calls.into_inner().as_slice(), &REPLACED[..5]);
-}
-
-/// A new file that has a model whose rights can't be read is its owner's alone.
-#[test]
-fn an_absent_model_allows_the_owner_alone() -> Result<(), Fail> { let rt = HostRuntime;
-    let (path, model) = (Path::new("no_copy.der"), Path::new("no_model.der"));
-    let Target::Beside(new) = rt.target(rt.alloc(), path, Some(model), 0)? else {
-        holds(&rt, false);
-        return Ok(());
-    };
-    let owner = Rights {
-        mode: 0o600,
-        are_kept: false,
-        group: None,
-    };
-    equal(&rt, new.rights, owner);
+fn regular_files_are_not_opened_in_place() -> Result<(), Fail> { let rt = HostRuntime;
+    let path = Path::new("regular.der");
+    fs::write(&rt, path, PUBLIC)?;
+    let opened = (&mut &rt).open_in_place(path).is_ok();
+    let held = fs::read(&rt, path)?;
+    fs::remove_file(&rt, path)?;
+    equal(&rt, opened, false);
+    equal(&rt, held.as_slice(), PUBLIC);
     Ok(())
 }

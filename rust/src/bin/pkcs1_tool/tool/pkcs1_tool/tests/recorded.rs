@@ -1,9 +1,9 @@
 // Made of crates/pkcs1_tool/src/tests/recorded.rt by tools/erase/erase.py, and not to be edited.
 //! Files in memory, which keep the calls on them in order.
 
-use crate::rattle_std::prelude::{Vec, format};
+use crate::rattle_std::prelude::Vec;
 use crate::proved::der_core::{Close, Error, ErrorKind, FileSystem, Result, Sink, Source};
-use crate::tool::pkcs1_program::{Beside, ReplaceFiles, Rights, Target};
+use crate::tool::pkcs1_program::{Beside, Mode, ReplaceFiles, Target};
 use crate::rattle_std::alloc::{AllocError, Global};
 use crate::rattle_std::cell::RefCell;
 use crate::rattle_std::io;
@@ -22,6 +22,7 @@ pub enum Call {
     Flush,
     Close,
     Rename,
+    SyncName,
     Remove,
 }
 
@@ -41,18 +42,22 @@ pub struct Recorder<'a> {
     pub input: &'a [u8],
     /// The call on a file that fails.
     pub failing: Option<Call>,
+    /// Another one.
+    pub also_failing: Option<Call>,
     /// How `out` is written.
     pub way: Way,
-    /// The one path at which a new file can be created.
-    pub free: &'a str,
+    /// The mode that a new file has to have.
+    pub mode: Mode,
 }
 
 /// How a file is written.
 #[derive(Clone, Copy, Debug, PartialEq, Eq)]
 pub enum Way {
     NotAtAll,
+    LinkToNothing,
     InPlace,
-    Beside,
+    /// By a new file. An old one has this mode, if there is one.
+    Beside(Option<u32>),
 }
 
 impl<'a> Recorder<'a> {
@@ -69,7 +74,7 @@ impl<'a> Recorder<'a> {
     /// Keeps a call that is to be made with this path, and whether it succeeds.
     fn called(&self, call: Call, path: Path<'_>, wanted: &str) -> bool {
         keep(self.calls, call);
-        path.as_str() == wanted && self.failing != Some(call)
+        path.as_str() == wanted && self.failing != Some(call) && self.also_failing != Some(call)
     }
 }
 
@@ -78,7 +83,7 @@ impl<'a> FileSystem for Recorder<'a> {
 
     type Created = Recorded<'a>;
 
-    fn open(&self, path: Path<'_>) -> Result<Recorded<'a>> {
+    fn open(&mut self, path: Path<'_>) -> Result<Recorded<'a>> {
         keep(self.calls, Call::Open);
         if path.as_str() != "in" {
             return Err(Error::new(ErrorKind::File));
@@ -91,8 +96,27 @@ impl<'a> FileSystem for Recorder<'a> {
         })
     }
 
-    fn create(&self, path: Path<'_>) -> Result<Recorded<'a>> {
-        if self.called(Call::Create, path, "out") {
+    fn create(&mut self, path: Path<'_>) -> Result<Recorded<'a>> {
+        self.gives(Call::Create, path, "out")
+    }
+}
+
+/// The name of the new file.
+const NEW: &str = "new";
+
+impl<'a> Recorder<'a> {
+    /// Keeps a call of a file system that returns nothing.
+    fn done(&self, call: Call, path: Path<'_>, wanted: &str) -> io::Result<()> {
+        if self.called(call, path, wanted) {
+            Ok(())
+        } else {
+            Err(io::Error::from(io::ErrorKind::Other))
+        }
+    }
+
+    /// The same of one that returns a file.
+    fn gives(&self, call: Call, path: Path<'_>, wanted: &str) -> Result<Recorded<'a>> {
+        if self.called(call, path, wanted) {
             Ok(self.created())
         } else {
             Err(Error::new(ErrorKind::File))
@@ -103,58 +127,47 @@ impl<'a> FileSystem for Recorder<'a> {
 impl<'a> ReplaceFiles for Recorder<'a> {
     type New = Recorded<'a>;
 
-    fn target(
-        &self,
-        alloc: Global,
-        path: Path<'_>,
-        model: Option<Path<'_>>,
-        number: u32,
-    ) -> crate::rattle_std::result::Result<Target, AllocError> {
+    /// A regular file that all may read, and its group may write to.
+    fn mode(&self, _file: &Recorded<'a>) -> u32 {
+        0o100664
+    }
+
+    fn target(&mut self, alloc: Global, path: Path<'_>) -> crate::rattle_std::result::Result<Target, AllocError> {
         if !self.called(Call::Target, path, "out") {
             return Err(AllocError);
         }
-        let rights = Rights::within(None, model.map(|_| 0o600), None);
         match self.way {
             Way::NotAtAll => Ok(Target::Refused),
-            Way::InPlace => Ok(Target::InPlace(rights)),
-            Way::Beside => Ok(Target::Beside(Beside {
+            Way::LinkToNothing => Ok(Target::Dangling),
+            Way::InPlace => Ok(Target::InPlace),
+            Way::Beside(replaced) => Ok(Target::Beside(Beside {
                 to: path.to_path_buf(alloc)?,
-                path: Path::new(format!(in alloc; "new.{number}")?.as_str()).to_path_buf(alloc)?,
-                rights,
+                path: Path::new(NEW).to_path_buf(alloc)?,
+                replaced,
             })),
         }
     }
 
-    fn open_in_place(&self, path: Path<'_>, _rights: Rights) -> Result<Recorded<'a>> {
-        if self.called(Call::OpenInPlace, path, "out") {
-            Ok(self.created())
-        } else {
-            Err(Error::new(ErrorKind::File))
-        }
+    fn open_in_place(&mut self, path: Path<'_>) -> Result<Recorded<'a>> {
+        self.gives(Call::OpenInPlace, path, "out")
     }
 
-    fn create_new(&self, path: Path<'_>, rights: Rights) -> Result<Option<Recorded<'a>>> {
-        let is_free = self.called(Call::CreateNew, path, self.free);
-        if self.failing == Some(Call::CreateNew) || rights.mode != 0o600 {
-            return Err(Error::new(ErrorKind::File));
-        }
-        Ok(is_free.then(|| self.created()))
+    fn create_new(&mut self, path: Path<'_>, mode: Mode) -> Result<Recorded<'a>> {
+        let wanted = if mode == self.mode { NEW } else { "" };
+        self.gives(Call::CreateNew, path, wanted)
     }
 
-    fn rename(&self, from: Path<'_>, to: Path<'_>) -> io::Result<()> {
-        if self.called(Call::Rename, from, self.free) && to.as_str() == "out" {
-            Ok(())
-        } else {
-            Err(io::Error::from(io::ErrorKind::Other))
-        }
+    fn rename(&mut self, from: Path<'_>, to: Path<'_>) -> io::Result<()> {
+        let wanted = if to.as_str() == "out" { NEW } else { "" };
+        self.done(Call::Rename, from, wanted)
     }
 
-    fn remove(&self, path: Path<'_>) -> io::Result<()> {
-        if self.called(Call::Remove, path, self.free) {
-            Ok(())
-        } else {
-            Err(io::Error::from(io::ErrorKind::Other))
-        }
+    fn sync_name(&mut self, path: Path<'_>) -> io::Result<()> {
+        self.done(Call::SyncName, path, "out")
+    }
+
+    fn remove(&mut self, path: Path<'_>) -> io::Result<()> {
+        self.done(Call::Remove, path, NEW)
     }
 }
 

@@ -1,6 +1,6 @@
 // Made of crates/pkcs1_tool/src/tests/values.rt by tools/erase/erase.py, and not to be edited.
 //! Constants of identifiers, errors that are compared, values that are printed, and long values that are copied.
-use crate::rattle_std::prelude::{HostRuntime, String, Vec, format};
+use crate::rattle_std::prelude::{HostRuntime, String, Vec, format, vec};
 use crate::tool::pkcs1_tool::tests::checks::{equal, holds};
 use crate::proved::der_core::{Document, Error, ErrorKind, SecretDocument, Tag, Uint};
 use crate::proved::pkcs1::{
@@ -136,13 +136,17 @@ fn parameters_are_printed_by_their_fields() -> Result<(), Fail> { let rt = HostR
 #[test]
 fn long_values_are_copied() -> Result<(), Fail> { let rt = HostRuntime;
     let alloc = rt.alloc();
-    let octets = [0x11; 5000];
-    let number = Uint::new(alloc, &octets)?;
+    let octets = vec![in alloc; 0x11u8; 0x10_0000]?;
+    let number = Uint::new(alloc, octets.as_slice())?;
+    let copy = number.try_clone(alloc)?;
     holds(&rt, number.as_bytes() == octets.as_slice());
-    let any = Any::new(alloc, Tag::NULL, &octets[..300])?;
-    holds(&rt, any.as_any_ref().value() == &octets[..300]);
-    let mut encoding = Vec::from_slice(alloc, &[0x30, 0x82, 0x13, 0x88])?;
-    encoding.extend_from_slice(&octets)?;
+    holds(&rt, copy.as_bytes() == octets.as_slice());
+    let any = Any::new(alloc, Tag::NULL, octets.as_slice())?;
+    let copy = any.try_clone(alloc)?;
+    holds(&rt, any.as_any_ref().value() == octets.as_slice());
+    holds(&rt, copy.as_any_ref().value() == octets.as_slice());
+    let mut encoding = Vec::from_slice(alloc, &[0x30, 0x83, 0x10, 0x00, 0x00])?;
+    encoding.extend_from_slice(octets.as_slice())?;
     let document = Document::from_der(alloc, encoding.as_slice())?;
     holds(&rt, document.as_bytes() == encoding.as_slice());
     Ok(())
