@@ -8,8 +8,9 @@
 #                                  generate/test.sh, make check
 #     tools/generate.sh --fresh    whether it is made of the text that is here (fresh.sh), in a second
 #
-# DEBIAN: the folder of rustc, ~/.cache/pkcs1-gate/debian unless said; rust/check.sh takes the same. The status is 1 if
-# files differ or can't be made. ffi/lib/generated is replaced in the end, and stays as it is if anything fails.
+# DEBIAN: the folder of rustc, ~/.cache/pkcs1-gate/debian unless said; rust/check.sh takes the same. RUSTC_1_85: an
+# installed rustc in its place. The status is 1 if files differ or can't be made. ffi/lib/generated is replaced in the
+# end, and stays as it is if anything fails.
 set -eu
 cd "$(dirname "$0")/.."
 . tools/shell.sh
@@ -65,10 +66,12 @@ make_all() {
     $parts/provenance.sh "${options[*]}" "${of_tool[*]}" "${of_assembly[*]}" "${of_ir[*]}" > "$room/generated/PROVENANCE"
 }
 check() {
+    local apart=(-I '^commit: ')
     tools/fresh.sh
     make_all
-    # A release also names its commit.
-    diff -rq -I '^commit: ' $generated "$room/generated" >&2 ||
+    # A release also names its commit, and an installed rustc is another file.
+    [ -z "${RUSTC_1_85-}" ] || apart+=(-I '^rustc: ' -I '^driver: ')
+    diff -rq "${apart[@]}" $generated "$room/generated" >&2 ||
         stop "$generated isn't what rustc makes of the text that is here: tools/generate.sh makes it again"
     $parts/test.sh "$room/generated"
     make check OUT="$room/out" GENERATED="$room/generated"

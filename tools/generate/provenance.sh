@@ -5,12 +5,14 @@ set -eu
 cd "$(dirname "$0")/../.."
 . tools/shell.sh
 . tools/debian_rust.sh
-driver=$(echo "$(dirname "$RUSTC")"/../lib/*/librustc_driver-*.so)
+driver=$(find "$("$RUSTC" --print sysroot)/lib" -maxdepth 2 -name 'librustc_driver-*.so')
+from=installed
+[ -n "${RUSTC_1_85-}" ] || from="of Debian's rustc-web $debian_version"
 llvm=$("$RUSTC" -vV | sed -n 's/^LLVM version: //p')
 cat << END
 Made by tools/generate.sh, as are the files beside it. None is changed by hand.
 
-rustc: $("$RUSTC" --version | cut -d ' ' -f 2-), of Debian's rustc-web $debian_version
+rustc: $("$RUSTC" --version | cut -d ' ' -f 2-), $from
 driver: sha256 $(sha256sum < "$driver" | cut -d ' ' -f 1)
 LLVM: $llvm
 sources: $(tools/fresh.sh --hash)
@@ -28,7 +30,7 @@ assembly with $3
 IR with $4
 
 Where the code would panic, which the proof excludes, it has a trap. To see that these files come from the text that is
-here, where there is apt-get:
+here, on Debian or with such a rustc:
 
     tools/generate.sh --check      makes the files again elsewhere, compares them octet by octet, and tests them
 

@@ -174,6 +174,7 @@ unknown_is_refused() {
     refuses 'call void @llvm.umul.with.overflow.i64(i64 %1, i64 1)' 'not known: @llvm.umul.with.overflow.i64'
     refuses 'call void @llvm.memset.p0.i64(ptr %0, i8 0, i64 %1, i1 true)' 'a volatile fill'
     refuses 'call void %0(i64 %1)' 'not known: %0'
+    refuses $'ret void\n}\ndeclare i32 @memcmp(ptr, ptr, i64)\ndefine void @pkcs1_c_i() {' 'of another file, @memcmp'
     refuses '%2 = add <2 x i64> zeroinitializer, zeroinitializer' 'not known: <'
     refuses '%2 = add i256 1, 1' 'a number of 256 bits'
     refuses 'store i64 %1, ptr %0, align 8, !nontemporal !0, more' 'more'
@@ -243,5 +244,6 @@ unknown_is_refused
 panics_are_traps
 unknown_ways_are_refused
 "$here/test_opcodes.py" "$room"
+"$here/test_debian_rust.sh"
 "$here/test_making.sh"
 echo "generated: the objects, the library's test over assembly and C, the translation, traps, other rustcs and texts"

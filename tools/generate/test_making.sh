@@ -16,13 +16,15 @@ stand_in() {
     echo driver > "$DEBIAN/12/usr/lib/it/librustc_driver-0.so"
     printf '\t.section\t.text.it,"ax",@progbits\n\t.type\tit,@function\nit:\n\t.cfi_startproc\n\tret\n' > "$room/asm"
     printf 'define void @pkcs1_c_it() {\n  ret void\n}\n' > "$room/llvm-ir"
-    sed -n "s/^debian_named='\(.*\)'$/\1/p" "$here/../debian_rust.sh" > "$room/name"
+    sed -n "s/^debian_named='\(.*\) with \(LLVM\) \(.*\)'$/\1\n\2 version: \3/p" "$here/../debian_rust.sh" \
+        > "$room/name"
     cat > "$DEBIAN/12/usr/bin/rustc" << END
 #!/usr/bin/env bash
 set -eu
 case \$1 in
-    --version) exec cat "$room/name" ;;
-    -vV) exec echo 'LLVM version: 1' ;;
+    --version) exec head -n 1 "$room/name" ;;
+    -vV) exec cat "$room/name" ;;
+    --print) exec echo "$DEBIAN/12/usr" ;;
 esac
 [ ! -e "$room/fails" ] || { echo 'error: it fails' >&2 && exit 1; }
 while [ \$# -gt 0 ]; do
@@ -81,17 +83,21 @@ makes 1 "isn't what rustc makes" --check
 mv "$room/aarch64" "$made/aarch64"
 sed -i 's/^sources: .*/&\ncommit: 1/' "$made/PROVENANCE"
 makes 0 'is tested' --check
-sed -i 's/^/other /' "$room/name"
-makes 1 'rustc is other rustc 1.*, and not rustc 1'
-makes 1 'rustc is other rustc 1.*, and not rustc 1' --check
-sed -i 's/^other //' "$room/name"
+sed -i 's/1.85.0/1.85.1/' "$room/name"
+makes 1 'rustc is rustc 1.85.1 .*, and not rustc 1.85.0'
+makes 1 'rustc is rustc 1.85.1 .*, and not rustc 1.85.0' --check
+sed -i 's/1.85.1/1.85.0/' "$room/name"
 touch "$room/fails"
 makes 1 "rustc doesn't compile rust/c/src/lib.rs"
 rm "$room/fails"
-mkdir "$room/bin"
-printf '#!/bin/sh\necho no network >&2\nexit 100\n' > "$room/bin/apt-get"
-chmod +x "$room/bin/apt-get"
-DEBIAN=$room/none PATH=$room/bin:$PATH makes 1 "Debian's rustc .* isn't there"
+mv "$DEBIAN" "$room/installed"
+export DEBIAN_SOURCES=copy:$room/none
+makes 1 "isn't there"
+export RUSTC_1_85=$room/installed/12/usr/bin/rustc
+sed -i "s,$DEBIAN/12,$room/installed/12," "$RUSTC_1_85"
+makes 0 'is tested' --check
+makes 0 'ffi/lib/generated, after'
+grep -q '^rustc: .*, installed$' "$made/PROVENANCE" || stop "PROVENANCE doesn't say that rustc was installed"
 makes 1 'it takes --check' --again
 makes 0 'is tested' --check
 echo "generated: how files are made and compared, and what stops that"

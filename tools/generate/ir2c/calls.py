@@ -87,15 +87,16 @@ def of_overflow(given):
 
 INTRINSICS = {
     "memcpy": of_memory("copy"), "memmove": of_memory("move"), "memset": of_memory("fill"),
-    "lifetime.start": of_nothing, "lifetime.end": of_nothing, "assume": of_nothing, "trap": of_trap,
+    "lifetime.start": of_nothing, "lifetime.end": of_nothing, "trap": of_trap,
     "umin": of_two("{a} < {b} ? {a} : {b}"), "umax": of_two("{a} > {b} ? {a} : {b}"),
     "usub.sat": of_two("{a} > {b} ? {a} - {b} : 0u"), "bswap": of_order, "ctlz": of_zeros,
     "uadd.with.overflow": of_overflow,
+    "assume": None, "experimental.noalias.scope.decl": None,  # what holds may be left unsaid
 }
 
 
-# Functions that the C has otherwise.
-WORDS = {"@bcmp": "unlike", "@memcmp": "unlike"}
+# Functions that the C has otherwise. memcmp isn't one: its sign counts, and that of `unlike` doesn't.
+WORDS = {"@bcmp": "unlike"}
 
 
 def intrinsic(line, result, name, scope):
@@ -103,14 +104,14 @@ def intrinsic(line, result, name, scope):
     parts = name.split(".")[1:]
     while re.fullmatch(r"p0|i\d+", parts[-1]):
         parts.pop()
-    # What holds may be left unsaid.
-    if ".".join(parts) in ("assume", "experimental.noalias.scope.decl"):
-        line.at = len(line.tokens)
-        return
     if ".".join(parts) not in INTRINSICS:
         raise line.refused()
+    made = INTRINSICS[".".join(parts)]
+    if made is None:
+        line.at = len(line.tokens)
+        return
     line.take()
-    type_, expression = INTRINSICS[".".join(parts)](arguments(line, scope))
+    type_, expression = made(arguments(line, scope))
     if isinstance(type_, Void) != (result is None):
         raise line.refused()
     if result is None:

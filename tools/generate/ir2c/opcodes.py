@@ -106,7 +106,7 @@ def with_sign(line, source, target, value):
 
 
 def address(line, source, target, value):
-    """ptrtoint, ptrtoaddr."""
+    """ptrtoint."""
     if not isinstance(source, Pointer) or not isinstance(target, Integer):
         raise line.refused()
     return cut(target, f"(u64){value}")
@@ -269,7 +269,7 @@ OPCODES = {
     "urem": arithmetic("%"), "and": arithmetic("&"), "or": arithmetic("|"), "xor": arithmetic("^"),
     "shl": arithmetic("<<"), "lshr": arithmetic(">>"),
     "icmp": compare, "zext": convert(widened), "trunc": convert(narrowed), "sext": convert(with_sign),
-    "ptrtoint": convert(address), "ptrtoaddr": convert(address), "inttoptr": convert(pointer),
+    "ptrtoint": convert(address), "inttoptr": convert(pointer),
     "alloca": place, "load": load, "store": store, "getelementptr": offset,
     "extractvalue": field, "insertvalue": with_field, "select": choose, "freeze": same,
     "br": branch, "switch": switch, "ret": give_back, "unreachable": stop, "call": call,

@@ -76,7 +76,7 @@ def of_address(line, scope):
 
 def of_part(line, scope):
     """The address of a part of a constant, in an operand's brackets."""
-    line.skip({"inbounds", "nuw", "nusw"})
+    line.skip_flags({"inbounds", "nuw", "nusw"})
     line.expect("(", "i8", ",", "ptr")
     value = of_global(line.take(), Pointer(), scope)
     line.expect(",", "i64")
@@ -89,7 +89,7 @@ def of_sum(sign):
     """A number made of an address, in an operand's brackets."""
 
     def made(line, scope):
-        line.skip({"nuw", "nsw"})
+        line.skip_flags({"nuw", "nsw"})
         line.expect("(", "i64")
         left = operand(line, Integer(64), scope)
         line.expect(",", "i64")
@@ -102,7 +102,7 @@ def of_sum(sign):
 
 EXPRESSIONS = {
     "add": of_sum("+"), "sub": of_sum("-"), "xor": of_sum("^"),
-    "ptrtoaddr": of_address, "ptrtoint": of_address, "getelementptr": of_part,
+    "ptrtoint": of_address, "getelementptr": of_part,
 }
 WORDS = {
     "true": lambda *_: "1u",

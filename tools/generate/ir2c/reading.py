@@ -63,6 +63,11 @@ class Line:
             if self.peek() == "(":
                 self.skip_brackets()
 
+    def skip_flags(self, words):
+        """Takes all tokens that are next and among these. Brackets after them stay: those of operands."""
+        while self.peek() in words:
+            self.take()
+
     def skip_brackets(self):
         """Takes what stands in brackets."""
         self.expect("(")
