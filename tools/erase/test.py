@@ -1,6 +1,8 @@
 #!/usr/bin/env python3
-"""Tests erase.py by the crates and the page forms.txt, and compare.py by the mistakes of planted.txt."""
+"""Tests erase.py by the crates and the page forms.txt, compare.py by the mistakes of planted.txt, and by_hand.py by
+those of by_hand.txt."""
 import collections
+import contextlib
 import pathlib
 import re
 import shutil
@@ -13,6 +15,7 @@ HERE = pathlib.Path(__file__).resolve().parent
 sys.path.insert(0, str(HERE))
 sys.dont_write_bytecode = True
 
+import by_hand  # noqa: E402
 import compare  # noqa: E402
 import erase  # noqa: E402
 import forms  # noqa: E402
@@ -37,11 +40,23 @@ def place_of(file):
     return pathlib.Path(folder, file), crate
 
 
-def planted():
-    """The file, what is wrong, and the two texts of each mistake."""
-    for line in (HERE / "planted.txt").read_text(encoding="utf-8").splitlines():
+def planted(page):
+    """The file, what is wrong, and the two texts of each mistake of the page."""
+    for line in (HERE / page).read_text(encoding="utf-8").splitlines():
         if not line.startswith("#"):
             yield [it.strip() for it in line.split("|")]
+
+
+@contextlib.contextmanager
+def changed(path, old, new):
+    """The file has the new text in place of the old one, or at its end."""
+    text = path.read_text(encoding="utf-8")
+    assert text.count(old) == 1 or not old, f"{old!r} in {path}"
+    path.write_text(text.replace(old, new) if old else text + new, encoding="utf-8")
+    try:
+        yield
+    finally:
+        path.write_text(text, encoding="utf-8")
 
 
 def first_difference(source, made):
@@ -115,6 +130,7 @@ class Planted(unittest.TestCase):
         self.folder = pathlib.Path(self.room.name)
         shutil.copytree(erase.TOP / "rust/src", self.folder / "src")
         shutil.copytree(erase.TOP / "rust/c/src", self.folder / "c/src")
+        shutil.copytree(erase.TOP / "rust/tool/src", self.folder / "tool/src")
 
     def messages_of(self, file):
         """What compare.py says, of this file alone if it is made of a source."""
@@ -127,20 +143,24 @@ class Planted(unittest.TestCase):
 
     def test_all_is_alike_before(self):
         self.assertEqual(run_compare(self.folder)[0], 0)
+        self.assertEqual(list(by_hand.messages(self.folder)), [])
 
-    def test_each_mistake_is_named(self):
-        mistakes = list(planted())
-        self.assertGreaterEqual(len(mistakes), 20)
+    def check_named(self, page, place, messages):
+        """Each mistake of the page has one message, which names its file."""
+        mistakes = list(planted(page))
+        self.assertGreaterEqual(len(mistakes), 15)
         for file, what, old, new in mistakes:
-            with self.subTest(what):
-                path = self.folder / place_of(file)[0]
-                text = path.read_text(encoding="utf-8")
-                self.assertEqual(text.count(old) if old else 1, 1, f"{old!r} in {file}")
-                path.write_text(text.replace(old, new) if old else text + new, encoding="utf-8")
-                named = list(self.messages_of(file))
+            path = self.folder / place(file)
+            with self.subTest(what), changed(path, old, new):
+                named = list(messages(file))
                 self.assertEqual(len(named), 1)
                 self.assertIn(str(path), named[0])
-                path.write_text(text, encoding="utf-8")
+
+    def test_each_mistake_is_named(self):
+        self.check_named("planted.txt", lambda file: place_of(file)[0], self.messages_of)
+
+    def test_each_mistake_by_hand_is_named(self):
+        self.check_named("by_hand.txt", pathlib.Path, lambda _: by_hand.messages(self.folder))
 
     def test_files_that_are_missing_or_too_many_are_named(self):
         proved = self.folder / "src/proved"
