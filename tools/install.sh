@@ -2,7 +2,7 @@
 # Installs the packages of Debian that the gate needs and that aren't there: as root, without a question. What it prints is
 # shown only if it fails. Somebody else is told what is missing.
 set -eu
-packages='make gcc g++ clang binutils perl python3 pkg-config openssl openssh-client valgrind strace cmake meson qemu-user shellcheck
+packages='make gcc g++ clang binutils perl python3 pkg-config openssl openssh-client valgrind strace acl cmake meson qemu-user shellcheck
     gcc-aarch64-linux-gnu gcc-riscv64-linux-gnu gcc-i686-linux-gnu gcc-s390x-linux-gnu gcc-mips-linux-gnu
     gcc-arm-linux-gnueabihf libc6-dev-arm64-cross libc6-dev-riscv64-cross libc6-dev-i386-cross libc6-dev-s390x-cross
     libc6-dev-mips-cross libc6-dev-armhf-cross libclang-rt-14-dev llvm musl-tools frama-c-base why3 z3 cvc4 nodejs

@@ -54,6 +54,8 @@ def of_rust(said):
     """What rustc took in of Rust's own libraries, and what compiled all."""
     version = said["rustc"].split()[0]
     debian = re.search(r"Debian's (\S+) (\S+)$", said["rustc"])
+    if not debian:
+        sys.exit("tools/sbom.py: ffi/lib/generated isn't made by Debian's rustc: tools/generate.sh without RUSTC_1_85")
     purl = f"pkg:deb/debian/{debian[1]}@{debian[2].replace('+', '%2B')}?arch=source"
     hashed = [{"algorithm": "SHA256", "checksumValue": said["driver"].split()[1]}]
     yield package("core", version, "rust-lang:rust", "in the library and in the tool, what they use of it",
