@@ -3,10 +3,11 @@
 #
 #     rust/check.sh [PART]..     these parts, or all:
 #
-#     erase            src/proved is what crates/ gives, token for token; the tests of tools/erase
+#     erase            src/proved is what crates/ gives, token for token, and no code by hand changes what it means;
+#                      the tests of tools/erase
 #     crate            with each feature, without a warning: its tests, clippy, documentation, layout and package;
 #                      clippy and layout of the tool over the C library
-#     preconditions    no function with a `requires` is reached from outside
+#     preconditions    no function with a `requires` is reached from outside; calls of one by hand are known
 #     rows             the worked rows, the tests in Rattle and the tool, erased
 #     beside           COUNT inputs by chance, beside the library that rt compiles, the other compiler of the same proof:
 #                      ffi/proof/build.sh --library leaves it. Where it isn't, beside the one that make builds, and a
@@ -46,6 +47,7 @@ quietly() {
 erase() {
     tools/erase/erase.py --check
     tools/erase/compare.py
+    tools/erase/by_hand.py
     quietly tools/erase/test.py tools/erase/test.py
     grep '^Ran' "$OUT/log"
 }
@@ -98,22 +100,33 @@ beside_another() {
     cargo check --offline --manifest-path "$folder/Cargo.toml"
 }
 
-# planted COMMAND: with lib.rs changed by it, preconditions.py says that something can be reached.
+# planted FILE COMMAND MESSAGE: with this file of src changed by the command, preconditions.py says so.
 planted() {
     rm -rf "$OUT/planted"
     mkdir -p "$OUT/planted"
     cp -r rust/src "$OUT/planted"
-    sed -i "$1" "$OUT/planted/src/lib.rs"
-    ! rust/preconditions.py "$OUT/planted" > "$OUT/log" || stop "preconditions.py doesn't notice $1"
+    sed -i "$2" "$OUT/planted/src/$1"
+    ! rust/preconditions.py "$OUT/planted" > "$OUT/log" || stop "preconditions.py doesn't notice $2 in $1"
+    grep -qF "$3" "$OUT/log" || { cat "$OUT/log" >&2 && stop "preconditions.py doesn't say $3 of $2 in $1"; }
 }
 # shellcheck disable=SC2016 # $ is the last line, to sed
 preconditions() {
     rust/preconditions.py
-    planted 's/^mod proved/pub mod proved/'
-    planted '$a pub use proved::spki_core::written_default;'
-    planted '$a pub use proved::der_core::{EncodeValue, Uint as U};'
-    planted '$a pub use proved::der_core::*;'
-    planted '$a pub trait Reached: proved::der_core::EncodeValue {}'
+    planted lib.rs 's/^mod proved/pub mod proved/' 'proved can be reached'
+    planted lib.rs '$a pub use proved::spki_core::written_default;' 'written_default has a'
+    planted lib.rs '$a pub use proved::der_core::{EncodeValue, Uint as U};' 'append_value has a'
+    planted lib.rs '$a pub use proved::der_core::*;' 'names all of a module'
+    planted lib.rs '$a pub trait Reached: proved::der_core::EncodeValue {}' 'a trait is below'
+    planted param_calls.rs '/if mask >> view/,/}$/d' 'calls encode_spelling_into,'
+    planted param_calls.rs 's/(&view).encode_spelling_into/view.encode_spelling/' 'calls encode_spelling,'
+    planted idioms.rs 's/if number > 30/if number > 31/' 'calls new,'
+    planted idioms.rs '$a fn more() -> Length { Length::of(1 << 40) }' 'calls of,'
+    planted idioms.rs '$a type Count = Length; const MORE: fn(usize) -> Count = Count::of;' 'calls of,'
+    planted idioms.rs '$a impl From<u8> for Length { fn from(it: u8) -> Length { Self::of(1 << it) } }' 'calls of,'
+    planted idioms.rs '$a use crate::proved::spki_core::written_default as default;' 'calls written_default,'
+    planted values.rs '$a fn more(it: impl der_core::EncodeValue) { it.append_value(todo!()) }' 'calls append_value,'
+    planted identifier.rs '$a fn more() { proved::ObjectIdentifier::new(&[]); }' 'calls new,'
+    planted conversions.rs 's/Length::of(self.as_bytes().len())/self.len()/' 'is 0 calls'
 }
 
 # vectors WORD..: builds the program of the worked rows, by these words for cargo.
@@ -134,12 +147,12 @@ rows() {
     grep 'test result' "$OUT/log"
     cargo build --manifest-path $crate --release --bin pkcs1_tool
     # A closed standard input or output is an empty one for Rust's standard library. Where no other user can run the
-    # tool, what they may not do isn't tried.
+    # tool, what they may not do isn't tried, nor are access lists where there are none.
     local count closed=': no standard (in|out)put: status 0, not 1; standard error: ; output: $'
     count=$(crates/pkcs1_tool/all_rows.sh | wc -l)
     PROGRAMS=$CARGO_TARGET_DIR/release/pkcs1_tool crates/pkcs1_tool/run_built.sh > "$OUT/log" || true
-    grep -vE "$closed|isn't tried: no other user" "$OUT/log" > "$OUT/left"
-    { tail -n 1 "$OUT/left" | grep -qxE "($((count + 74))|$((count + 76))) passed, 2 failed" &&
+    grep -vE "$closed|isn't tried: no other user|access lists aren't tried" "$OUT/log" > "$OUT/left"
+    { tail -n 1 "$OUT/left" | grep -qxE "($((count + 79))|$((count + 82))|$((count + 85))) passed, 2 failed" &&
         [ "$(wc -l < "$OUT/left")" = 2 ]; } || { cat "$OUT/log" >&2 && stop "the tool fails"; }
     echo "rows: $(cat crates/pkcs1_vectors/stdout), and the tool does all but for closed streams"
 }

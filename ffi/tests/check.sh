@@ -1,8 +1,8 @@
 #!/bin/sh
-# check.sh OUT [PART]: tests what make left in this folder: what a linker, a loader and a debugger ask of it, the C test
-# over the static and the shared library, a program without a C library, and the tool. Where there is no ELF it is the C
-# test alone, for Windows over the DLL too. PART is one of the functions here: `shared`, `objects` or `freestanding`. CC,
-# CFLAGS, NM, READELF and RUN are as in the Makefile, which calls this.
+# check.sh OUT [PART]: tests what make left in this folder: what a linker, a loader and a debugger ask of it, the tests in
+# C over the static and the shared library, a program without a C library, and the tool. Where there is no ELF it is the
+# tests in C alone, for Windows over the DLL too. PART is one of the functions here: `shared`, `objects` or
+# `freestanding`. CC, CFLAGS, NM, READELF and RUN are as in the Makefile, which calls this.
 set -eu
 unset CDPATH
 # No test runs forever.
@@ -13,8 +13,7 @@ cd "$(dirname "$0")/../.."
 export LC_ALL=C
 CC=${CC:-cc} nm=${NM:-nm} readelf=${READELF:-readelf}
 tests=$out/tests
-sources='ffi/tests/test.c ffi/tests/rows.c ffi/tests/large.c'
-sources="$sources ffi/tests/fuzz/reference.c ffi/tests/fuzz/elements.c ffi/tests/fuzz/compare.c"
+helpers='ffi/tests/rows.c ffi/tests/fuzz/reference.c ffi/tests/fuzz/elements.c ffi/tests/fuzz/compare.c'
 mkdir -p "$tests"
 : > "$tests/none"
 # Where qemu, of which RUN may be one, finds the C library of the other machine.
@@ -32,23 +31,38 @@ compile() {
     # shellcheck disable=SC2086 # words
     $CC ${CFLAGS-} -fno-lto -std=c99 -Iffi/lib/include "$@"
 }
+# link NAME WORD..: a program in C of these words, with what the tests share.
+link() {
+    name=$1
+    shift
+    # shellcheck disable=SC2086 # words
+    $CC ${CFLAGS-} -std=c99 -Iffi/lib/include $helpers "$@" -o "$tests/$name"
+}
 # c_test NAME WORD..: the C test with the library that these words name.
 c_test() {
     name=$1
     shift
-    # shellcheck disable=SC2086 # words
-    $CC ${CFLAGS-} -std=c99 -Iffi/lib/include $sources "$@" -o "$tests/$name"
+    link "$name" ffi/tests/test.c ffi/tests/large.c "$@"
     ${RUN-} "$tests/$name" crates/pkcs1_vectors/stdin
+}
+# tables [END]: the tests in C that try all of a table, with the static library. The names of programs end so.
+tables() {
+    for test in lengths states; do
+        link "$test${1-}" "ffi/tests/$test.c" "$out/libpkcs1.a"
+        ${RUN-} "$tests/$test${1-}"
+    done
 }
 # windows and archive: the C test with what was built for these.
 windows() {
     cp "$out"/libpkcs1-*.dll "$tests"
     c_test static.exe "$out/libpkcs1.a"
     c_test shared.exe "$out/libpkcs1.dll.a"
+    tables .exe
     say "the C test, with the static library and the DLL"
 }
 archive() {
     c_test static "$out/libpkcs1.a"
+    tables
     say "the C test, with the static library"
 }
 # The library keeps nothing between calls. It asks for four functions of C alone, and for what a compiler calls by
@@ -68,10 +82,15 @@ asks_for_little() {
         sort -u | grep -vxE "mem(cpy|move|set|cmp)|bcmp|$own" | paste -s -d ' ')
     [ -z "$asked" ] || stop "the library asks for $asked"
 }
-# hardened PROGRAM: the addresses of calls can't be written over.
+# hardened PROGRAM: the addresses of calls can't be written over, and the stack can't be run.
 hardened() {
     { $readelf -lW "$1" | grep -q GNU_RELRO && $readelf -dW "$1" | grep -qwE 'BIND_NOW|NOW'; } ||
         stop "in $1 the addresses of calls can be written over"
+    # shellcheck disable=SC2086 # words
+    case $($CC ${CFLAGS-} -dumpmachine):$($readelf -lW "$1" | awk '$1 == "GNU_STACK" { print $7 }') in
+        *:RW | mips*) ;; # on MIPS the C library's own files ask for it
+        *) stop "the stack of $1 may be run" ;;
+    esac
 }
 # What a loader asks of libpkcs1.so: its name, what it exports, with its version, and what can't be replaced in it.
 shared() {
@@ -114,7 +133,28 @@ both() {
         *) c_test static "$tests/clash.c" "$out/libpkcs1.a" ;;
     esac
     c_test shared "$tests/clash.c" "-L$out" -lpkcs1 "-Wl,-rpath,$out"
+    tables
     say "the C test, with the static and the shared library"
+}
+# Whether programs have the C library whose calls for memory valgrind and what is preloaded take over.
+has_glibc() {
+    # shellcheck disable=SC2086 # words
+    case "$CC ${CFLAGS-}" in *-fsanitize=*) return 1 ;; esac
+    echo "#include <features.h>" | $CC -E -dM - 2> "$tests/log" | grep -q __GLIBC__
+}
+# No call reads what stands after a false flag, where states.c has set nothing.
+unset_is_unread() {
+    status=0
+    has_glibc || {
+        say "this C library isn't known to valgrind: whether a call reads what was never set isn't looked at"
+        return
+    }
+    valgrind --quiet --error-exitcode=9 "$tests/states" > "$tests/log" 2>&1 || status=$?
+    case $status in
+        0) say "valgrind sees no call that reads what was never set" ;;
+        9) cat "$tests/log" >&2 && stop "a call reads what was never set" ;;
+        *) say "there is no valgrind for this program: whether a call reads what was never set isn't looked at" ;;
+    esac
 }
 # size CALL MOST: a program that makes this call alone has so many octets at most, with what a debugger needs.
 size() {
@@ -145,19 +185,40 @@ tool() {
         printf '#!/bin/sh\nexec %s "%s" "$@"\n' "$RUN" "$out/pkcs1_tool" > "$program"
         chmod +x "$program"
     fi
-    PROGRAMS=$program EMULATED=${RUN-} crates/pkcs1_tool/run_built.sh
+    PROGRAMS=$program EMULATED=${RUN-} BY_MAKE=yes crates/pkcs1_tool/run_built.sh
     [ -n "${RUN-}" ] || memory
 }
 # The tool with each of its requests for memory refused, by functions that are preloaded, and watched by valgrind.
 memory() {
-    case "$CC ${CFLAGS-}" in *-fsanitize=*) libc=none ;; *) libc=$(echo '#include <features.h>' | $CC -E -dM - || true) ;; esac
-    case $libc in
-        *__GLIBC__*)
-            PROGRAMS=$program crates/pkcs1_tool/refuse_memory.sh
-            watched
-            ;;
-        *) say "malloc is a sanitizer's, or not glibc's: none of the tool's requests for memory is refused or watched" ;;
-    esac
+    if has_glibc; then
+        PROGRAMS=$program crates/pkcs1_tool/refuse_memory.sh
+        watched
+        interrupted
+    else
+        say "malloc is a sanitizer's, or not glibc's: none of the tool's calls is refused, watched or interrupted"
+    fi
+}
+# preloaded WORD..: the tool with interrupt.so, in its folder, as LD_PRELOAD takes a space for an end.
+preloaded() {
+    (cd "$tests" && LD_PRELOAD=./interrupt.so "$program" "$@" 9> calls)
+}
+# What a signal interrupts the tool does again, and goes on where it did a part.
+interrupted() {
+    # shellcheck disable=SC2086 # words
+    $CC -shared -fPIC -O1 -Wall -Wextra -Werror ffi/tests/interrupt.c -ldl -o "$tests/interrupt.so"
+    key=$PWD/ffi/tests/keys/pub3.der
+    : > "$tests/copied"
+    chmod 664 "$tests/copied" # which fchmod gives to the new file
+    preloaded copy pub "$key" copied ||
+        stop "the tool doesn't copy where calls are interrupted"
+    cmp "$key" "$tests/copied"
+    [ "$(stat -c %a "$tests/copied")" = 664 ] || stop "rights aren't kept where calls are interrupted"
+    [ "$(sort -u "$tests/calls" | paste -s -d ' ')" = 'fchmod fsync open read write' ] ||
+        stop "other calls are interrupted than the tool makes: $(sort -u "$tests/calls" | paste -s -d ' ')"
+    preloaded < crates/pkcs1_tool/stdin > "$tests/printed" ||
+        stop "the tool doesn't answer where calls are interrupted"
+    cmp crates/pkcs1_tool/stdout "$tests/printed"
+    say "the tool does again what a signal interrupts"
 }
 # watch ARGUMENT..: valgrind sees no wrong address in the tool, and no memory that isn't given back.
 watch() {
@@ -187,6 +248,7 @@ case ${2-}:$machine in
         ffi/tests/check_abi.sh
         objects
         both
+        [ -n "${RUN-}" ] || unset_is_unread
         freestanding
         [ ! -x "$out/pkcs1_tool" ] || tool
         ;;

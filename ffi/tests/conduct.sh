@@ -1,8 +1,9 @@
 #!/usr/bin/env bash
 # Tests what pkcs1.h says that the calls do besides, of the assembly and of the generated C, as make builds them with
 # gcc: secret octets of a private key don't change the path of a call, and stay nowhere but in `out`; a call takes no
-# more stack than is said; nothing is kept between calls, and nothing allocated. Then mistakes are planted in copies of
-# pkcs1.c, and each must be noticed. It needs make, gcc, binutils, python3 and valgrind, on x86-64.
+# more stack than is said; nothing is kept between calls, and nothing allocated; what stands after a false flag isn't
+# read. Then mistakes are planted in copies of pkcs1.c, and each must be noticed. It needs make, gcc, binutils, python3 and
+# valgrind, on x86-64.
 set -eu
 cd "$(dirname "$0")/../.."
 . tools/shell.sh
@@ -60,6 +61,10 @@ stack_suffices_in_tests() {
 keeps_nothing() {
     ffi/tests/check.sh "$1" objects
 }
+states_hold() {
+    link "$1" states "$room"/{states,rows,reference,elements,compare}.o &&
+        valgrind --quiet --error-exitcode=9 "$1/states"
+}
 
 # notices TEST TEXT WHERE MISTAKE: with the mistake planted behind each such line of pkcs1.c, the test prints this text.
 notices() {
@@ -75,7 +80,7 @@ notices() {
     grep -qE "$2" "$room/log" || stop "$1 notices $4 otherwise: $(cat "$room/log")"
 }
 
-for name in painted secrets stack test rows large fuzz/{reference,elements,compare}; do
+for name in painted secrets stack states test rows large fuzz/{reference,elements,compare}; do
     # shellcheck disable=SC2086
     gcc $warned -O1 -g -c "ffi/tests/$name.c" -o "$room/${name#*/}.o"
 done
@@ -91,7 +96,8 @@ holds() {
 }
 for code in assembly c; do
     make --silent OUT="$room/$code" CODE=$code "$room/$code/libpkcs1.a"
-    holds $code path_is_public first_octets_are_alike leaves_nothing stack_suffices{,_in_tests} keeps_nothing
+    holds $code path_is_public first_octets_are_alike leaves_nothing stack_suffices{,_in_tests} keeps_nothing \
+        states_hold
 done
 if have i686-linux-gnu-gcc "the stack on i386 isn't looked at"; then
     make --silent OUT="$room/i386" CC=i686-linux-gnu-gcc "$room/i386/libpkcs1.a"
@@ -121,4 +127,9 @@ notices stack_suffices 'comes back' "$on_read" \
 notices keeps_nothing 'share data' "$on_read" 'static volatile size_t calls; calls++;'
 notices keeps_nothing 'asks for malloc' "$on_read" \
     'extern void *malloc(size_t); void *volatile taken = malloc(9); (void)taken;'
-echo "conduct: path, traces and stack of the calls, in assembly and C, and what they keep"
+notices states_hold 'pkcs1_pss_is' \
+    'if (oid->data != NULL && is_whole_algorithm(hash) && is_whole_mask_gen(mask_gen))' \
+    'return pkcs1_c_algorithm_is(hash, oid); else if (false)'
+notices states_hold 'jump .* uninit' 'struct pkcs1_mask_gen made = NO_MASK_GEN;' \
+    'made.hash = copy_algorithm(&given->hash);'
+echo "conduct: path, traces and stack of the calls, in assembly and C, what they keep, and what they don't read"

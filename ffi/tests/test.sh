@@ -46,6 +46,10 @@ for compiler in $clang "$CC"; do
         "$compiler" -std=c99 "${flags[@]}" "$source" "$out/libpkcs1.a" -o "$room/$(basename "$source" .c)"
     done
     "$room/test" "$rows"
+    for name in lengths states; do
+        "$compiler" -std=c99 "${flags[@]}" "$here"/{$name,rows}.c "${second[@]}" "$out/libpkcs1.a" -o "$room/$name"
+        "$room/$name"
+    done
     "$room/many_keys" 2000 > "$room/log"
 done
 "$CC" -std=c11 "${flags[@]}" -fsanitize=address,undefined -fno-sanitize-recover=all "${test[@]}" "$ffi/lib/pkcs1.c" \

@@ -140,7 +140,7 @@ macro_rules! octets {
 octets! { UintRef<'_> Uint OctetStringRef<'_> ObjectIdentifier ObjectIdentifierRef<'_> }
 
 macro_rules! lengths {
-    ($($name:ty)*) => { $(
+    ($($name:ty;)*) => { $(
         impl $name {
             /// How many bytes there are, at least one.
             #[must_use]
@@ -156,4 +156,4 @@ macro_rules! lengths {
         }
     )* };
 }
-lengths! { UintRef<'_> Uint }
+lengths! { UintRef<'_>; Uint; }

@@ -2,7 +2,7 @@
 
 use crate::algorithm::AlgorithmIdentifier;
 use crate::der::asn1::{Any, AnyRef, ObjectIdentifierRef};
-use crate::der::{self, Encode, decoded, from_slices};
+use crate::der::{self, Encode, Tag, decoded, from_slices};
 use crate::identifier::{AssociatedOid, Identifier, OfIdentifier};
 use crate::keys::asn1;
 use crate::named::{RsaesOaep, RsassaPss};
@@ -128,11 +128,18 @@ macro_rules! parameters {
             }
 
             /// Writes one spelling to the front of the slice, and returns that part. Bit j of the mask says whether the
-            /// j-th of the fields that equal their defaults is written. Mask 0 gives the shortest encoding.
+            /// j-th of the fields that equal their defaults is written. Mask 0 gives the shortest encoding. On an error
+            /// the slice is as it was.
             /// # Errors
-            /// `Overflow`, or `NoRoom` if the slice is too short.
+            /// `Value` of SEQUENCE if the mask isn't below two to the number of these fields, `Overflow`, or `NoRoom` if
+            /// the slice is too short.
             pub fn encode_spelling<'o>(&self, mask: u8, out: &'o mut [u8]) -> Result<&'o [u8]> {
-                (&self.view()).encode_spelling_to_slice(mask, out)
+                let view = self.view();
+                if mask >> view.default_fields() != 0 {
+                    return Err(der::Error::new(der::ErrorKind::Value { tag: Tag::SEQUENCE }).into());
+                }
+                let length = (&view).encode_spelling_into(mask, out)?;
+                Ok(&out[..length])
             }
 
             /// All spellings, each at the index that is its mask: two to the number of default fields.

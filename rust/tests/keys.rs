@@ -49,7 +49,12 @@ fn a_view_has_any_number_of_primes() {
     for others in [1, 3, 9, 40] {
         let der = made::private_key(others);
         let key = RsaPrivateKeyView::from_der(&der).unwrap();
-        assert_eq!((key.version(), key.other_primes().remaining()), (Version::Multi, others));
+        assert_eq!(key.version(), Version::Multi);
+        let mut primes = key.other_primes();
+        for left in (0..=others).rev() {
+            assert_eq!((primes.remaining(), primes.len(), primes.size_hint()), (left, left, (left, Some(left))));
+            assert_eq!(primes.next().is_some(), left > 0);
+        }
         let container = made::container(&der, None);
         let key = PrivateKeyInfoRef::from_der(&container).unwrap().rsa_view().unwrap();
         assert_eq!((key.as_bytes(), key.other_primes().count()), (&der[..], others));

@@ -3,7 +3,8 @@
 
 mod made;
 
-use pkcs1_proved::der::{Decode, Encode, ErrorKind};
+use pkcs1_proved::der::asn1::{Any, Uint};
+use pkcs1_proved::der::{Decode, Document, Encode, ErrorKind, Tag};
 use pkcs1_proved::pkcs8::PrivateKeyInfoRef;
 use pkcs1_proved::{
     DecodeRsaPrivateKey, EncodeRsaPrivateKey, Error, RsaOaepParamsOwned, RsaOaepParamsRef, RsaPrivateKeyOwned,
@@ -96,4 +97,38 @@ fn what_owns_takes_some() {
     assert_eq!(requests(|| RsaPssParamsRef::default().to_algorithm_der()), 1);
     // The list of them grows to 4, 8 and 16, and is made again of the lists of std.
     assert_eq!(requests(|| RsaPssParamsRef::default().spellings()), 16 + 3 + 1);
+}
+
+/// Memory doesn't run out while there is some: what takes it gives the whole of a value of more than 1 MiB.
+#[test]
+fn long_values_are_copied() {
+    let octets = vec![0x11; 1 << 20];
+    let number = Uint::new(&octets).unwrap();
+    assert_eq!((number.as_bytes(), number.try_clone().unwrap()), (&octets[..], Uint::new(&octets).unwrap()));
+    let any = Any::new(Tag::OCTET_STRING, &octets).unwrap();
+    assert_eq!((any.value(), any.try_clone().unwrap().value()), (&octets[..], &octets[..]));
+    let params = RsaOaepParamsRef::new_with_label::<Sha256>(&octets);
+    let owned = RsaOaepParamsOwned::try_from(params).unwrap();
+    assert_eq!((owned.label(), owned.try_clone().unwrap().label()), (params.label(), params.label()));
+    let der = params.to_der().unwrap();
+    assert_eq!(RsaOaepParamsRef::try_from(&der[..]).unwrap(), params);
+    let algorithm = params.to_algorithm_der().unwrap();
+    assert_eq!(RsaOaepParamsRef::from_algorithm_der(&algorithm).unwrap(), params);
+    let of_sha_1 = RsaOaepParamsRef { p_source: params.p_source, ..RsaOaepParamsRef::default() };
+    let spellings = of_sha_1.spellings().unwrap();
+    assert!(spellings.len() == 4 && spellings.iter().all(|it| RsaOaepParamsRef::try_from(&it[..]) == Ok(of_sha_1)));
+}
+
+#[test]
+fn long_keys_are_copied_and_written() {
+    let numbers = |count| vec![made::number(1 << 20, 0x11); count];
+    let der = made::sequence(&numbers(2));
+    let key = RsaPublicKeyRef::try_from(&der[..]).unwrap();
+    assert_eq!(RsaPublicKeyOwned::try_from(key).unwrap().try_clone().unwrap().to_der().unwrap(), der);
+    assert_eq!(Document::from_der(&der).unwrap().try_clone().unwrap().as_bytes(), der);
+    assert_eq!(Document::try_from(&key).unwrap().to_vec(), der);
+    let der = made::sequence(&[&[made::tlv(2, &[0])], &numbers(8)[..]].concat());
+    let key = RsaPrivateKeyOwned::from_pkcs1_der(&der).unwrap();
+    assert_eq!(key.try_clone().unwrap().to_pkcs1_der().unwrap().as_bytes(), der);
+    assert_eq!(key.to_pkcs8_der().unwrap().as_bytes(), made::container(&der, None));
 }
