@@ -160,8 +160,7 @@ fn read_encoding<'a, T: DecodeValue<&'a [u8], M> + FixedTag, M: Memory, R: Reade
     ensures { let may = Tlv T.TAG.octet T.DecodeValue.may_allocate in
         ReadsFront T.value (tagged T.TAG T.read) may result (R.left reader.old) (R.left reader.new) }
 {
-    let tag = T::TAG;
-    let header = Header::decode_likely(reader, tag)?;
+    let header = Header::decode(reader)?;
     if header.tag != T::TAG {
         return Err(reader.error(ErrorKind::TagUnexpected {
             expected: T::TAG,

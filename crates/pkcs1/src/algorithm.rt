@@ -29,14 +29,6 @@ impl AssociatedOid for RsaEncryption {
     fn octets() -> &'static [u8] {
         Self::OID
     }
-
-    #[inline(always)]
-    fn padded() -> [u8; 39] {
-        [
-            0x2a, 0x86, 0x48, 0x86, 0xf7, 0x0d, 0x01, 0x01, 0x01, 0, 0, 0, 0, 0, 0, 0, 0, 0, 0, 0,
-            0, 0, 0, 0, 0, 0, 0, 0, 0, 0, 0, 0, 0, 0, 0, 0, 0, 0, 0,
-        ]
-    }
 }
 
 /// The object identifier rsaEncryption.

@@ -28,24 +28,13 @@ pub struct OtherPrimes<'a> {
     ghost held: { HoldsPrimes bytes.now left } by { HoldsPrimes-prop bytes.now left },
 }
 
-/// `NoMemory` under another name: the decoder that `count_others` calls is then compiled for it alone, and inlined.
-#[derive(Clone, Copy, Drop)]
-struct Counting;
-
-impl Memory for Counting {
-    ghost gives = { ⊥ };
-}
-
 /// Decodes the next other prime.
 #[inline(always)]
-fn read_other<'a, M: Memory>(
-    memory: M,
-    reader: &mut SliceReader<'a>,
-) -> Result<OtherPrimeInfo<UintRef<'a>>>
+fn read_other<'a>(reader: &mut SliceReader<'a>) -> Result<OtherPrimeInfo<UintRef<'a>>>
     ensures { let value = ⟦<OtherPrimeInfo<UintRef<'static>> as Contents>⟧.value in
         ReadsFront value next_prime (λ _. ⊥) result (left_of reader.old) (left_of reader.new) }
 {
-    let other = OtherPrimeInfo::decode(memory, reader)?;
+    let other = OtherPrimeInfo::decode(NoMemory, reader)?;
     Ok(other)
 }
 
@@ -88,7 +77,7 @@ fn first_other<'a>(bytes: &'a [u8]) -> Result<(OtherPrimeInfo<UintRef<'a>>, &'a 
         return Ok(split);
     }
     let mut reader = SliceReader::new(bytes)?;
-    let other = read_other(NoMemory, &mut reader)?;
+    let other = read_other(&mut reader)?;
     let rest = reader.read_slice(reader.remaining_len())?;
     Ok((other, rest))
 }
@@ -111,7 +100,7 @@ fn count_others(bytes: &[u8]) -> Result<usize>
     let mut reader = SliceReader::new(bytes)?;
     let mut count = 0;
     while reader.peek_octet().is_some() {
-        let _other = read_other(Counting, &mut reader)?;
+        let _other = read_other(&mut reader)?;
         count += 1;
     }
     Ok(count)

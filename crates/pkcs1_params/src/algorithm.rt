@@ -72,10 +72,7 @@ fn from_identifier<'a, O: IdentifierValue, T: AlgorithmParams<'a>>(
         AnswersAsn1 T.params (identified T.Oid.contents (record_read T.form) a) result }
 {
     let any = parameters_of::<O, T>(algorithm)?;
-    match quick_parameters(&any, false) {
-        Some(params) => Ok(params),
-        None => T::read_any(any),
-    }
+    T::read_any(any)
 }
 
 /// The parameters in a whole slice that is an algorithm identifier, unless a default is written in them.
@@ -85,7 +82,7 @@ fn from_identifier_strict<'a, T: AlgorithmParams<'a>>(bytes: &'a [u8]) -> Result
 {
     let algorithm = AlgorithmView::from_der(NoMemory, bytes)?;
     let any = parameters_of::<IdentifierView<'a>, T>(&algorithm)?;
-    if let Some(params) = quick_parameters::<T>(&any, true) {
+    if let Some(params) = quick_parameters::<T>(&any) {
         return Ok(params);
     }
     let params = T::read_any(any)?;

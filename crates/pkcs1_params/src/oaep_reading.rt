@@ -1,5 +1,5 @@
-//! What `reading.rt` calls of RSAES-OAEP parameters: octets that are known, in `usual.rt`; fields that are read
-//! quickly, in `quick.rt`; each field by `read_field` of `spki_core`; and defaults that are written, in `strict.rt`.
+//! What `reading.rt` calls of RSAES-OAEP parameters: fields that are read quickly, in `quick.rt`; each field by `read_field` of
+//! `spki_core`; and defaults that are written, in `strict.rt`.
 ghost use Rattle.der_core.specs.Words.{nothing_asked};
 ghost use Rattle.pkcs1_params.specs.Words.{OaepParameters, oaep_in, oaep_record};
 ghost use Rattle.spki_core.specs.Words.{any_of};
@@ -15,7 +15,6 @@ use crate::oaep_algorithm::RsaesOaep;
 use crate::quick::quick_oaep;
 use crate::reading::AlgorithmParams;
 use crate::strict;
-use crate::usual::usual_oaep;
 use der_core::{
     DecodeValue, Header, Memory, NoMemory, Reader, Tag, TagNumber, quick_short, read_borrowed,
 };
@@ -33,15 +32,6 @@ impl<'a, O: ReadParams<'a>> AlgorithmParams<'a> for OaepParamsOf<O, AnyRef<'a>> 
     ghost fields_of = { oaep_fields };
 
     ghost form = { oaep_record };
-
-    #[inline(always)]
-    fn usual(contents: &'a [u8], strict: bool) -> Option<OaepParamsOf<O, AnyRef<'a>>> {
-        if contents.is_empty() {
-            return Some(OaepParamsOf::default());
-        }
-        let view = usual_oaep(contents)?; // in which no default can be written, so they are strict
-        Some(O::oaep_from_view(view))
-    }
 
     fn quick_strictly(contents: &'a [u8]) -> Option<OaepParamsOf<O, AnyRef<'a>>> {
         let view = quick_oaep(contents, true)?;

@@ -1,5 +1,5 @@
-//! What `reading.rt` calls of RSASSA-PSS parameters: octets that are known, in `usual.rt`; fields that are read
-//! quickly, in `quick.rt`; each field by `read_field` of `spki_core`; and defaults that are written, in `strict.rt`.
+//! What `reading.rt` calls of RSASSA-PSS parameters: fields that are read quickly, in `quick.rt`; each field by `read_field` of
+//! `spki_core`; and defaults that are written, in `strict.rt`.
 ghost use Rattle.der_core.specs.Words.{nothing_asked};
 ghost use Rattle.pkcs1_params.specs.Words.{PssParameters, pss_in, pss_record};
 ghost use Rattle.spki_core.specs.Words.{any_of};
@@ -15,7 +15,6 @@ use crate::quick::quick_pss;
 use crate::reading::AlgorithmParams;
 use crate::strict;
 use crate::trailer_field::TrailerField;
-use crate::usual::{accept_salt, usual_pss, usual_salt};
 use der_core::{
     DecodeValue, Header, Memory, NoMemory, Reader, Tag, TagNumber, quick_short, read_borrowed,
 };
@@ -33,20 +32,6 @@ impl<'a, O: ReadParams<'a>> AlgorithmParams<'a> for PssParamsOf<O, AnyRef<'a>> {
     ghost fields_of = { pss_fields };
 
     ghost form = { pss_record };
-
-    #[inline(always)]
-    fn usual(contents: &'a [u8], strict: bool) -> Option<PssParamsOf<O, AnyRef<'a>>> {
-        if contents.is_empty() {
-            return Some(PssParamsOf::default());
-        }
-        if let Some(view) = usual_pss(contents) {
-            accept_salt(strict, view.salt_len)?;
-            return Some(O::pss_from_view(view));
-        }
-        let salt_len = usual_salt(contents)?;
-        accept_salt(strict, salt_len)?;
-        Some(PssParamsOf::of_hash::<Sha1, NoMemory>(NoMemory, salt_len))
-    }
 
     fn quick_strictly(contents: &'a [u8]) -> Option<PssParamsOf<O, AnyRef<'a>>> {
         let view = quick_pss(contents, true)?;

@@ -158,7 +158,7 @@ fn read_inside<'a, T: Decode<&'a [u8], M>, M: Memory, R: Reader<&'a [u8]>>(
         let at = tagged tag (alone T.read_front) in
         ReadsFront T.value at may result (R.left reader.old) (R.left reader.new) }
 {
-    let header = Header::decode_likely(reader, tag)?;
+    let header = Header::decode(reader)?;
     if header.tag != tag {
         return Err(reader.error(ErrorKind::TagUnexpected {
             expected: tag,

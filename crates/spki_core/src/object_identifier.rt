@@ -109,18 +109,9 @@ pub trait AssociatedOid {
     /// `OID`, the contents octets of the identifier, for contracts.
     fn octets() -> &'static [u8]
         ensures { result.now ≡ contents };
-
-    /// `OID` with zeros behind it, up to 39 octets. A constant in its place saves copying a number of octets that is
-    /// known only at run time.
-    fn padded() -> [u8; 39]
-        ensures octets { take (length contents) result ≡ contents }
-        ensures zeros { drop (length contents) result ≡ replicate (39 - length contents) 0 }
-    {
-        with_zeros(Self::octets())
-    }
 }
 
-/// The octets with zeros behind them.
+/// The octets with zeros after them.
 fn with_zeros(octets: &[u8]) -> [u8; 39]
     requires { length octets.now ≤ 39 }
     ensures octets { take (length octets.now) result ≡ octets.now }
@@ -167,10 +158,7 @@ impl ObjectIdentifier {
     pub fn of<D: AssociatedOid>() -> ObjectIdentifier
         ensures { own_octets_of result ≡ D.contents }
     {
-        ObjectIdentifier {
-            octets: D::padded(),
-            length: D::octets().len() as u8,
-        }
+        ObjectIdentifier::new(D::octets())
     }
 }
 

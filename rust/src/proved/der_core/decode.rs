@@ -109,8 +109,7 @@ fn read_encoding<'a, T: DecodeValue<&'a [u8], M> + FixedTag, M: Memory, R: Reade
     memory: M,
     reader: &mut R,
 ) -> Result<T> {
-    let tag = T::TAG;
-    let header = Header::decode_likely(reader, tag)?;
+    let header = Header::decode(reader)?;
     if header.tag != T::TAG {
         return Err(reader.error(ErrorKind::TagUnexpected {
             expected: T::TAG,

@@ -1,7 +1,7 @@
 // Made of crates/der_core/src/header.rt by tools/erase/erase.py, and not to be edited.
 //! Headers: a tag and a length.
 
-use crate::proved::der_core::error::{ErrorKind, Result};
+use crate::proved::der_core::error::Result;
 use crate::proved::der_core::length::Length;
 use crate::proved::der_core::reader::{Reader, read_octet};
 use crate::proved::der_core::tag::Tag;
@@ -16,21 +16,11 @@ pub struct Header {
     pub length: Length,
 }
 
-/// The tag with this octet: `likely` if it is that one's, which takes one comparison.
-#[inline(always)]
-fn tag_of(octet: u8, likely: Tag) -> Result<Tag> {
-    if octet == likely.octet() {
-        Ok(likely)
-    } else {
-        Tag::from_octet(octet)
-    }
-}
-
 /// Reads a tag octet and a length.
 #[inline(always)]
-fn read_header<'a, R: Reader<&'a [u8]>>(reader: &mut R, likely: Tag) -> Result<Header> {
+fn read_header<'a, R: Reader<&'a [u8]>>(reader: &mut R) -> Result<Header> {
     let octet = read_octet(reader)?;
-    match tag_of(octet, likely) {
+    match Tag::from_octet(octet) {
         Ok(tag) => {
             let length = Length::decode(reader)?;
             Ok(Header { tag, length })
@@ -43,13 +33,7 @@ impl Header {
     /// Reads the tag octet and the length at the front of what is left. Err: the first fault of these.
     #[inline(always)]
     pub(crate) fn decode<'a, R: Reader<&'a [u8]>>(reader: &mut R) -> Result<Header> {
-        Header::decode_likely(reader, Tag::NULL)
-    }
-
-    /// The same, faster if the tag is the likely one.
-    #[inline(always)]
-    pub fn decode_likely<'a, R: Reader<&'a [u8]>>(reader: &mut R, likely: Tag) -> Result<Header> {
-        read_header(reader, likely)
+        read_header(reader)
     }
 
     /// The tag octet and the length octets.

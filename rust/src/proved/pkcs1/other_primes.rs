@@ -15,19 +15,10 @@ pub struct OtherPrimes<'a> {
     left: usize,
 }
 
-/// `NoMemory` under another name: the decoder that `count_others` calls is then compiled for it alone, and inlined.
-#[derive(Clone, Copy)]
-struct Counting;
-
-impl Memory for Counting {}
-
 /// Decodes the next other prime.
 #[inline(always)]
-fn read_other<'a, M: Memory>(
-    memory: M,
-    reader: &mut SliceReader<'a>,
-) -> Result<OtherPrimeInfo<UintRef<'a>>> {
-    let other = OtherPrimeInfo::decode(memory, reader)?;
+fn read_other<'a>(reader: &mut SliceReader<'a>) -> Result<OtherPrimeInfo<UintRef<'a>>> {
+    let other = OtherPrimeInfo::decode(NoMemory, reader)?;
     Ok(other)
 }
 
@@ -57,7 +48,7 @@ fn first_other<'a>(bytes: &'a [u8]) -> Result<(OtherPrimeInfo<UintRef<'a>>, &'a 
         return Ok(split);
     }
     let mut reader = SliceReader::new(bytes)?;
-    let other = read_other(NoMemory, &mut reader)?;
+    let other = read_other(&mut reader)?;
     let rest = reader.read_slice(reader.remaining_len())?;
     Ok((other, rest))
 }
@@ -73,7 +64,7 @@ fn count_others(bytes: &[u8]) -> Result<usize> {
     let mut reader = SliceReader::new(bytes)?;
     let mut count = 0;
     while reader.peek_octet().is_some() {
-        let _other = read_other(Counting, &mut reader)?;
+        let _other = read_other(&mut reader)?;
         count += 1;
     }
     Ok(count)

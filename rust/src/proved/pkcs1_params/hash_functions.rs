@@ -12,14 +12,6 @@ impl AssociatedOid for Sha1 {
     fn octets() -> &'static [u8] {
         Self::OID
     }
-
-    #[inline(always)]
-    fn padded() -> [u8; 39] {
-        [
-            0x2b, 0x0e, 0x03, 0x02, 0x1a, 0, 0, 0, 0, 0, 0, 0, 0, 0, 0, 0, 0, 0, 0, 0, 0, 0, 0, 0,
-            0, 0, 0, 0, 0, 0, 0, 0, 0, 0, 0, 0, 0, 0, 0,
-        ]
-    }
 }
 
 /// SHA-224.
@@ -96,13 +88,5 @@ impl AssociatedOid for Mgf1 {
 
     fn octets() -> &'static [u8] {
         Self::OID
-    }
-
-    #[inline(always)]
-    fn padded() -> [u8; 39] {
-        [
-            0x2a, 0x86, 0x48, 0x86, 0xf7, 0x0d, 0x01, 0x01, 0x08, 0, 0, 0, 0, 0, 0, 0, 0, 0, 0, 0,
-            0, 0, 0, 0, 0, 0, 0, 0, 0, 0, 0, 0, 0, 0, 0, 0, 0, 0, 0,
-        ]
     }
 }

@@ -30,7 +30,6 @@ mod shortest;
 mod spelling;
 mod strict;
 mod trailer_field;
-mod usual;
 
 pub use algorithm::FromAlgorithm;
 pub use default_salt::DefaultSalt;

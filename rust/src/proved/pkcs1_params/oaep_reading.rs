@@ -1,6 +1,6 @@
 // Made of crates/pkcs1_params/src/oaep_reading.rt by tools/erase/erase.py, and not to be edited.
-//! What `reading.rt` calls of RSAES-OAEP parameters: octets that are known, in `usual.rt`; fields that are read
-//! quickly, in `quick.rt`; each field by `read_field` of `spki_core`; and defaults that are written, in `strict.rt`.
+//! What `reading.rt` calls of RSAES-OAEP parameters: fields that are read quickly, in `quick.rt`; each field by `read_field` of
+//! `spki_core`; and defaults that are written, in `strict.rt`.
 
 use crate::proved::pkcs1_params::error::Result;
 use crate::proved::pkcs1_params::from_view::{ReadParams, decode_borrowed};
@@ -12,7 +12,6 @@ use crate::proved::pkcs1_params::oaep_algorithm::RsaesOaep;
 use crate::proved::pkcs1_params::quick::quick_oaep;
 use crate::proved::pkcs1_params::reading::AlgorithmParams;
 use crate::proved::pkcs1_params::strict;
-use crate::proved::pkcs1_params::usual::usual_oaep;
 use crate::proved::der_core::{
     DecodeValue, Header, Memory, NoMemory, Reader, Tag, TagNumber, quick_short, read_borrowed,
 };
@@ -20,15 +19,6 @@ use crate::proved::spki_core::{AnyRef, read_field};
 
 impl<'a, O: ReadParams<'a>> AlgorithmParams<'a> for OaepParamsOf<O, AnyRef<'a>> {
     type Oid = RsaesOaep;
-
-    #[inline(always)]
-    fn usual(contents: &'a [u8], strict: bool) -> Option<OaepParamsOf<O, AnyRef<'a>>> {
-        if contents.is_empty() {
-            return Some(OaepParamsOf::default());
-        }
-        let view = usual_oaep(contents)?; // in which no default can be written, so they are strict
-        Some(O::oaep_from_view(view))
-    }
 
     fn quick_strictly(contents: &'a [u8]) -> Option<OaepParamsOf<O, AnyRef<'a>>> {
         let view = quick_oaep(contents, true)?;

@@ -1,6 +1,6 @@
 // Made of crates/pkcs1_params/src/pss_reading.rt by tools/erase/erase.py, and not to be edited.
-//! What `reading.rt` calls of RSASSA-PSS parameters: octets that are known, in `usual.rt`; fields that are read
-//! quickly, in `quick.rt`; each field by `read_field` of `spki_core`; and defaults that are written, in `strict.rt`.
+//! What `reading.rt` calls of RSASSA-PSS parameters: fields that are read quickly, in `quick.rt`; each field by `read_field` of
+//! `spki_core`; and defaults that are written, in `strict.rt`.
 
 use crate::proved::pkcs1_params::error::Result;
 use crate::proved::pkcs1_params::from_view::{ReadParams, decode_borrowed};
@@ -12,7 +12,6 @@ use crate::proved::pkcs1_params::quick::quick_pss;
 use crate::proved::pkcs1_params::reading::AlgorithmParams;
 use crate::proved::pkcs1_params::strict;
 use crate::proved::pkcs1_params::trailer_field::TrailerField;
-use crate::proved::pkcs1_params::usual::{accept_salt, usual_pss, usual_salt};
 use crate::proved::der_core::{
     DecodeValue, Header, Memory, NoMemory, Reader, Tag, TagNumber, quick_short, read_borrowed,
 };
@@ -20,20 +19,6 @@ use crate::proved::spki_core::{AnyRef, read_field};
 
 impl<'a, O: ReadParams<'a>> AlgorithmParams<'a> for PssParamsOf<O, AnyRef<'a>> {
     type Oid = RsassaPss;
-
-    #[inline(always)]
-    fn usual(contents: &'a [u8], strict: bool) -> Option<PssParamsOf<O, AnyRef<'a>>> {
-        if contents.is_empty() {
-            return Some(PssParamsOf::default());
-        }
-        if let Some(view) = usual_pss(contents) {
-            accept_salt(strict, view.salt_len)?;
-            return Some(O::pss_from_view(view));
-        }
-        let salt_len = usual_salt(contents)?;
-        accept_salt(strict, salt_len)?;
-        Some(PssParamsOf::of_hash::<Sha1, NoMemory>(NoMemory, salt_len))
-    }
 
     fn quick_strictly(contents: &'a [u8]) -> Option<PssParamsOf<O, AnyRef<'a>>> {
         let view = quick_pss(contents, true)?;

@@ -1,25 +1,21 @@
 // Made of crates/pkcs1_params/src/reading.rt by tools/erase/erase.py, and not to be edited.
-//! Reading of parameters: the octets that most have are known, and others are read field by field. What differs between
-//! the kinds is a member of `AlgorithmParams`; `pss_reading.rt` and `oaep_reading.rt` have its bodies.
+//! Reading of parameters, field by field. What differs between the kinds is a member of `AlgorithmParams`;
+//! `pss_reading.rt` and `oaep_reading.rt` have its bodies.
 
 use crate::proved::pkcs1_params::error::Result;
-use crate::proved::pkcs1_params::usual::short_contents;
 use crate::proved::der_core::Tag;
 use crate::proved::spki_core::{AnyRef, AssociatedOid};
 
 /// Reads a whole slice. Nothing is allocated.
 #[inline(always)]
 pub(crate) fn read_params<'a, T: AlgorithmParams<'a>>(bytes: &'a [u8]) -> Result<T> {
-    match quick_encoding(bytes, false) {
-        Some(params) => Ok(params),
-        None => T::read_whole(bytes),
-    }
+    T::read_whole(bytes)
 }
 
 /// Like `read_params`, but rejects an encoding in which a default is written.
 #[inline(always)]
 pub(crate) fn read_params_strict<'a, T: AlgorithmParams<'a>>(bytes: &'a [u8]) -> Result<T> {
-    if let Some(params) = quick_encoding::<T>(bytes, true) {
+    if let Some(params) = quick_encoding::<T>(bytes) {
         return Ok(params);
     }
     let params = T::read_whole(bytes)?;
@@ -27,46 +23,38 @@ pub(crate) fn read_params_strict<'a, T: AlgorithmParams<'a>>(bytes: &'a [u8]) ->
     Ok(params)
 }
 
-/// The parameters in a whole slice, if they are known. If `strict`, where that is quickly told too.
+/// The contents octets of a SEQUENCE of fewer than 128, if a slice is its encoding.
 #[inline(always)]
-fn quick_encoding<'a, T: AlgorithmParams<'a>>(bytes: &'a [u8], strict: bool) -> Option<T> {
+fn short_contents(bytes: &[u8]) -> Option<&[u8]> {
+    match bytes {
+        [0x30, count, contents @ ..] if *count < 0x80 && usize::from(*count) == contents.len() => {
+            Some(contents)
+        }
+        _ => None,
+    }
+}
+
+/// The parameters in a whole slice, if that is quickly told, and no default is written.
+#[inline(always)]
+fn quick_encoding<'a, T: AlgorithmParams<'a>>(bytes: &'a [u8]) -> Option<T> {
     let contents = short_contents(bytes)?;
-    let params = known_or_quick::<T>(contents, strict)?;
+    let params = T::quick_strictly(contents)?;
     Some(params)
 }
 
 /// The same of the parameters of an algorithm.
 #[inline(always)]
-pub(crate) fn quick_parameters<'a, T: AlgorithmParams<'a>>(
-    any: &AnyRef<'a>,
-    strict: bool,
-) -> Option<T> {
+pub(crate) fn quick_parameters<'a, T: AlgorithmParams<'a>>(any: &AnyRef<'a>) -> Option<T> {
     if any.tag() != Tag::SEQUENCE {
         return None;
     }
-    known_or_quick(any.value(), strict)
-}
-
-/// The same of contents octets.
-#[inline(always)]
-fn known_or_quick<'a, T: AlgorithmParams<'a>>(contents: &'a [u8], strict: bool) -> Option<T> {
-    if let Some(params) = T::usual(contents, strict) {
-        return Some(params);
-    }
-    if strict {
-        return T::quick_strictly(contents);
-    }
-    None
+    T::quick_strictly(any.value())
 }
 
 /// Borrowed parameters of an algorithm.
 pub trait AlgorithmParams<'a>: Sized {
     /// The object identifier of the algorithm.
     type Oid: AssociatedOid;
-
-    /// The parameters with these contents octets, if they are among those that are known; if `strict`, only where no
-    /// default is written.
-    fn usual(contents: &'a [u8], strict: bool) -> Option<Self>;
 
     /// The parameters with these contents octets, if that is quickly told, and no default is written.
     fn quick_strictly(contents: &'a [u8]) -> Option<Self>;

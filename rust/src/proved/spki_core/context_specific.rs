@@ -105,7 +105,7 @@ fn read_inside<'a, T: Decode<&'a [u8], M>, M: Memory, R: Reader<&'a [u8]>>(
     reader: &mut R,
     tag: Tag,
 ) -> Result<T> {
-    let header = Header::decode_likely(reader, tag)?;
+    let header = Header::decode(reader)?;
     if header.tag != tag {
         return Err(reader.error(ErrorKind::TagUnexpected {
             expected: tag,

@@ -76,15 +76,9 @@ pub trait AssociatedOid {
 
     /// `OID`, the contents octets of the identifier, for contracts.
     fn octets() -> &'static [u8];
-
-    /// `OID` with zeros behind it, up to 39 octets. A constant in its place saves copying a number of octets that is
-    /// known only at run time.
-    fn padded() -> [u8; 39] {
-        with_zeros(Self::octets())
-    }
 }
 
-/// The octets with zeros behind them.
+/// The octets with zeros after them.
 fn with_zeros(octets: &[u8]) -> [u8; 39] {
     let mut padded = [0; 39];
     padded[..octets.len()].copy_from_slice(octets);
@@ -113,10 +107,7 @@ impl ObjectIdentifier {
     /// The identifier of an algorithm.
     #[inline(always)]
     pub fn of<D: AssociatedOid>() -> ObjectIdentifier {
-        ObjectIdentifier {
-            octets: D::padded(),
-            length: D::octets().len() as u8,
-        }
+        ObjectIdentifier::new(D::octets())
     }
 }
 

@@ -7,7 +7,7 @@ use Rattle.spki_core.proofs.StrictFields.{strict_errs}
 use Rattle.spki_core.specs.Words.{strict_whole}
 use Rattle.pkcs1_params.specs.Words.{AnswersAsn1}
 use Rattle.pkcs1_params.proofs.Faults.{asn1_as}
-use Rattle.pkcs1_params.proofs.UsualParameters.{record_whole_decodes, strict_whole_decodes}
+use Rattle.pkcs1_params.proofs.WholeParameters.{record_whole_decodes, strict_whole_decodes}
 use Rattle.pkcs1_params.proofs.reading.read_params_strict.Goals as goal
 
 -- Where `quick_encoding` read it.

@@ -21,16 +21,6 @@ mask_field_with_hash oid = 0xa1 ∷ 0x1c ∷ 0x30 ∷ 0x1a ∷ 0x06 ∷ 0x09 ∷
 abbrev pub fields_with_hash : List ℕ → List ℕ
 fields_with_hash oid = field_with_hash oid ++ mask_field_with_hash oid
 
--- The octets are those of the two fields with a hash function of NIST.
-abbrev pub HaveUsualHash : List ℕ → Type 0
-HaveUsualHash fields = (n : ℕ) × (n < 128) × (fields ≡ fields_with_hash (hash_algorithm n))
-
--- The same, with the hash function itself.
-abbrev pub AreUsual : Algorithm TagAndContents → List ℕ → Type 0
-AreUsual hash fields =
-    (n : ℕ) × (n < 128) × (hash ≡ with_parameters (hash_algorithm n) null_value)
-    × (fields ≡ fields_with_hash (hash_algorithm n))
-
 -- The parameters with this hash function, and no field behind a salt length.
 abbrev pub pss_with_hash : Algorithm TagAndContents → ℕ → PssParameters
 pss_with_hash hash s =
@@ -46,15 +36,6 @@ salt_field s = 0xa2 ∷ 0x03 ∷ 0x02 ∷ 0x01 ∷ s ∷ []
 -- The octets in front of a label of fewer than 64 in its field.
 abbrev pub label_front : ℕ → List ℕ
 label_front n = 0xa2 ∷ (15 + n) ∷ 0x30 ∷ (13 + n) ∷ 0x06 ∷ 0x09 ∷ id_p_specified ++ 0x04 ∷ n ∷ []
-
--- Contents octets that are both fields, and for PSS a salt length.
-abbrev pub IsUsualPss : PssParameters → List ℕ → Type 0
-IsUsualPss p contents =
-    (fields : List ℕ) × AreUsual p.hash fields × (p.salt_len < 128) × (p ≡ pss_with_hash p.hash p.salt_len)
-    × (contents ≡ fields ++ salt_field p.salt_len)
-
-abbrev pub IsUsualOaep : OaepParameters → List ℕ → Type 0
-IsUsualOaep p contents = AreUsual p.hash contents × (p ≡ oaep_with_hash p.hash)
 
 -- The octets of a salt length from 128 to 255 in its field: the number has a zero octet in front.
 abbrev pub long_salt_field : ℕ → List ℕ
