@@ -5,6 +5,7 @@ pub mod EncodeToSlice
 pub mod Lengths
 pub mod ErrorEquality
 pub mod Items
+pub mod ItemsLeft
 pub mod ReadSteps
 pub mod Writing
 pub mod Headers

@@ -1,7 +1,7 @@
 -- What functions read: whole slices, other tags, documents, a list with a fault, values that spellings mean. For
 -- `from_der` of each type, `decode_as`, and `lemma_encodings_are_read`.
-use Rattle.std.proofs.Common.{ℕ, false, List, ◌≡◌, ◌≤◌, length, arith, ⊎_elim, nat_lt, zero, suc, [], ◌∷◌, ◌++◌, ◌≢◌, ◌<◌, ◌==◌, refl, ap, ◌∙◌, length-append, append_assoc, Ok, Err, subst, Result}
-use Rattle.der_core.specs.Words.{WithinLimit, cond_cases, limit, FrontReading, Reading, limited, whole, InFront, ReadsContents, ReadsFronts, alone_reads, ErrorKind, Tag, AreBytes, behind_within, any_contents_reads, same_tag, ◌>>=◌, made, items_within, unexpected, contents_behind, read_document, ItemsContents, is_allowed, sequence_tag, Tlv, checked_as, tagged_reads, ReadsFrontAlike, ReadsFrontPrinted, Spells, Answers, Error, ok_of, value_in, values_alike, whole_alike, meant_decodes}
+use Rattle.std.proofs.Common.{ℕ, false, List, ◌≡◌, ◌≤◌, length, arith, ⊎_elim, nat_lt, ◌≢◌, ◌==◌, refl, ap, ◌∙◌, Ok, Err, subst, Result}
+use Rattle.der_core.specs.Words.{WithinLimit, cond_cases, limit, FrontReading, Reading, limited, whole, InFront, ReadsContents, ReadsFronts, alone_reads, Tag, AreBytes, any_contents_reads, same_tag, unexpected, contents_behind, read_document, is_allowed, sequence_tag, Tlv, checked_as, tagged_reads, ReadsFrontAlike, ReadsFrontPrinted, Spells, Answers, Error, ok_of, value_in, values_alike, whole_alike, meant_decodes}
 use Rattle.standard.specs.Statement.{Decodes}
 use Rattle.der_core.specs.declared.error.ErrorKind.TheVariants.{TagUnexpected, TagUnknown}
 
@@ -53,31 +53,6 @@ contents_behind_other_tag tag actual n rest ne =
 pub document_reads : ReadsContents (WithinLimit (λ (_ : Unit {0}). Tlv sequence_tag.octet AreBytes))
     read_document
 document_reads = whole_reads (tagged_reads sequence_tag any_contents_reads)
-
--- A list, up to the end.
-module _ {V : Type 0} {encoding : V → List ℕ → Type 0} {at : FrontReading V} (law : ReadsFronts encoding at)
-    (some : (v : V) (b : List ℕ) → encoding v b → 0 < length b) where
-  -- behind some items, another one has a fault
-  pub items_err : (vs : List V) (n : ℕ) (k : ErrorKind) (c read rest : List ℕ) → length c ≤ n → length c ≤ limit
-      → ItemsContents encoding vs read → c ≡ read ++ rest → 0 < length rest → at rest ≡ Err k
-      → items_within n at c ≡ Err k
-  items_err [] n k c read rest l w p is more e = one n c (is ∙ ap (λ y. y ++ rest) p) l
-    where
-      one : (n : ℕ) (c : List ℕ) → c ≡ rest → length c ≤ n → items_within n at c ≡ Err k
-      one n [] same l = absurd (omega (arith, ap length same))
-      one zero (x ∷ xs) same l = absurd (omega arith)
-      one (suc n) (x ∷ xs) same l =
-          ap (λ r. r >>= λ p. made (λ vs. p.0 ∷ vs) (items_within n at) p.1) (ap at same ∙ e)
-  items_err (v ∷ vs) n k [] read rest l w p is more e =
-      absurd (omega (arith, ap length is, length-append read rest))
-  items_err (v ∷ vs) zero k (z ∷ zs) read rest l w p is more e = absurd (omega arith)
-  items_err (v ∷ vs) (suc n) k (z ∷ zs) read rest l w (x, y, p, q, are) is more e =
-      let split : z ∷ zs ≡ x ++ (y ++ rest) = is ∙ ap (λ y. y ++ rest) are ∙ append_assoc x y rest in
-      let full = some v x p in
-      let few : length (y ++ rest) ≤ n = omega (arith, ap length split, length-append x (y ++ rest)) in
-      ap (λ r. r >>= λ p. made (λ vs. p.0 ∷ vs) (items_within n at) p.1) (law.takes (z ∷ zs) x (y ++ rest) v w split p)
-      ∙ ap (λ r. r >>= λ vs. Ok (v ∷ vs))
-      (items_err vs n k (y ++ rest) y rest few (behind_within x (y ++ rest) split w) q refl more e)
 
 -- What reading a whole slice gives, of the values that spellings mean.
 module _ {S V : Type 0} {valid : S → Type 0} {printed : S → List ℕ} {spelling : FrontReading S} {means : S → V}

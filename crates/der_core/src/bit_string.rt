@@ -1,18 +1,14 @@
 //! BIT STRINGs of whole octets (X.690 8.6).
-ghost use Rattle.std.specs.Prelude.{IfOk};
-ghost use Rattle.der_core.specs.Words.{AllocatesBehindZero, HoldsBytes, ReadsOrFails, behind_zero, behind_zero_alike, behind_zero_asks_as_contents, behind_zero_law, behind_zero_shortest, bit_string_tag, no_unused_bits, whole_octets};
+ghost use Rattle.der_core.specs.Words.{AllocatesBehindZero, Answers, behind_zero, behind_zero_alike, behind_zero_asks_as_contents, behind_zero_law, behind_zero_shortest, bit_string_tag, no_unused_bits, whole_octets};
 
 use crate::back_writer::BackWriter;
 use crate::decode::DecodeValue;
 use crate::encode::{EncodeValue, joined_len};
-use crate::error::{ErrorKind, Result};
+use crate::error::{Error, ErrorKind, Result};
 use crate::grammar::{Contents, TagMarker, TaggedBy};
-use crate::header::Header;
 use crate::length::Length;
 use crate::memory::Memory;
 use crate::octet_string::OctetStringRef;
-use crate::quick::quick_contents;
-use crate::reader::Reader;
 use crate::tag::Tag;
 use crate::writer::Writer;
 
@@ -63,21 +59,17 @@ impl<C> TaggedBy for BitString<C> {
     type Marker = BitStringTag;
 }
 
-/// Reads the number of unused bits, which has to be 0: how many octets are left behind it.
-fn read_unused_bits<'a, R: Reader<&'a [u8]>>(reader: &mut R, length: Length) -> Result<Length>
-    requires { HoldsBytes (R.left reader.old) length }
-    ensures octet { ReadsOrFails (λ _. tt) result (R.left reader.old) (R.left reader.new) no_unused_bits }
-    ensures left { IfOk result (λ left. HoldsBytes (R.left reader.new) left) }
+/// The octets behind the number of unused bits, which has to be there, and 0.
+#[inline(always)]
+fn octets_behind(contents: &[u8]) -> Result<&[u8]>
+    ensures { Answers (λ octets. (tt, octets.now)) result (no_unused_bits contents.now) }
 {
     let tag = Tag::BIT_STRING;
-    if length.to_usize() == 0 {
-        return Err(reader.error(ErrorKind::Length { tag }));
+    match contents {
+        [] => Err(Error::new(ErrorKind::Length { tag })),
+        [unused, ..] if *unused != 0 => Err(Error::new(ErrorKind::Value { tag })),
+        [_, octets @ ..] => Ok(octets),
     }
-    let unused = reader.read_slice(Length::ONE)?;
-    if unused[0] != 0 {
-        return Err(reader.error(ErrorKind::Value { tag }));
-    }
-    Ok(Length::of(length.to_usize() - 1))
 }
 
 impl<'a, M: Memory, C: DecodeValue<&'a [u8], M>> DecodeValue<&'a [u8], M> for BitString<C> {
@@ -85,31 +77,11 @@ impl<'a, M: Memory, C: DecodeValue<&'a [u8], M>> DecodeValue<&'a [u8], M> for Bi
 
     ghost asks_memory = { behind_zero_asks_as_contents C.DecodeValue.asks_memory };
 
-    fn decode_value<R: Reader<&'a [u8]>>(
-        memory: M,
-        reader: &mut R,
-        header: Header,
-    ) -> Result<BitString<C>> {
-        let length = read_unused_bits(reader, header.length)?;
-        let tag = header.tag;
-        let contents = C::decode_value(memory, reader, Header { tag, length })?;
-        Ok(BitString(contents))
-    }
-
     #[inline(always)]
-    fn quick_split(bytes: &'a [u8], tag: Tag) -> Option<(&'a [u8], &'a [u8])> {
-        quick_contents(bytes, tag)
-    }
-
-    #[inline(always)]
-    fn quick_value(memory: M, contents: &'a [u8]) -> Option<BitString<C>> {
-        match contents {
-            [0, octets @ ..] => match C::quick_value(memory, octets) {
-                Some(contents) => Some(BitString(contents)),
-                None => None,
-            },
-            _ => None,
-        }
+    fn read_value(memory: M, contents: &'a [u8]) -> Result<BitString<C>> {
+        let octets = octets_behind(contents)?;
+        let value = C::read_value(memory, octets)?;
+        Ok(BitString(value))
     }
 }
 

@@ -7,11 +7,8 @@ use crate::decode::DecodeValue;
 use crate::encode::EncodeValue;
 use crate::error::{Error, ErrorKind, Result};
 use crate::grammar::{Contents, TagMarker, TaggedBy};
-use crate::header::Header;
 use crate::length::Length;
 use crate::memory::Memory;
-use crate::quick::quick_short;
-use crate::reader::Reader;
 use crate::tag::Tag;
 use crate::writer::Writer;
 
@@ -78,30 +75,8 @@ impl<'a, M: Memory> DecodeValue<&'a [u8], M> for bool {
 
     ghost asks_memory = { nothing_asked };
 
-    fn decode_value<R: Reader<&'a [u8]>>(
-        _memory: M,
-        reader: &mut R,
-        header: Header,
-    ) -> Result<bool> {
-        let contents = reader.read_slice(header.length)?;
-        match boolean(contents) {
-            Ok(value) => Ok(value),
-            Err(e) => Err(reader.error(e.kind())),
-        }
-    }
-
-    #[inline(always)]
-    fn quick_split(bytes: &'a [u8], tag: Tag) -> Option<(&'a [u8], &'a [u8])> {
-        quick_short(bytes, tag)
-    }
-
-    #[inline(always)]
-    fn quick_value(_memory: M, contents: &'a [u8]) -> Option<bool> {
-        match contents {
-            [0xff] => Some(true),
-            [0x00] => Some(false),
-            _ => None,
-        }
+    fn read_value(_memory: M, contents: &'a [u8]) -> Result<bool> {
+        boolean(contents)
     }
 }
 

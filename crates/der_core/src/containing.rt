@@ -6,12 +6,8 @@ use crate::decode::{Decode, DecodeValue};
 use crate::encode::{Encode, EncodeValue};
 use crate::error::Result;
 use crate::grammar::{Contents, Encoding};
-use crate::header::Header;
-use crate::last_part::decode_whole;
 use crate::length::Length;
 use crate::memory::Memory;
-use crate::quick::quick_alone;
-use crate::reader::Reader;
 use crate::writer::Writer;
 
 /// Contents octets that are one encoding of a `T`, as those of `BIT STRING (CONTAINING T)`. `TrailingData` if octets
@@ -50,21 +46,10 @@ impl<'a, M: Memory, T: Decode<&'a [u8], M>> DecodeValue<&'a [u8], M> for Contain
 
     ghost asks_memory = { λ c asks. T.Decode.asks_memory asks.0 asks.3 };
 
-    fn decode_value<R: Reader<&'a [u8]>>(
-        memory: M,
-        reader: &mut R,
-        _header: Header,
-    ) -> Result<Containing<T>> {
-        let value = decode_whole(memory, reader)?;
-        Ok(Containing(value))
-    }
-
     #[inline(always)]
-    fn quick_value(memory: M, contents: &'a [u8]) -> Option<Containing<T>> {
-        match quick_alone(memory, contents) {
-            Some(value) => Some(Containing(value)),
-            None => None,
-        }
+    fn read_value(memory: M, contents: &'a [u8]) -> Result<Containing<T>> {
+        let value = T::read_alone(memory, contents)?;
+        Ok(Containing(value))
     }
 }
 

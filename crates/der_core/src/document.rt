@@ -22,10 +22,8 @@ use crate::encode::{Encode, EncodeValue};
 use crate::error::{Error, ErrorKind, Result};
 use crate::file_system::FileSystem;
 use crate::grammar::{Contents, FixedTag, Sequence, SequenceTag, TaggedBy};
-use crate::header::Header;
 use crate::length::Length;
 use crate::memory::{NoMemory, copy_of};
-use crate::reader::Reader;
 use crate::source_sink::{Close, Sink, Source};
 use crate::transfer::{read_all, write_all};
 use std::alloc::Global;
@@ -72,12 +70,7 @@ impl<'a> DecodeValue<&'a [u8], NoMemory> for AnySequence {
 
     ghost asks_memory = { nothing_asked };
 
-    fn decode_value<R: Reader<&'a [u8]>>(
-        _memory: NoMemory,
-        reader: &mut R,
-        header: Header,
-    ) -> Result<AnySequence> {
-        reader.read_slice(header.length)?;
+    fn read_value(_memory: NoMemory, _contents: &'a [u8]) -> Result<AnySequence> {
         Ok(AnySequence)
     }
 }

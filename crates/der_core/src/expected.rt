@@ -5,13 +5,10 @@ ghost use Rattle.der_core.specs.Words.{expected, expected_law, nothing_asked, nu
 use crate::back_writer::BackWriter;
 use crate::decode::DecodeValue;
 use crate::encode::EncodeValue;
-use crate::error::{ErrorKind, Result};
+use crate::error::{Error, ErrorKind, Result};
 use crate::grammar::{Contents, IntegerTag, TaggedBy};
-use crate::header::Header;
 use crate::length::Length;
 use crate::memory::Memory;
-use crate::quick::quick_short;
-use crate::reader::Reader;
 use crate::tag::Tag;
 use crate::writer::Writer;
 
@@ -54,29 +51,11 @@ impl<'a, M: Memory, const N: u8> DecodeValue<&'a [u8], M> for Expected<N> {
 
     ghost asks_memory = { nothing_asked };
 
-    fn decode_value<R: Reader<&'a [u8]>>(
-        memory: M,
-        reader: &mut R,
-        header: Header,
-    ) -> Result<Expected<N>> {
-        if u8::decode_value(memory, reader, header)? != N {
-            return Err(reader.error(ErrorKind::Value { tag: Tag::INTEGER }));
+    fn read_value(memory: M, contents: &'a [u8]) -> Result<Expected<N>> {
+        if u8::read_value(memory, contents)? != N {
+            return Err(Error::new(ErrorKind::Value { tag: Tag::INTEGER }));
         }
         Ok(Expected)
-    }
-
-    #[inline(always)]
-    fn quick_split(bytes: &'a [u8], tag: Tag) -> Option<(&'a [u8], &'a [u8])> {
-        quick_short(bytes, tag)
-    }
-
-    #[inline(always)]
-    fn quick_value(memory: M, contents: &'a [u8]) -> Option<Expected<N>> {
-        if u8::quick_value(memory, contents)? == N {
-            Some(Expected)
-        } else {
-            None
-        }
     }
 }
 

@@ -1,12 +1,12 @@
 //! Rows of parts at the front of contents whose rest depends on them.
-ghost use Rattle.std.specs.Prelude.{◌≡◌, List, [], ℕ, Ok, IfSome};
-ghost use Rattle.der_core.specs.Words.{AllocatesInParts, FrontReading, Prints, ReadsFrontAlike, ReadsFrontPrinted, ReadsRow, front_alike, front_done, front_end_law, front_parts, front_row_alike, front_row_law, row};
+ghost use Rattle.std.specs.Prelude.{◌≤◌, IfOk, List, [], ℕ, length};
+ghost use Rattle.der_core.specs.Words.{AllocatesInParts, FrontReading, Prints, ReadsFrontAlike, ReadsFrontPrinted, Returns, front_alike, front_done, front_end_law, front_parts, front_row_alike, front_row_law, limit, row};
 
 use crate::decode::Decode;
 use crate::error::Result;
 use crate::grammar::Encoding;
 use crate::memory::Memory;
-use crate::reader::{Octets, Reader};
+use crate::reader::Octets;
 
 /// A row of parts, each of which is there, at the front of contents that go on behind it.
 pub trait FrontRow {
@@ -41,25 +41,17 @@ pub trait FrontRow {
     ghost reads_alike: { ReadsFrontAlike read_spelling means read_row };
 }
 
-/// A row that is read at the front of what is left.
+/// A row that is read at the front of bytes.
 pub trait DecodeFront<B: Octets, M: Memory>: FrontRow + Sized + Drop {
     /// What may be left where reading the row may allocate.
     ghost may_allocate: { List ℕ → Type 0 };
 
-    /// Reads the row at the front of what is left. Err: the first fault, or `OutOfMemory` where it may allocate. A
-    /// reader that has failed gives only a row of no part, and stays so.
-    fn decode_front<R: Reader<B>>(memory: M, reader: &mut R) -> Result<Self>
-        ensures { let before = R.left reader.old in
-            ReadsRow Self.value Self.read_row may_allocate result before (R.left reader.new) };
-
-    /// The row that reading gives at the front, and what follows it. `None` says nothing of the bytes.
-    #[inline(always)]
-    fn quick_front(_memory: M, _bytes: B) -> Option<(Self, B)>
-        ensures { IfSome result (λ split.
-            Self.read_row (B.octets _bytes) ≡ Ok (Self.value split.0, B.octets split.1)) }
-    {
-        None
-    }
+    /// The row at the front, and what follows it. Err: the first fault, or `OutOfMemory` where it may allocate.
+    fn read_first(memory: M, bytes: B) -> Result<(Self, B)>
+        requires { length (B.octets bytes) ≤ limit }
+        ensures read { let b = B.octets bytes in
+            Returns (λ split. (Self.value split.0, B.octets split.1)) (Self.read_row b) (may_allocate b) result }
+        ensures rest { IfOk result (λ split. length (B.octets split.1) ≤ limit) };
 }
 
 impl FrontRow for () {
@@ -110,13 +102,8 @@ impl<'a, M: Memory> DecodeFront<&'a [u8], M> for () {
     ghost may_allocate = { λ _. ⊥ };
 
     #[inline(always)]
-    fn decode_front<R: Reader<&'a [u8]>>(_memory: M, _reader: &mut R) -> Result<()> {
-        Ok(())
-    }
-
-    #[inline(always)]
-    fn quick_front(_memory: M, bytes: &'a [u8]) -> Option<((), &'a [u8])> {
-        Some(((), bytes))
+    fn read_first(_memory: M, bytes: &'a [u8]) -> Result<((), &'a [u8])> {
+        Ok(((), bytes))
     }
 }
 
@@ -126,20 +113,9 @@ impl<'a, M: Memory, A: Decode<&'a [u8], M>, B: DecodeFront<&'a [u8], M>> DecodeF
         AllocatesInParts first A.Decode.may_allocate B.DecodeFront.may_allocate };
 
     #[inline(always)]
-    fn decode_front<R: Reader<&'a [u8]>>(memory: M, reader: &mut R) -> Result<(A, B)> {
-        let first = A::decode(memory, reader)?;
-        let rest = B::decode_front(memory, reader)?;
-        Ok((first, rest))
-    }
-
-    #[inline(always)]
-    fn quick_front(memory: M, bytes: &'a [u8]) -> Option<((A, B), &'a [u8])> {
-        match A::quick(memory, bytes) {
-            Some((first, behind)) => match B::quick_front(memory, behind) {
-                Some((rest, left)) => Some(((first, rest), left)),
-                None => None,
-            },
-            None => None,
-        }
+    fn read_first(memory: M, bytes: &'a [u8]) -> Result<((A, B), &'a [u8])> {
+        let (first, behind) = A::read_one(memory, bytes)?;
+        let (rest, left) = B::read_first(memory, behind)?;
+        Ok(((first, rest), left))
     }
 }

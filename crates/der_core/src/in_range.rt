@@ -7,11 +7,8 @@ use crate::decode::DecodeValue;
 use crate::encode::EncodeValue;
 use crate::error::{Error, ErrorKind, Result};
 use crate::grammar::{Contents, IntegerTag, TaggedBy};
-use crate::header::Header;
 use crate::length::Length;
 use crate::memory::Memory;
-use crate::quick::quick_short;
-use crate::reader::Reader;
 use crate::tag::Tag;
 use crate::writer::Writer;
 
@@ -64,31 +61,12 @@ impl<'a, M: Memory, const MIN: u8, const MAX: u8> DecodeValue<&'a [u8], M> for I
 
     ghost asks_memory = { nothing_asked };
 
-    fn decode_value<R: Reader<&'a [u8]>>(
-        memory: M,
-        reader: &mut R,
-        header: Header,
-    ) -> Result<InRange<MIN, MAX>> {
-        let number = InRange(u8::decode_value(memory, reader, header)?);
+    fn read_value(memory: M, contents: &'a [u8]) -> Result<InRange<MIN, MAX>> {
+        let number = InRange(u8::read_value(memory, contents)?);
         if !number.is_within() {
-            return Err(reader.error(ErrorKind::Value { tag: Tag::INTEGER }));
+            return Err(Error::new(ErrorKind::Value { tag: Tag::INTEGER }));
         }
         Ok(number)
-    }
-
-    #[inline(always)]
-    fn quick_split(bytes: &'a [u8], tag: Tag) -> Option<(&'a [u8], &'a [u8])> {
-        quick_short(bytes, tag)
-    }
-
-    #[inline(always)]
-    fn quick_value(memory: M, contents: &'a [u8]) -> Option<InRange<MIN, MAX>> {
-        let number = InRange(u8::quick_value(memory, contents)?);
-        if number.is_within() {
-            Some(number)
-        } else {
-            None
-        }
     }
 }
 

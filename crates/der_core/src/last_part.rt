@@ -1,19 +1,17 @@
 //! The last part of some contents: one encoding, or an OPTIONAL one.
 ghost use Rattle.std.specs.Prelude.{◌≡◌, Option, option_map};
 ghost use Rattle.standard.specs.Statement as standard;
-ghost use Rattle.der_core.specs.Words.{AllocatesAtFront, AllocatesLast, ReadsWhole, Tlv, alone, alone_alike, last, last_alike, last_by_tag_law, last_law, last_part_asks_as_it, last_shortest, optional_alike, optional_front, tagged, tagged_alike, tagged_shortest};
+ghost use Rattle.der_core.specs.Words.{AllocatesAtFront, AllocatesLast, Tlv, alone, alone_alike, last, last_alike, last_by_tag_law, last_law, last_part_asks_as_it, last_shortest, optional_alike, optional_front, tagged, tagged_alike, tagged_shortest};
 
 use crate::back_writer::BackWriter;
 use crate::borrowed::Borrowed;
-use crate::decode::{Decode, DecodeValue, decode_optional};
+use crate::decode::{Decode, DecodeValue, read_optional};
 use crate::encode::{Encode, EncodeValue};
-use crate::error::Result;
+use crate::error::{Error, ErrorKind, Result};
 use crate::grammar::{Contents, Encoding, FixedTag};
 use crate::length::Length;
 use crate::memory::Memory;
 use crate::parts::DecodeParts;
-use crate::quick::quick_alone;
-use crate::reader::Reader;
 use crate::writer::Writer;
 
 /// An OPTIONAL last part: one encoding, or nothing. Whatever is left is read as the part.
@@ -65,18 +63,12 @@ impl<'a, M: Memory, T: Decode<&'a [u8], M>> DecodeParts<&'a [u8], M> for Last<T>
     ghost asks_memory = { last_part_asks_as_it T.Decode.asks_memory };
 
     #[inline(always)]
-    fn decode_parts<R: Reader<&'a [u8]>>(memory: M, reader: &mut R) -> Result<Last<T>> {
-        let part = decode_last(memory, reader)?;
-        Ok(Last(part))
-    }
-
-    #[inline(always)]
-    fn quick_parts(memory: M, contents: &'a [u8]) -> Option<Last<T>> {
+    fn read_parts(memory: M, contents: &'a [u8]) -> Result<Last<T>> {
         if contents.is_empty() {
-            return Some(Last(None));
+            return Ok(Last(None));
         }
-        let part = quick_alone(memory, contents)?;
-        Some(Last(Some(part)))
+        let part = T::read_alone(memory, contents)?;
+        Ok(Last(Some(part)))
     }
 }
 
@@ -152,22 +144,12 @@ impl<'a, M: Memory, T: DecodeValue<&'a [u8], M> + FixedTag> DecodeParts<&'a [u8]
     ghost asks_memory = { λ c t. T.DecodeValue.asks_memory t.3.contents t.3.holds };
 
     #[inline(always)]
-    fn decode_parts<R: Reader<&'a [u8]>>(memory: M, reader: &mut R) -> Result<LastByTag<T>> {
-        let part = decode_optional(memory, reader)?;
-        reader.finish()?;
-        Ok(LastByTag(Last(part)))
-    }
-
-    #[inline(always)]
-    fn quick_parts(memory: M, contents: &'a [u8]) -> Option<LastByTag<T>> {
-        match contents {
-            [] => Some(LastByTag(Last(None))),
-            [first, ..] if *first == T::TAG.octet() => {
-                let part = quick_alone(memory, contents)?;
-                Some(LastByTag(Last(Some(part))))
-            }
-            _ => None,
+    fn read_parts(memory: M, contents: &'a [u8]) -> Result<LastByTag<T>> {
+        let (part, rest) = read_optional(memory, contents)?;
+        if !rest.is_empty() {
+            return Err(Error::new(ErrorKind::TrailingData));
         }
+        Ok(LastByTag(Last(part)))
     }
 }
 
@@ -193,37 +175,4 @@ impl<T: EncodeValue + FixedTag> EncodeValue for LastByTag<T> {
     fn prepend_value(&self, writer: &mut BackWriter<'_>) {
         self.0.prepend_value(writer);
     }
-}
-
-/// Reads all that is left as one encoding: `TrailingData` if bytes follow it. `Failed` on a reader that has failed.
-#[inline(always)]
-pub fn decode_whole<'a, T: Decode<&'a [u8], M>, M: Memory, R: Reader<&'a [u8]>>(
-    memory: M,
-    reader: &mut R,
-) -> Result<T>
-    ensures { let may = AllocatesAtFront T.Decode.may_allocate in
-        ReadsWhole T.value (alone T.read_front) may result (R.left reader.old) (R.left reader.new) }
-{
-    let value = T::decode(memory, reader)?;
-    reader.finish()?;
-    Ok(value)
-}
-
-/// Reads all that is left as one encoding, or as none if nothing is left: `TrailingData` if bytes follow the encoding.
-/// `Failed` on a reader that has failed.
-#[inline(always)]
-pub fn decode_last<'a, T: Decode<&'a [u8], M>, M: Memory, R: Reader<&'a [u8]>>(
-    memory: M,
-    reader: &mut R,
-) -> Result<Option<T>>
-    ensures { let may = AllocatesLast T.Decode.may_allocate in
-        let before = R.left reader.old in
-        ReadsWhole (option_map T.value) (last T.read_front) may result before (R.left reader.new) }
-{
-    if reader.peek_octet().is_none() {
-        reader.finish()?;
-        return Ok(None);
-    }
-    let value = decode_whole(memory, reader)?;
-    Ok(Some(value))
 }

@@ -14,11 +14,8 @@ use crate::decode::DecodeValue;
 use crate::encode::EncodeValue;
 use crate::error::{Error, ErrorKind, Result};
 use crate::grammar::{Contents, EqualByValue, TagMarker, TaggedBy};
-use crate::header::Header;
 use crate::length::Length;
 use crate::memory::Memory;
-use crate::quick::quick_contents;
-use crate::reader::Reader;
 use crate::tag::Tag;
 use crate::writer::Writer;
 
@@ -120,23 +117,9 @@ impl<'a, M: Memory> DecodeValue<&'a [u8], M> for OctetStringRef<'a> {
 
     ghost asks_memory = { nothing_asked };
 
-    fn decode_value<R: Reader<&'a [u8]>>(
-        _memory: M,
-        reader: &mut R,
-        header: Header,
-    ) -> Result<OctetStringRef<'a>> {
-        let bytes = reader.read_slice(header.length)?;
-        Ok(OctetStringRef { bytes })
-    }
-
     #[inline(always)]
-    fn quick_split(bytes: &'a [u8], tag: Tag) -> Option<(&'a [u8], &'a [u8])> {
-        quick_contents(bytes, tag)
-    }
-
-    #[inline(always)]
-    fn quick_value(_memory: M, contents: &'a [u8]) -> Option<OctetStringRef<'a>> {
-        Some(OctetStringRef { bytes: contents })
+    fn read_value(_memory: M, contents: &'a [u8]) -> Result<OctetStringRef<'a>> {
+        Ok(OctetStringRef { bytes: contents })
     }
 }
 

@@ -1,11 +1,11 @@
 //! An OPTIONAL part in front of an OPTIONAL last one.
-ghost use Rattle.std.specs.Prelude.{◌≡◌, ◌⊎◌, IsSome, Option, false, option_map};
+ghost use Rattle.std.specs.Prelude.{◌≡◌, ◌≤◌, ◌⊎◌, Option, false, length, option_map};
 ghost use Rattle.standard.specs.Statement as standard;
 ghost use Rattle.der_core.specs.declared.error.ErrorKind.TheVariants as kinds;
-ghost use Rattle.der_core.specs.Words.{AllocatesInParts, AllocatesLast, Optional, Prints, ReadsWhole, Tlv, last, last_alike, last_part_asks_as_it, last_shortest, optional_alike, optional_front, optional_last_law, parts, parts_ask_as_each, row, row_alike, row_shortest, tagged, tagged_alike, tagged_shortest, unless, unless_alike, unless_shortest};
+ghost use Rattle.der_core.specs.Words.{AllocatesInParts, AllocatesLast, Optional, Prints, Returns, Tlv, last, last_alike, last_part_asks_as_it, last_shortest, limit, optional_alike, optional_front, optional_last_law, parts, parts_ask_as_each, row, row_alike, row_shortest, tagged, tagged_alike, tagged_shortest, unless, unless_alike, unless_shortest};
 
 use crate::back_writer::BackWriter;
-use crate::decode::{Decode, DecodeValue, decode_optional};
+use crate::decode::{Decode, DecodeValue, read_optional};
 use crate::encode::{Encode, EncodeValue, joined_len};
 use crate::error::{Error, ErrorKind, Result};
 use crate::grammar::{Contents, Encoding, FixedTag};
@@ -14,7 +14,6 @@ use crate::length::Length;
 use crate::memory::Memory;
 use crate::optional_part::OptionalThen;
 use crate::parts::DecodeParts;
-use crate::reader::Reader;
 use crate::tag::Tag;
 use crate::writer::Writer;
 
@@ -52,21 +51,20 @@ impl<T: Contents + FixedTag, A: Encoding> Contents for OptionalThen<T, Last<A>> 
 
 /// Reads the last part behind a part with this tag: `Value` of the tag if it may begin with that too.
 #[inline(always)]
-fn decode_last_behind<'a, A: Decode<&'a [u8], M>, M: Memory, R: Reader<&'a [u8]>>(
+fn read_last_behind<'a, A: Decode<&'a [u8], M>, M: Memory>(
     memory: M,
-    reader: &mut R,
+    bytes: &'a [u8],
     tag: Tag,
 ) -> Result<Last<A>>
-    requires { IsSome (R.left reader.old) }
-    ensures { let before = R.left reader.old in
-        let read = unless (A.starts.with tag.octet) (kinds.Value tag) (last A.read_front) in
-        ReadsWhole (λ l. option_map A.value l.0) read (AllocatesLast A.Decode.may_allocate) result before
-        (R.left reader.new) }
+    requires { length bytes.now ≤ limit }
+    ensures { let read = unless (A.starts.with tag.octet) (kinds.Value tag) (last A.read_front) in
+        let asked = AllocatesLast A.Decode.may_allocate bytes.now in
+        Returns (λ l. option_map A.value l.0) (read bytes.now) asked result }
 {
     if A::may_start_with(tag) {
-        return Err(reader.error(ErrorKind::Value { tag }));
+        return Err(Error::new(ErrorKind::Value { tag }));
     }
-    Last::decode_parts(memory, reader)
+    Last::read_parts(memory, bytes)
 }
 
 impl<'a, M, T, A> DecodeParts<&'a [u8], M> for OptionalThen<T, Last<A>>
@@ -84,31 +82,10 @@ where
         (last_part_asks_as_it A.Decode.asks_memory) };
 
     #[inline(always)]
-    fn decode_parts<R: Reader<&'a [u8]>>(
-        memory: M,
-        reader: &mut R,
-    ) -> Result<OptionalThen<T, Last<A>>> {
-        let part = decode_optional(memory, reader)?;
-        let rest = decode_last_behind(memory, reader, T::TAG)?;
+    fn read_parts(memory: M, contents: &'a [u8]) -> Result<OptionalThen<T, Last<A>>> {
+        let (part, behind) = read_optional(memory, contents)?;
+        let rest = read_last_behind(memory, behind, T::TAG)?;
         Ok(OptionalThen(part, rest))
-    }
-
-    #[inline(always)]
-    fn quick_parts(memory: M, contents: &'a [u8]) -> Option<OptionalThen<T, Last<A>>> {
-        if A::may_start_with(T::TAG) {
-            return None;
-        }
-        match contents {
-            [first, ..] if *first == T::TAG.octet() => {
-                let (part, behind) = T::quick(memory, contents)?;
-                let rest = Last::quick_parts(memory, behind)?;
-                Some(OptionalThen(Some(part), rest))
-            }
-            _ => {
-                let rest = Last::quick_parts(memory, contents)?;
-                Some(OptionalThen(None, rest))
-            }
-        }
     }
 }
 

@@ -1,18 +1,17 @@
 //! An OPTIONAL part in front of others, which is known by its tag.
-ghost use Rattle.std.specs.Prelude.{◌≡◌, ◌⊎◌, IsSome, Option, false, option_map};
+ghost use Rattle.std.specs.Prelude.{◌≡◌, ◌≤◌, ◌⊎◌, Option, false, length, option_map};
 ghost use Rattle.standard.specs.Statement as standard;
 ghost use Rattle.der_core.specs.declared.error.ErrorKind.TheVariants as kinds;
-ghost use Rattle.der_core.specs.Words.{AllocatesInParts, Optional, Prints, ReadsWhole, Tlv, last_shortest, optional_alike, optional_front, optional_part_law, parts, parts_ask_as_each, row, row_alike, row_law, row_shortest, tagged, tagged_alike, tagged_shortest, unless, unless_alike, unless_shortest};
+ghost use Rattle.der_core.specs.Words.{AllocatesInParts, Optional, Prints, Returns, Tlv, last_shortest, limit, optional_alike, optional_front, optional_part_law, parts, parts_ask_as_each, row, row_alike, row_law, row_shortest, tagged, tagged_alike, tagged_shortest, unless, unless_alike, unless_shortest};
 
 use crate::back_writer::BackWriter;
-use crate::decode::{Decode, DecodeValue, decode_optional};
+use crate::decode::{Decode, DecodeValue, read_optional};
 use crate::encode::{Encode, EncodeValue, joined_len};
 use crate::error::{Error, ErrorKind, Result};
 use crate::grammar::{Contents, Encoding, FixedTag};
 use crate::length::Length;
 use crate::memory::Memory;
 use crate::parts::DecodeParts;
-use crate::reader::Reader;
 use crate::tag::Tag;
 use crate::writer::Writer;
 
@@ -55,24 +54,19 @@ impl<T: Contents + FixedTag, A: Encoding, B: Contents> Contents for OptionalThen
 
 /// Reads the row behind a part with this tag: `Value` of the tag if the row may begin with it too.
 #[inline(always)]
-fn decode_behind<'a, A, B, M: Memory, R: Reader<&'a [u8]>>(
-    memory: M,
-    reader: &mut R,
-    tag: Tag,
-) -> Result<(A, B)>
+fn read_behind<'a, A, B, M: Memory>(memory: M, bytes: &'a [u8], tag: Tag) -> Result<(A, B)>
 where
     A: Decode<&'a [u8], M>,
     B: DecodeParts<&'a [u8], M>,
-    requires { IsSome (R.left reader.old) }
-    ensures { let before = R.left reader.old in
-        let may = ⟦<(A, B) as DecodeParts<&'a [u8], M>>⟧.may_allocate in
+    requires { length bytes.now ≤ limit }
+    ensures { let may = ⟦<(A, B) as DecodeParts<&'a [u8], M>>⟧.may_allocate in
         let read = unless (A.starts.with tag.octet) (kinds.Value tag) (parts A.read_front B.read) in
-        ReadsWhole (λ p. (A.value p.0, B.value p.1)) read may result before (R.left reader.new) }
+        Returns (λ p. (A.value p.0, B.value p.1)) (read bytes.now) (may bytes.now) result }
 {
     if A::may_start_with(tag) {
-        return Err(reader.error(ErrorKind::Value { tag }));
+        return Err(Error::new(ErrorKind::Value { tag }));
     }
-    <(A, B)>::decode_parts(memory, reader)
+    <(A, B)>::read_parts(memory, bytes)
 }
 
 impl<'a, M, T, A, B> DecodeParts<&'a [u8], M> for OptionalThen<T, (A, B)>
@@ -93,31 +87,10 @@ where
         (parts_ask_as_each second A.Decode.asks_memory B.DecodeParts.asks_memory) };
 
     #[inline(always)]
-    fn decode_parts<R: Reader<&'a [u8]>>(
-        memory: M,
-        reader: &mut R,
-    ) -> Result<OptionalThen<T, (A, B)>> {
-        let part = decode_optional(memory, reader)?;
-        let rest = decode_behind(memory, reader, T::TAG)?;
+    fn read_parts(memory: M, contents: &'a [u8]) -> Result<OptionalThen<T, (A, B)>> {
+        let (part, behind) = read_optional(memory, contents)?;
+        let rest = read_behind(memory, behind, T::TAG)?;
         Ok(OptionalThen(part, rest))
-    }
-
-    #[inline(always)]
-    fn quick_parts(memory: M, contents: &'a [u8]) -> Option<OptionalThen<T, (A, B)>> {
-        if A::may_start_with(T::TAG) {
-            return None;
-        }
-        match contents {
-            [first, ..] if *first == T::TAG.octet() => {
-                let (part, behind) = T::quick(memory, contents)?;
-                let rest = <(A, B)>::quick_parts(memory, behind)?;
-                Some(OptionalThen(Some(part), rest))
-            }
-            _ => {
-                let rest = <(A, B)>::quick_parts(memory, contents)?;
-                Some(OptionalThen(None, rest))
-            }
-        }
     }
 }
 

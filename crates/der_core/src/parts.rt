@@ -1,36 +1,28 @@
 //! Parts of contents in a row, as a type: a nested pair that ends with `()`, as `(A, (B, ()))`, or with an OPTIONAL last
 //! part, as `(A, Last<B>)`. A row is written as contents, `(Borrowed(&self.a), (Borrowed(&self.b), ())).value_len()`.
-ghost use Rattle.std.specs.Prelude.{◌≡◌, ◌⊎◌, List, [], ℕ, Ok, IfSome};
-ghost use Rattle.der_core.specs.Words.{AllocatesInParts, Prints, ReadsWhole, end_law, no_parts, nothing_asked, one_spelling_shortest, parts, parts_ask_as_each, reading_alike, row, row_alike, row_law, row_shortest};
+ghost use Rattle.std.specs.Prelude.{◌≤◌, ◌⊎◌, List, [], ℕ, length};
+ghost use Rattle.der_core.specs.Words.{AllocatesInParts, Prints, Returns, end_law, limit, no_parts, nothing_asked, one_spelling_shortest, parts, parts_ask_as_each, reading_alike, row, row_alike, row_law, row_shortest};
 
 use crate::back_writer::BackWriter;
 use crate::decode::Decode;
 use crate::encode::{Encode, EncodeValue, joined_len};
-use crate::error::Result;
+use crate::error::{Error, ErrorKind, Result};
 use crate::grammar::{Contents, Encoding};
 use crate::length::Length;
 use crate::memory::Memory;
-use crate::reader::{Octets, Reader};
+use crate::reader::Octets;
 use crate::writer::Writer;
 
-/// Contents that are read to the end of what is left. Of these the type's `read` gives the value, or the kind of the
-/// first fault. Calls return that, or `OutOfMemory` where the type may allocate.
+/// Parts that are read from contents. Of these the type's `read` gives the value, or the kind of the first fault. Calls
+/// return that, or `OutOfMemory` where the type may allocate.
 pub trait DecodeParts<B: Octets, M: Memory>: Contents + Sized + Drop {
     /// The contents whose reading may allocate.
     ghost may_allocate: { List ℕ → Type 0 };
 
-    /// Reads all that is left as the contents octets of a value. Err: the first fault, or `OutOfMemory`.
-    fn decode_parts<R: Reader<B>>(memory: M, reader: &mut R) -> Result<Self>
-        ensures { let before = R.left reader.old in
-            ReadsWhole Self.value Self.read may_allocate result before (R.left reader.new) };
-
-    /// The value that reading gives of all of these contents octets. `None` says nothing of them.
-    #[inline(always)]
-    fn quick_parts(_memory: M, _contents: B) -> Option<Self>
-        ensures { IfSome result (λ x. Self.read (B.octets _contents) ≡ Ok (Self.value x)) }
-    {
-        None
-    }
+    /// The value of these contents octets, at most `Length::MAX`. Err: the first fault, or `OutOfMemory`.
+    fn read_parts(memory: M, contents: B) -> Result<Self>
+        requires { length (B.octets contents) ≤ limit }
+        ensures { let c = B.octets contents in Returns Self.value (Self.read c) (may_allocate c) result };
 
     /// Memory is asked for only where there is any.
     ghost asks_memory: { (c : List ℕ) → Self.may_allocate c → M.gives };
@@ -94,13 +86,12 @@ impl<'a, M: Memory> DecodeParts<&'a [u8], M> for () {
     ghost asks_memory = { nothing_asked };
 
     #[inline(always)]
-    fn decode_parts<R: Reader<&'a [u8]>>(_memory: M, reader: &mut R) -> Result<()> {
-        reader.finish()
-    }
-
-    #[inline(always)]
-    fn quick_parts(_memory: M, contents: &'a [u8]) -> Option<()> {
-        if contents.is_empty() { Some(()) } else { None }
+    fn read_parts(_memory: M, contents: &'a [u8]) -> Result<()> {
+        if contents.is_empty() {
+            Ok(())
+        } else {
+            Err(Error::new(ErrorKind::TrailingData))
+        }
     }
 }
 
@@ -113,21 +104,10 @@ impl<'a, M: Memory, A: Decode<&'a [u8], M>, B: DecodeParts<&'a [u8], M>> DecodeP
         parts_ask_as_each first A.Decode.asks_memory B.DecodeParts.asks_memory };
 
     #[inline(always)]
-    fn decode_parts<R: Reader<&'a [u8]>>(memory: M, reader: &mut R) -> Result<(A, B)> {
-        let first = A::decode(memory, reader)?;
-        let rest = B::decode_parts(memory, reader)?;
+    fn read_parts(memory: M, contents: &'a [u8]) -> Result<(A, B)> {
+        let (first, behind) = A::read_one(memory, contents)?;
+        let rest = B::read_parts(memory, behind)?;
         Ok((first, rest))
-    }
-
-    #[inline(always)]
-    fn quick_parts(memory: M, contents: &'a [u8]) -> Option<(A, B)> {
-        match A::quick(memory, contents) {
-            Some((first, behind)) => match B::quick_parts(memory, behind) {
-                Some(rest) => Some((first, rest)),
-                None => None,
-            },
-            None => None,
-        }
     }
 }
 

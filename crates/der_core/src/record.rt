@@ -9,12 +9,9 @@ use crate::decode::DecodeValue;
 use crate::encode::EncodeValue;
 use crate::error::Result;
 use crate::grammar::Contents;
-use crate::header::Header;
 use crate::length::{Length, UNTOLD};
 use crate::memory::Memory;
 use crate::parts::DecodeParts;
-use crate::quick::quick_contents;
-use crate::reader::Reader;
 use crate::tag::Tag;
 use crate::writer::Writer;
 
@@ -44,22 +41,9 @@ where
     ghost asks_memory = { T.Parts.DecodeParts.asks_memory };
 
     #[inline(always)]
-    fn decode_value<R: Reader<&'a [u8]>>(memory: M, reader: &mut R, _header: Header) -> Result<T> {
-        let parts = T::Parts::decode_parts(memory, reader)?;
+    fn read_value(memory: M, contents: &'a [u8]) -> Result<T> {
+        let parts = T::Parts::read_parts(memory, contents)?;
         Ok(T::from_parts(parts))
-    }
-
-    #[inline(always)]
-    fn quick_split(bytes: &'a [u8], tag: Tag) -> Option<(&'a [u8], &'a [u8])> {
-        quick_contents(bytes, tag)
-    }
-
-    #[inline(always)]
-    fn quick_value(memory: M, contents: &'a [u8]) -> Option<T> {
-        match T::Parts::quick_parts(memory, contents) {
-            Some(parts) => Some(T::from_parts(parts)),
-            None => None,
-        }
     }
 }
 

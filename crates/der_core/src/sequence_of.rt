@@ -6,12 +6,9 @@ ghost use Rattle.der_core.specs.Words.{limit, free_of, Prepends, RefusedAs, Tell
 use crate::back_writer::BackWriter;
 use crate::decode::{Decode, DecodeValue};
 use crate::encode::{Encode, EncodeValue, joined_len};
-use crate::error::{ErrorKind, Result};
+use crate::error::{Error, ErrorKind, Result};
 use crate::grammar::{Contents, Encoding, SequenceTag, TaggedBy};
-use crate::header::Header;
 use crate::length::{Length, UNTOLD};
-use crate::quick::quick_contents;
-use crate::reader::Reader;
 use crate::tag::Tag;
 use crate::writer::Writer;
 use std::alloc::Global;
@@ -51,35 +48,17 @@ impl<'a, T: Decode<&'a [u8], Global>> DecodeValue<&'a [u8], Global> for Vec<T> {
 
     ghost asks_memory = { λ _ _. tt };
 
-    fn decode_value<R: Reader<&'a [u8]>>(
-        memory: Global,
-        reader: &mut R,
-        _header: Header,
-    ) -> Result<Vec<T>> {
-        let mut items = Vec::new(memory);
-        while reader.peek_octet().is_some() {
-            let item = T::decode(memory, reader)?;
-            if items.push(item).is_err() {
-                return Err(reader.error(ErrorKind::OutOfMemory));
-            }
-        }
-        Ok(items)
-    }
-
-    #[inline(always)]
-    fn quick_split(bytes: &'a [u8], tag: Tag) -> Option<(&'a [u8], &'a [u8])> {
-        quick_contents(bytes, tag)
-    }
-
-    fn quick_value(memory: Global, contents: &'a [u8]) -> Option<Vec<T>> {
+    fn read_value(memory: Global, contents: &'a [u8]) -> Result<Vec<T>> {
         let mut items = Vec::new(memory);
         let mut left = contents;
         while !left.is_empty() {
-            let (item, behind) = T::quick(memory, left)?;
-            items.push(item).ok()?;
+            let (item, behind) = T::read_one(memory, left)?;
+            if items.push(item).is_err() {
+                return Err(Error::new(ErrorKind::OutOfMemory));
+            }
             left = behind;
         }
-        Some(items)
+        Ok(items)
     }
 }
 

@@ -3,13 +3,10 @@ ghost use Rattle.standard.specs.Statement as standard;
 ghost use Rattle.der_core.specs.Words.{AllocatesAtFront, DecodesOrMemory, InFront, Prints, Returns, Spells, WithinLimit, limited};
 
 use crate::decode::{Decode, DecodeValue};
-use crate::error::Result;
+use crate::error::{Error, ErrorKind, Result};
 use crate::grammar::FixedTag;
-use crate::header::Header;
 use crate::length::Length;
 use crate::memory::Memory;
-use crate::reader::Reader;
-use crate::slice_reader::SliceReader;
 
 /// Reads a whole slice as the contents octets behind a header, whose tag is the caller's to compare. Ok only if they
 /// are those of a value, and of no other: then this value. Err: the first fault, `Overflow` if they are more than
@@ -24,30 +21,10 @@ pub fn read_contents<'a, T: DecodeValue<&'a [u8], M> + FixedTag, M: Memory>(
     ensures exact { let asked = T.DecodeValue.may_allocate contents.now in
         Returns T.value (limited T.read contents.now) asked result }
 {
-    if contents.len() <= Length::MAX.to_usize() {
-        if let Some(value) = T::quick_value(memory, contents) {
-            return Ok(value);
-        }
+    if contents.len() > Length::MAX.to_usize() {
+        return Err(Error::new(ErrorKind::Overflow));
     }
-    read_contents_slowly(memory, contents)
-}
-
-/// Reads contents octets part by part.
-#[cold]
-#[inline(never)]
-fn read_contents_slowly<'a, T: DecodeValue<&'a [u8], M> + FixedTag, M: Memory>(
-    memory: M,
-    contents: &'a [u8],
-) -> Result<T>
-    ensures { let asked = T.DecodeValue.may_allocate contents.now in
-        Returns T.value (limited T.read contents.now) asked result }
-{
-    let mut reader = SliceReader::new(contents)?;
-    let header = Header {
-        tag: T::TAG,
-        length: reader.remaining_len(),
-    };
-    T::decode_value(memory, &mut reader, header)
+    T::read_value(memory, contents)
 }
 
 /// Reads the encoding at the front of a slice. Ok only if the slice begins with one, and with no other: then its value,
@@ -64,25 +41,8 @@ pub fn read_front<'a, T: Decode<&'a [u8], M>, M: Memory>(
     ensures exact { let asked = AllocatesAtFront T.Decode.may_allocate bytes.now in
         Returns (λ r. (T.value r.0, r.1.now)) (limited T.read_front bytes.now) asked result }
 {
-    if bytes.len() <= Length::MAX.to_usize() {
-        if let Some(split) = T::quick(memory, bytes) {
-            return Ok(split);
-        }
+    if bytes.len() > Length::MAX.to_usize() {
+        return Err(Error::new(ErrorKind::Overflow));
     }
-    read_front_slowly(memory, bytes)
-}
-
-/// Reads the encoding at the front part by part.
-#[cold]
-#[inline(never)]
-fn read_front_slowly<'a, T: Decode<&'a [u8], M>, M: Memory>(
-    memory: M,
-    bytes: &'a [u8],
-) -> Result<(T, &'a [u8])>
-    ensures { let asked = AllocatesAtFront T.Decode.may_allocate bytes.now in
-        Returns (λ r. (T.value r.0, r.1.now)) (limited T.read_front bytes.now) asked result }
-{
-    let mut reader = SliceReader::new(bytes)?;
-    let value = T::decode(memory, &mut reader)?;
-    Ok((value, reader.rest()))
+    T::read_one(memory, bytes)
 }

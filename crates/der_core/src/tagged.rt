@@ -7,11 +7,8 @@ use crate::decode::DecodeValue;
 use crate::encode::EncodeValue;
 use crate::error::Result;
 use crate::grammar::{Contents, TagMarker, TaggedBy};
-use crate::header::Header;
 use crate::length::Length;
 use crate::memory::Memory;
-use crate::quick::quick_contents;
-use crate::reader::Reader;
 use crate::tag::Tag;
 use crate::writer::Writer;
 use std::marker::PhantomData;
@@ -76,26 +73,10 @@ impl<'a, K: TagMarker + Drop, M: Memory, C: DecodeValue<&'a [u8], M>> DecodeValu
 
     ghost asks_memory = { C.DecodeValue.asks_memory };
 
-    fn decode_value<R: Reader<&'a [u8]>>(
-        memory: M,
-        reader: &mut R,
-        header: Header,
-    ) -> Result<Tagged<K, C>> {
-        let contents = C::decode_value(memory, reader, header)?;
+    #[inline(always)]
+    fn read_value(memory: M, contents: &'a [u8]) -> Result<Tagged<K, C>> {
+        let contents = C::read_value(memory, contents)?;
         Ok(Tagged::new(contents))
-    }
-
-    #[inline(always)]
-    fn quick_split(bytes: &'a [u8], tag: Tag) -> Option<(&'a [u8], &'a [u8])> {
-        quick_contents(bytes, tag)
-    }
-
-    #[inline(always)]
-    fn quick_value(memory: M, contents: &'a [u8]) -> Option<Tagged<K, C>> {
-        match C::quick_value(memory, contents) {
-            Some(contents) => Some(Tagged::new(contents)),
-            None => None,
-        }
     }
 }
 

@@ -9,8 +9,8 @@ use crate::identifier_view::{IdentifierValue, IdentifierView};
 use crate::object_identifier::{AssociatedOid, ObjectIdentifier};
 use der_core::{
     BackWriter, Contents, Decode, DecodeParts, DecodeValue, Encode, EncodeValue, Encoding,
-    EqualByValue, Error, ErrorKind, Header, Last, Length, Memory, Reader, Result, SequenceTag, Tag,
-    TaggedBy, TryClone, Writer, quick_short,
+    EqualByValue, Error, ErrorKind, Last, Length, Memory, Result, SequenceTag, TaggedBy, TryClone,
+    Writer,
 };
 use std::alloc::Global;
 use std::fmt;
@@ -94,28 +94,9 @@ impl<'a, M: Memory, O: ReadIdentifier<'a>, P: Decode<&'a [u8], M>> DecodeValue<&
     ghost asks_memory = { algorithm_asks_as_parameters P.Decode.asks_memory };
 
     #[inline(always)]
-    fn decode_value<R: Reader<&'a [u8]>>(
-        memory: M,
-        reader: &mut R,
-        _header: Header,
-    ) -> Result<AlgorithmIdentifierOf<O, P>> {
-        let (oid, Last(parameters)) = <(IdentifierView<'a>, Last<P>)>::decode_parts(
-            memory, reader,
-        )?;
+    fn read_value(memory: M, contents: &'a [u8]) -> Result<AlgorithmIdentifierOf<O, P>> {
+        let (oid, Last(parameters)) = <(IdentifierView<'a>, Last<P>)>::read_parts(memory, contents)?;
         Ok(O::algorithm_from_view(AlgorithmView { oid, parameters }))
-    }
-
-    #[inline(always)]
-    fn quick_split(bytes: &'a [u8], tag: Tag) -> Option<(&'a [u8], &'a [u8])> {
-        quick_short(bytes, tag)
-    }
-
-    #[inline(always)]
-    fn quick_value(memory: M, contents: &'a [u8]) -> Option<AlgorithmIdentifierOf<O, P>> {
-        let (oid, Last(parameters)) = <(IdentifierView<'a>, Last<P>)>::quick_parts(
-            memory, contents,
-        )?;
-        Some(O::algorithm_from_view(AlgorithmView { oid, parameters }))
     }
 }
 

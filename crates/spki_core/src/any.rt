@@ -1,6 +1,6 @@
 //! Encodings of any tag.
-ghost use Rattle.std.specs.Prelude.{◌≡◌, ◌≤◌, ◌<◌, ℕ, [], length, slice_index, refl, true, ⊤, IfOk, IsOk, IfErr, IsTrue};
-ghost use Rattle.der_core.specs.Words.{NoValueOrMemory, Prints, ReadsFront, Returns, front_alike, is_allowed, limit, nothing_asked, one_spelling_shortest, starts_with_any};
+ghost use Rattle.std.specs.Prelude.{◌≡◌, ◌≤◌, ◌<◌, ℕ, [], length, slice_get, slice_index, refl, true, ⊤, Some, Err, IfOk, IsOk, IfErr, IsTrue};
+ghost use Rattle.der_core.specs.Words.{NoValueOrMemory, Prints, Returns, front_alike, is_allowed, limit, nothing_asked, one_spelling_shortest, starts_with_any};
 ghost use Rattle.spki_core.specs.Readings.{any_as, any_front};
 ghost use Rattle.spki_core.specs.Identifiers.{TagAndContents, null_value};
 ghost use Rattle.spki_core.specs.Laws.Printed.Readings.{any_law};
@@ -11,8 +11,7 @@ use crate::context_specific::short_len;
 use crate::wide_tag::WideTag;
 use der_core::{
     BackWriter, Decode, DecodeValue, Encode, Encoding, EqualByValue, Error, ErrorKind, FixedTag,
-    Header, Length, Memory, Reader, Result, SliceReader, Tag, TryClone, Writer, quick_any,
-    read_contents,
+    Header, Length, Memory, Reader, Result, Tag, TryClone, Writer, read_contents, split_encoding,
 };
 use std::alloc::Global;
 use std::fmt;
@@ -157,38 +156,31 @@ impl<'a, M: Memory> Decode<&'a [u8], M> for AnyRef<'a> {
     ghost asks_memory = { nothing_asked };
 
     #[inline(always)]
+    fn read_one(_memory: M, bytes: &'a [u8]) -> Result<(AnyRef<'a>, &'a [u8])> {
+        let tag = first_tag(bytes)?;
+        let (contents, rest) = split_encoding(bytes, tag)?;
+        let tag = WideTag::of(tag);
+        Ok((AnyRef { tag, contents }, rest))
+    }
+
     fn decode<R: Reader<&'a [u8]>>(_memory: M, reader: &mut R) -> Result<AnyRef<'a>> {
-        read_any(reader)
-    }
-
-    #[inline(always)]
-    fn quick(_memory: M, bytes: &'a [u8]) -> Option<(AnyRef<'a>, &'a [u8])> {
-        let (tag, contents, rest) = quick_any(bytes)?;
-        match AnyRef::new(tag, contents) {
-            Ok(any) => Some((any, rest)),
-            Err(_) => None,
-        }
-    }
-
-    fn from_der(_memory: M, bytes: &'a [u8]) -> Result<AnyRef<'a>> {
-        let mut reader = SliceReader::new(bytes)?;
-        let any = read_any(&mut reader)?;
-        reader.finish()?;
-        Ok(any)
+        let header = Header::decode(reader)?;
+        let contents = reader.read_slice(header.length)?;
+        let tag = WideTag::of(header.tag);
+        Ok(AnyRef { tag, contents })
     }
 }
 
+/// The tag in front. `Incomplete` of no byte, `TagUnknown` of an octet that isn't supported.
 #[inline(always)]
-fn read_any<'a, R: Reader<&'a [u8]>>(reader: &mut R) -> Result<AnyRef<'a>>
-    ensures { ReadsFront (λ (held : AnyRef). record { tag = held.tag.octet; contents = held.contents.now })
-        any_front (λ _. ⊥) result (R.left reader.old) (R.left reader.new) }
+fn first_tag(bytes: &[u8]) -> Result<Tag>
+    ensures ok { IfOk result (λ tag. slice_get bytes.now 0 ≡ Some tag.octet) }
+    ensures err { IfErr result (λ e. any_front bytes.now ≡ Err e.kind) }
 {
-    let header = Header::decode(reader)?;
-    let contents = reader.read_slice(header.length)?;
-    Ok(AnyRef {
-        tag: WideTag::of(header.tag),
-        contents,
-    })
+    match bytes {
+        [octet, ..] => Tag::from_octet(*octet),
+        [] => Err(Error::new(ErrorKind::Incomplete)),
+    }
 }
 
 impl Encode for AnyRef<'_> {

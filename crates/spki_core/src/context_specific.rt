@@ -1,11 +1,11 @@
 //! Values inside explicit context-specific tags (X.690 8.14.2).
 ghost use Rattle.std.specs.Prelude.{◌≡◌, ◌≤◌, ◌+◌, true, option_map};
-ghost use Rattle.der_core.specs.Words.{context_octet, limit, tlv_len, Tlv, ReadsFront, alone, optional_front, tagged, AllocatesAtFront, TellsNext, starts_with_any};
+ghost use Rattle.der_core.specs.Words.{context_octet, limit, tlv_len, ReadsFront, optional_front, starts_with_any};
 ghost use Rattle.spki_core.specs.Words.{FieldAllocates, explicit, numbered, Numbered, HasNumbered, numbered_alike, numbered_law, numbered_map, numbered_some, numbered_writes_shortest, written_numbered};
 
 use der_core::{
-    BackWriter, Decode, Encode, Encoding, ErrorKind, Header, Length, Memory, Reader, Result, Tag,
-    TagNumber, UNTOLD, Writer, decode_whole, is_tag_next,
+    BackWriter, Containing, Decode, Encode, Encoding, Header, Length, Memory, Reader, Result, Tag,
+    TagNumber, UNTOLD, Writer, decode_tagged, is_tag_next,
 };
 
 /// A borrowed value that is written inside the tag `[tag_number]`.
@@ -106,14 +106,6 @@ impl<'b, T: Encode> Encode for ContextSpecificRef<'b, T> {
     }
 }
 
-/// Whether the next octet is that of the field's tag. Nothing is read. `Failed` on a reader that has failed.
-#[inline(always)]
-pub fn is_field_next<'a, R: Reader<&'a [u8]>>(reader: &mut R, number: TagNumber) -> Result<bool>
-    ensures { TellsNext (context_octet number.value) result (R.left reader.old) (R.left reader.new) }
-{
-    is_tag_next(reader, Tag::context(number))
-}
-
 /// Reads an explicit field if the next octet is that of its tag, else returns `None` and reads nothing. `TrailingData`
 /// if bytes follow the encoding inside the tag. `Failed` on a reader that has failed.
 pub fn read_context_specific<'a, T: Decode<&'a [u8], M>, M: Memory, R: Reader<&'a [u8]>>(
@@ -126,48 +118,10 @@ pub fn read_context_specific<'a, T: Decode<&'a [u8], M>, M: Memory, R: Reader<&'
         let at = optional_front tag (explicit number.value T.read_front) in
         ReadsFront (option_map T.value) at may result (R.left reader.old) (R.left reader.new) }
 {
-    if !is_field_next(reader, number)? {
+    let tag = Tag::context(number);
+    if !is_tag_next(reader, tag)? {
         return Ok(None);
     }
-    let value = read_explicit(memory, reader, number)?;
+    let Containing(value) = decode_tagged(memory, reader, tag)?;
     Ok(Some(value))
-}
-
-/// Reads the tag of a field with one encoding inside.
-#[inline(always)]
-pub fn read_explicit<'a, T: Decode<&'a [u8], M>, M: Memory, R: Reader<&'a [u8]>>(
-    memory: M,
-    reader: &mut R,
-    number: TagNumber,
-) -> Result<T>
-    ensures { let may = FieldAllocates number.value T.Decode.may_allocate in
-        let at = explicit number.value T.read_front in
-        ReadsFront T.value at may result (R.left reader.old) (R.left reader.new) }
-{
-    read_inside(memory, reader, Tag::context(number))
-}
-
-/// Reads a tag with one encoding inside.
-#[inline(always)]
-fn read_inside<'a, T: Decode<&'a [u8], M>, M: Memory, R: Reader<&'a [u8]>>(
-    memory: M,
-    reader: &mut R,
-    tag: Tag,
-) -> Result<T>
-    ensures { let may = Tlv tag.octet (AllocatesAtFront T.Decode.may_allocate) in
-        let at = tagged tag (alone T.read_front) in
-        ReadsFront T.value at may result (R.left reader.old) (R.left reader.new) }
-{
-    let header = Header::decode(reader)?;
-    if header.tag != tag {
-        return Err(reader.error(ErrorKind::TagUnexpected {
-            expected: tag,
-            actual: header.tag,
-        }));
-    }
-    let mut nested = reader.nested(header.length)?;
-    match decode_whole(memory, &mut nested) {
-        Ok(value) => Ok(value),
-        Err(e) => Err(reader.error(e.kind())),
-    }
 }

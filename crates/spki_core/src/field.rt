@@ -1,52 +1,53 @@
 //! Explicit fields with defaults (X.690 8.14.2, 11.5).
-ghost use Rattle.std.specs.Prelude.{◌≡◌, ◌≤◌, ◌+◌, ℕ, length, IfSome, Ok};
-ghost use Rattle.der_core.specs.Words.{limit, free_of, Prepends, Counts, Tells, Appends, context_octet, tlv, ReadsFront, OptionalRead, Prints, ReadsBy, ReadsFronts, Tlv, optional_front};
-ghost use Rattle.spki_core.specs.Words.{FieldAllocates, FieldRead, defaulted, explicit};
+ghost use Rattle.std.specs.Prelude.{◌≡◌, ◌≤◌, ◌+◌, ℕ, length, IfOk, option_map};
+ghost use Rattle.der_core.specs.Words.{limit, free_of, Prepends, Counts, Tells, AllocatesAtFront, Appends, Returns, context_octet, tlv, OptionalRead, Prints, ReadsBy, ReadsFronts, Tlv, optional_front};
+ghost use Rattle.spki_core.specs.Words.{FieldAllocates, FieldRead, defaulted, explicit, noted_on, tag_number_in};
 
-use crate::context_specific::{ContextSpecificRef, is_field_next, read_explicit};
+use crate::context_specific::ContextSpecificRef;
 use der_core::{
-    BackWriter, Decode, Encode, Encoding, Length, Memory, Reader, Result, Tag, TagNumber, Writer,
-    begins_with, quick_alone, quick_short,
+    BackWriter, Containing, Decode, Encode, Encoding, Length, Memory, Result, Tag, TagNumber, Writer,
+    begins_with, read_tagged,
 };
 
-/// Reads an explicit field, or returns its default if the next octet isn't that of its tag. If the default is costly to
-/// make, call `is_field_next` first. `Failed` on a reader that has failed.
+/// The value of an explicit field in front, or the default if the first octet isn't that of its tag, and what follows.
+/// Err: the first fault, or `OutOfMemory`.
 #[inline(always)]
-pub fn read_field<'a, T: Decode<&'a [u8], M>, M: Memory, R: Reader<&'a [u8]>>(
-    memory: M,
-    reader: &mut R,
-    number: TagNumber,
-    default: T,
-) -> Result<T>
-    ensures { let may = FieldAllocates number.value T.Decode.may_allocate in
-        let at = defaulted number.value T.read_front (T.value default) in
-        ReadsFront T.value at may result (R.left reader.old) (R.left reader.new) }
-{
-    if is_field_next(reader, number)? {
-        read_explicit(memory, reader, number)
-    } else {
-        Ok(default)
-    }
-}
-
-/// What `read_field` gives of a slice, with what follows it. `None` says nothing of the slice.
-#[inline(always)]
-pub fn quick_field<'a, T: Decode<&'a [u8], M>, M: Memory>(
+pub fn read_field<'a, T: Decode<&'a [u8], M>, M: Memory>(
     memory: M,
     bytes: &'a [u8],
     number: TagNumber,
     default: T,
-) -> Option<(T, &'a [u8])>
-    ensures { let at = defaulted number.value T.read_front (T.value default) in
-        IfSome result (λ split. at bytes.now ≡ Ok (T.value split.0, split.1.now)) }
+) -> Result<(T, &'a [u8])>
+    requires { length bytes.now ≤ limit }
+    ensures read { let at = defaulted number.value T.read_front (T.value default) in
+        let asked = AllocatesAtFront (FieldAllocates number.value T.Decode.may_allocate) bytes.now in
+        Returns (λ split. (T.value split.0, split.1.now)) (at bytes.now) asked result }
+    ensures rest { IfOk result (λ split. length split.1.now ≤ limit) }
 {
     let tag = Tag::context(number);
     if !begins_with(bytes, tag) {
-        return Some((default, bytes));
+        return Ok((default, bytes));
     }
-    let (contents, rest) = quick_short(bytes, tag)?;
-    let value = quick_alone(memory, contents)?;
-    Some((value, rest))
+    let (Containing(value), rest) = read_tagged(memory, bytes, tag)?;
+    Ok((value, rest))
+}
+
+/// What is noted behind a field: the first field that was noted, or this one, if it is there with its default.
+#[inline(always)]
+pub fn note(
+    noted: Option<TagNumber>,
+    number: TagNumber,
+    is_there: bool,
+    is_default: bool,
+) -> Option<TagNumber>
+    ensures { option_map tag_number_in result
+        ≡ noted_on number.value is_there is_default (option_map tag_number_in noted) }
+{
+    match noted {
+        Some(first) => Some(first),
+        None if is_there && is_default => Some(number),
+        None => None,
+    }
 }
 
 /// The length of a field as it is written. `Value` exactly if the value has no encoding, else `Overflow` exactly if
@@ -93,8 +94,8 @@ pub fn prepend_field<T: Encode>(tag_number: TagNumber, value: &T, writer: &mut B
     ContextSpecificRef { tag_number, value }.prepend(writer);
 }
 
-/// What `read_explicit` reads is a tag with one encoding inside, what `read_context_specific` reads is that, or nothing
-/// where the octet of the tag isn't next. In place of nothing, `read_field` gives the default.
+/// What `read_context_specific` reads is a tag with one encoding inside, or nothing where the octet of the tag isn't next.
+/// In place of nothing, `read_field` gives the default.
 pub fn lemma_fields_are_read<T: Encoding>()
     ensures explicit { (n : ℕ) → n ≤ 30
         → ReadsFronts (λ v. Tlv (context_octet n) (Prints T.valid T.printed T.means v)) (explicit n T.read_front) }

@@ -15,10 +15,8 @@ use crate::decode::DecodeValue;
 use crate::encode::EncodeValue;
 use crate::error::{ErrorKind, Result};
 use crate::grammar::{Contents, EqualByValue, IntegerTag, TaggedBy};
-use crate::header::Header;
 use crate::length::Length;
 use crate::memory::copy_of;
-use crate::reader::Reader;
 use crate::try_clone::TryClone;
 use crate::writer::Writer;
 use std::alloc::Global;
@@ -142,16 +140,9 @@ impl<'a> DecodeValue<&'a [u8], Global> for Uint {
 
     ghost asks_memory = { λ _ _. tt };
 
-    fn decode_value<R: Reader<&'a [u8]>>(
-        memory: Global,
-        reader: &mut R,
-        header: Header,
-    ) -> Result<Uint> {
-        let number = UintRef::decode_value(memory, reader, header)?;
-        match Uint::copy(memory, number) {
-            Ok(copy) => Ok(copy),
-            Err(e) => Err(reader.error(e.kind())),
-        }
+    fn read_value(memory: Global, contents: &'a [u8]) -> Result<Uint> {
+        let number = UintRef::read_value(memory, contents)?;
+        Uint::copy(memory, number)
     }
 }
 

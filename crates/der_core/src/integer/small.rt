@@ -7,12 +7,9 @@ use crate::decode::DecodeValue;
 use crate::encode::EncodeValue;
 use crate::error::{Error, ErrorKind, Result};
 use crate::grammar::{Contents, EqualByValue, IntegerTag, TaggedBy};
-use crate::header::Header;
 use crate::integer::uint::integer;
 use crate::length::Length;
 use crate::memory::Memory;
-use crate::quick::quick_short;
-use crate::reader::Reader;
 use crate::tag::Tag;
 use crate::writer::Writer;
 
@@ -71,26 +68,8 @@ impl<'a, M: Memory> DecodeValue<&'a [u8], M> for u8 {
     ghost asks_memory = { nothing_asked };
 
     #[inline(always)]
-    fn decode_value<R: Reader<&'a [u8]>>(_memory: M, reader: &mut R, header: Header) -> Result<u8> {
-        let contents = reader.read_slice(header.length)?;
-        match small(contents) {
-            Ok(value) => Ok(value),
-            Err(e) => Err(reader.error(e.kind())),
-        }
-    }
-
-    #[inline(always)]
-    fn quick_split(bytes: &'a [u8], tag: Tag) -> Option<(&'a [u8], &'a [u8])> {
-        quick_short(bytes, tag)
-    }
-
-    #[inline(always)]
-    fn quick_value(_memory: M, contents: &'a [u8]) -> Option<u8> {
-        match contents {
-            [value] if *value < 0x80 => Some(*value),
-            [0, value] if *value >= 0x80 => Some(*value),
-            _ => None,
-        }
+    fn read_value(_memory: M, contents: &'a [u8]) -> Result<u8> {
+        small(contents)
     }
 }
 

@@ -15,11 +15,8 @@ use crate::decode::DecodeValue;
 use crate::encode::EncodeValue;
 use crate::error::{Error, ErrorKind, Result};
 use crate::grammar::{Contents, Encoding, EqualByValue, IntegerTag, TaggedBy};
-use crate::header::Header;
 use crate::length::Length;
 use crate::memory::Memory;
-use crate::quick::quick_contents;
-use crate::reader::Reader;
 use crate::tag::Tag;
 use crate::try_clone::TryClone;
 use crate::writer::Writer;
@@ -227,34 +224,9 @@ impl<'a, M: Memory> DecodeValue<&'a [u8], M> for UintRef<'a> {
 
     ghost asks_memory = { nothing_asked };
 
-    fn decode_value<R: Reader<&'a [u8]>>(
-        _memory: M,
-        reader: &mut R,
-        header: Header,
-    ) -> Result<UintRef<'a>> {
-        let contents = reader.read_slice(header.length)?;
-        match integer(contents) {
-            Ok(value) => Ok(value),
-            Err(e) => Err(reader.error(e.kind())),
-        }
-    }
-
     #[inline(always)]
-    fn quick_split(bytes: &'a [u8], tag: Tag) -> Option<(&'a [u8], &'a [u8])> {
-        quick_contents(bytes, tag)
-    }
-
-    #[inline(always)]
-    fn quick_value(_memory: M, contents: &'a [u8]) -> Option<UintRef<'a>> {
-        match contents {
-            [0, rest @ ..] => match rest {
-                [] => Some(UintRef { bytes: contents }),
-                [second, ..] if *second >= 0x80 => Some(UintRef { bytes: rest }),
-                _ => None,
-            },
-            [first, ..] if *first < 0x80 => Some(UintRef { bytes: contents }),
-            _ => None,
-        }
+    fn read_value(_memory: M, contents: &'a [u8]) -> Result<UintRef<'a>> {
+        integer(contents)
     }
 }
 
