@@ -3,3 +3,4 @@ pub mod Octets
 pub mod Readings
 pub mod RecordEncodings
 pub mod StrictFields
+pub mod Noting

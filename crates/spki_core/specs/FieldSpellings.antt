@@ -204,6 +204,10 @@ module _ {V : Type 0} {Is : V → Type 0} {fields : V → List Field} (r : Field
   abbrev pub strict_whole : Reading V
   strict_whole = strict_slice r.kinds r.join
 
+  -- The value of contents, and the first field that is there though it has its default.
+  abbrev pub record_noted : Reading (V × Option ℕ)
+  record_noted = made (λ s. (record_means s, first_written r.kinds s)) (spelling_read r.kinds)
+
 -- The list of what a function gives of the numbers below n.
 abbrev pub upto : {X : Type 0} → ℕ → (ℕ → X) → List X
 upto zero f = []

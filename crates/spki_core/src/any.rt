@@ -36,10 +36,19 @@ impl<'a> AnyRef<'a> {
         if contents.len() > Length::MAX.to_usize() {
             return Err(Error::new(ErrorKind::Overflow));
         }
-        Ok(AnyRef {
+        Ok(AnyRef::over(tag, contents))
+    }
+
+    /// This tag with these contents.
+    #[inline(always)]
+    fn over(tag: Tag, contents: &'a [u8]) -> AnyRef<'a>
+        requires { length contents.now ≤ limit }
+        ensures { any_of result ≡ record { tag = tag.octet; contents = contents.now } }
+    {
+        AnyRef {
             tag: WideTag::of(tag),
             contents,
-        })
+        }
     }
 
     /// NULL (X.690 8.8), which has no contents octets.
@@ -159,8 +168,7 @@ impl<'a, M: Memory> Decode<&'a [u8], M> for AnyRef<'a> {
     fn read_one(_memory: M, bytes: &'a [u8]) -> Result<(AnyRef<'a>, &'a [u8])> {
         let tag = first_tag(bytes)?;
         let (contents, rest) = split_encoding(bytes, tag)?;
-        let tag = WideTag::of(tag);
-        Ok((AnyRef { tag, contents }, rest))
+        Ok((AnyRef::over(tag, contents), rest))
     }
 
     fn decode<R: Reader<&'a [u8]>>(_memory: M, reader: &mut R) -> Result<AnyRef<'a>> {

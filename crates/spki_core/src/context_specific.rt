@@ -118,10 +118,23 @@ pub fn read_context_specific<'a, T: Decode<&'a [u8], M>, M: Memory, R: Reader<&'
         let at = optional_front tag (explicit number.value T.read_front) in
         ReadsFront (option_map T.value) at may result (R.left reader.old) (R.left reader.new) }
 {
-    let tag = Tag::context(number);
-    if !is_tag_next(reader, tag)? {
+    if !is_tag_next(reader, Tag::context(number))? {
         return Ok(None);
     }
-    let Containing(value) = decode_tagged(memory, reader, tag)?;
+    let value = read_explicit(memory, reader, number)?;
     Ok(Some(value))
+}
+
+/// Reads the tag of a field with one encoding inside.
+fn read_explicit<'a, T: Decode<&'a [u8], M>, M: Memory, R: Reader<&'a [u8]>>(
+    memory: M,
+    reader: &mut R,
+    number: TagNumber,
+) -> Result<T>
+    ensures { let may = FieldAllocates number.value T.Decode.may_allocate in
+        let at = explicit number.value T.read_front in
+        ReadsFront T.value at may result (R.left reader.old) (R.left reader.new) }
+{
+    let inside: Containing<T> = decode_tagged(memory, reader, Tag::context(number))?;
+    Ok(inside.0)
 }

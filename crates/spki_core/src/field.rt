@@ -28,8 +28,8 @@ pub fn read_field<'a, T: Decode<&'a [u8], M>, M: Memory>(
     if !begins_with(bytes, tag) {
         return Ok((default, bytes));
     }
-    let (Containing(value), rest) = read_tagged(memory, bytes, tag)?;
-    Ok((value, rest))
+    let (inside, rest) = read_tagged::<Containing<T>, M>(memory, bytes, tag)?;
+    Ok((inside.0, rest))
 }
 
 /// What is noted behind a field: the first field that was noted, or this one, if it is there with its default.

@@ -14,7 +14,7 @@ ghost use Rattle.std.specs.Cmp.Rules.{comparing, hashing};
 use crate::identifier_view::IdentifierView;
 use der_core::{
     BackWriter, Contents, DecodeValue, EncodeValue, EqualByValue, ErrorKind, Length, Memory, Result,
-    TagMarker, TaggedBy, Writer,
+    Tag, TagMarker, TaggedBy, Writer,
 };
 use std::hash::{Hash, Hasher};
 
