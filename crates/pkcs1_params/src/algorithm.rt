@@ -1,19 +1,19 @@
 //! Parameters in their algorithm identifier (RFC 8017 A.2.3, A.2.1; RFC 5280 4.1.1.2). `AlgorithmView::from_der` reads
 //! one, and `reading.rt` the parameters in it.
-ghost use Rattle.std.specs.Prelude.{◌≡◌, ◌++◌, ⊤, drop, length, Err, IfErr, IfOk};
-ghost use Rattle.der_core.specs.Words.{Reading, ok_of, sequence_tag as sequence_kind, tlv};
+ghost use Rattle.std.specs.Prelude.{◌≡◌, ⊤, length, Err, IfErr, IfOk, if◌then◌else◌};
+ghost use Rattle.der_core.specs.Words.{Reading, ok_of, sequence_tag as sequence_kind};
 ghost use Rattle.spki_core.specs.Words.{algorithm_in, algorithm_of, any_as, any_of, record_read, record_strictly};
 ghost use Rattle.pkcs1_params.specs.Words.{AnswersAsn1, EncodingOfFields, Identifies, IsAsn1, Refuses, identified, whole_algorithm};
-ghost use Rattle.standard.specs.Statement.{AlgorithmEncoding, Decodes, Encodes, IsShortest, sequence};
+ghost use Rattle.standard.specs.Statement.{AlgorithmEncoding, Decodes, Encodes, IsShortest};
 
 use crate::error::{Error, Result};
-use crate::reading::{AlgorithmParams, quick_parameters};
+use crate::reading::{AlgorithmParams, read_any};
 use crate::shortest::Shortest;
 use crate::spelling::EncodeParams;
 use der_core::{Decode, Encode, ErrorKind, NoMemory};
 use spki_core::{
     AlgorithmIdentifierOf, AlgorithmIdentifierRef, AlgorithmView, AnyRef, AssociatedOid,
-    IdentifierValue, IdentifierView,
+    IdentifierValue,
 };
 
 /// Borrowed parameters that are read from the algorithm identifier that they stand in: `RsaPssParamsRef`,
@@ -50,44 +50,33 @@ pub trait FromAlgorithm<'a>: AlgorithmParams<'a> {
 
 impl<'a, T: AlgorithmParams<'a>> FromAlgorithm<'a> for T {
     fn from_algorithm(algorithm: &AlgorithmIdentifierRef<'a>) -> Result<T> {
-        from_identifier(algorithm)
+        from_identifier(algorithm, false)
     }
 
     fn from_algorithm_der(bytes: &'a [u8]) -> Result<T> {
         let algorithm = AlgorithmView::from_der(NoMemory, bytes)?;
-        from_identifier(&algorithm)
+        from_identifier(&algorithm, false)
     }
 
     fn from_algorithm_der_strict(bytes: &'a [u8]) -> Result<T> {
-        from_identifier_strict(bytes)
+        let algorithm = AlgorithmView::from_der(NoMemory, bytes)?;
+        from_identifier(&algorithm, true)
     }
 }
 
-/// The parameters in an algorithm identifier, whatever holds its object identifier.
+/// The parameters in an algorithm identifier, whatever holds its object identifier; if `strict`, only where no default
+/// is written.
 #[inline(always)]
 fn from_identifier<'a, O: IdentifierValue, T: AlgorithmParams<'a>>(
     algorithm: &AlgorithmIdentifierOf<O, AnyRef<'a>>,
+    strict: bool,
 ) -> Result<T>
     ensures { let a = algorithm_in O.octets any_of algorithm.now in
-        AnswersAsn1 T.params (identified T.Oid.contents (record_read T.form) a) result }
+        let read = if strict then record_strictly T.form else record_read T.form in
+        AnswersAsn1 T.params (identified T.Oid.contents read a) result }
 {
     let any = parameters_of::<O, T>(algorithm)?;
-    T::read_any(any)
-}
-
-/// The parameters in a whole slice that is an algorithm identifier, unless a default is written in them.
-fn from_identifier_strict<'a, T: AlgorithmParams<'a>>(bytes: &'a [u8]) -> Result<T>
-    ensures { let read = whole_algorithm T.Oid.contents (record_strictly T.form) in
-        AnswersAsn1 T.params (read bytes.now) result }
-{
-    let algorithm = AlgorithmView::from_der(NoMemory, bytes)?;
-    let any = parameters_of::<IdentifierView<'a>, T>(&algorithm)?;
-    if let Some(params) = quick_parameters::<T>(&any) {
-        return Ok(params);
-    }
-    let params = T::read_any(any)?;
-    params.reject_defaults(encoded_parameters::<T>(bytes))?;
-    Ok(params)
+    Ok(read_any(any, strict)?)
 }
 
 /// The parameters in an algorithm identifier, whatever holds its object identifier, as they are before they are read.
@@ -107,29 +96,6 @@ fn parameters_of<'a, O: IdentifierValue, T: AlgorithmParams<'a>>(
     match algorithm.parameters {
         Some(any) => Ok(any),
         None => Err(Error::Asn1(der_core::Error::new(ErrorKind::ParametersMissing))),
-    }
-}
-
-/// The encoding of the parameters in an algorithm identifier.
-fn encoded_parameters<'a, T: AlgorithmParams<'a>>(identifier: &'a [u8]) -> &'a [u8]
-    requires { (params : T.Params)
-        × AlgorithmEncoding T.Oid.contents (EncodingOfFields T.Is T.fields_of) params identifier.now }
-    ensures { identifier.now ≡ sequence (tlv 6 T.Oid.contents ++ result.now) }
-{
-    match AnyRef::from_der(NoMemory, identifier) {
-        Ok(any) => behind(any.value(), 2 + T::Oid::octets().len()),
-        Err(_) => &[],
-    }
-}
-
-/// The octets behind the first `count`, or none if there are fewer.
-fn behind(octets: &[u8], count: usize) -> &[u8]
-    ensures { result.now ≡ drop count octets.now }
-{
-    if count <= octets.len() {
-        &octets[count..]
-    } else {
-        &[]
     }
 }
 

@@ -1,23 +1,12 @@
 //! Parameters are read as views. Then they are kept or copied, by what is to hold their identifiers.
 ghost use Rattle.std.specs.Prelude.{◌≡◌};
-ghost use Rattle.der_core.specs.Words.{Answers};
-ghost use Rattle.spki_core.specs.Words.{any_as, any_of, mask_gen_of, viewed_with};
+ghost use Rattle.spki_core.specs.Words.{any_of, mask_gen_of, viewed_with};
 ghost use Rattle.pkcs1_params.specs.Words.{oaep_in, oaep_of, oaep_viewed, pss_in, pss_of, pss_viewed};
 
 use crate::hash_fields::MaskGenOf;
 use crate::oaep::{OaepParamsOf, RsaOaepParams, RsaOaepParamsRef, RsaOaepParamsView};
 use crate::pss::{PssParamsOf, RsaPssParams, RsaPssParamsRef, RsaPssParamsView};
-use der_core::{DecodeValue, FixedTag, NoMemory};
 use spki_core::{AlgorithmIdentifier, AnyRef, IdentifierView, ObjectIdentifier, ReadIdentifier};
-
-/// `AnyRef::decode_as` of a type that asks for no memory.
-pub(crate) fn decode_borrowed<'a, T: DecodeValue<&'a [u8], NoMemory> + FixedTag>(
-    any: AnyRef<'a>,
-) -> der_core::Result<T>
-    ensures { Answers T.value result (any_as T.TAG T.read (any_of any.entry)) }
-{
-    any.decode_as(NoMemory)
-}
 
 /// What holds the identifiers of parameters that are read: `IdentifierView`, or `ObjectIdentifier` as copies.
 pub trait ReadParams<'a>: ReadIdentifier<'a> {

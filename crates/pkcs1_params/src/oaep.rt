@@ -11,7 +11,7 @@ use crate::from_view::ReadParams;
 use crate::hash_fields::{MaskGenOf, mgf1_with, with_null};
 use crate::hash_functions::Sha1;
 use crate::label::empty_source;
-use crate::reading::{read_params, read_params_strict};
+use crate::reading::read_params;
 use crate::spelling::non_defaults_in;
 use der_core::{
     BackWriter, Contents, EncodeValue, EqualByValue, ErrorKind, Length, Memory, NoMemory,
@@ -71,7 +71,7 @@ impl<'a, O: ReadParams<'a>> TryFrom<&'a [u8]> for OaepParamsOf<O, AnyRef<'a>> {
         ensures read { Decodes OaepEncoding bytes.now (ok_of (oaep_in O.octets any_of) result) }
         ensures exact { AnswersAsn1 (oaep_in O.octets any_of) (rsa_oaep_params bytes.now) result }
     {
-        let view = read_params::<RsaOaepParamsView<'a>>(bytes)?;
+        let view = read_params::<RsaOaepParamsView<'a>>(bytes, false)?;
         Ok(O::oaep_from_view(view))
     }
 }
@@ -87,7 +87,7 @@ impl<'a, O: ReadParams<'a>> OaepParamsOf<O, AnyRef<'a>> {
         ensures read { Decodes (IsShortest OaepEncoding) bytes.now (ok_of (oaep_in O.octets any_of) result) }
         ensures exact { AnswersAsn1 (oaep_in O.octets any_of) (strict_oaep_params bytes.now) result }
     {
-        let view = read_params_strict::<RsaOaepParamsView<'a>>(bytes)?;
+        let view = read_params::<RsaOaepParamsView<'a>>(bytes, true)?;
         Ok(O::oaep_from_view(view))
     }
 }

@@ -12,8 +12,7 @@ use crate::label::is_same_source;
 use crate::listing::all_spellings;
 use crate::oaep::OaepParamsOf;
 use crate::spelling::{EncodeParams, count_defaults};
-use der_core::TagNumber;
-use spki_core::{AlgorithmIdentifierOf, AnyValue, AssociatedOid, IdentifierValue, written_default};
+use spki_core::{AlgorithmIdentifierOf, AnyValue, AssociatedOid, IdentifierValue};
 use std::alloc::Global;
 
 /// A field and the later ones.
@@ -48,15 +47,6 @@ impl<'b, O: IdentifierValue, P: AnyValue> EncodeParams for &'b OaepParamsOf<O, P
     }
 
     fn lemma_is_valid(self) {}
-
-    fn written_default(self, bytes: &[u8]) -> Option<TagNumber> {
-        let defaults = [
-            self.hash.is_default_hash(),
-            self.mask_gen.is_default(),
-            self.p_source.is_default_source(),
-        ];
-        written_default(bytes, &defaults)
-    }
 }
 
 impl<O: IdentifierValue, P: AnyValue> OaepParamsOf<O, P> {

@@ -8,7 +8,7 @@ ghost use Rattle.standard.specs.Statement.{IfPresent, IsBare};
 use crate::hash_fields::{MaskGenOf, MaskGenRef};
 use crate::oaep::{RsaOaepParams, RsaOaepParamsOwned, RsaOaepParamsRef};
 use crate::pss::{RsaPssParams, RsaPssParamsOwned, RsaPssParamsRef};
-use der_core::{DecodeValue, Header, NoMemory, Reader, Result};
+use der_core::{DecodeValue, NoMemory, Result};
 use spki_core::{
     AlgorithmIdentifier, AlgorithmIdentifierRef, Any, AnyParams, AnyRef, ObjectIdentifier,
 };
@@ -95,16 +95,9 @@ impl<'a> DecodeValue<&'a [u8], Global> for RsaPssParams<Any> {
 
     ghost asks_memory = { λ _ _. tt };
 
-    fn decode_value<R: Reader<&'a [u8]>>(
-        memory: Global,
-        reader: &mut R,
-        header: Header,
-    ) -> Result<RsaPssParamsOwned> {
-        let params = RsaPssParamsRef::decode_value(NoMemory, reader, header)?;
-        match copy_pss(memory, params) {
-            Ok(copy) => Ok(copy),
-            Err(e) => Err(reader.error(e.kind())),
-        }
+    fn read_value(memory: Global, contents: &'a [u8]) -> Result<RsaPssParamsOwned> {
+        let params = RsaPssParamsRef::read_value(NoMemory, contents)?;
+        copy_pss(memory, params)
     }
 }
 
@@ -113,15 +106,8 @@ impl<'a> DecodeValue<&'a [u8], Global> for RsaOaepParams<Any> {
 
     ghost asks_memory = { λ _ _. tt };
 
-    fn decode_value<R: Reader<&'a [u8]>>(
-        memory: Global,
-        reader: &mut R,
-        header: Header,
-    ) -> Result<RsaOaepParamsOwned> {
-        let params = RsaOaepParamsRef::decode_value(NoMemory, reader, header)?;
-        match copy_oaep(memory, params) {
-            Ok(copy) => Ok(copy),
-            Err(e) => Err(reader.error(e.kind())),
-        }
+    fn read_value(memory: Global, contents: &'a [u8]) -> Result<RsaOaepParamsOwned> {
+        let params = RsaOaepParamsRef::read_value(NoMemory, contents)?;
+        copy_oaep(memory, params)
     }
 }

@@ -10,7 +10,7 @@ use crate::error::{Error, Result, fault_of};
 use crate::from_view::ReadParams;
 use crate::hash_fields::{MaskGenOf, mgf1_with, with_null};
 use crate::hash_functions::Sha1;
-use crate::reading::{read_params, read_params_strict};
+use crate::reading::read_params;
 use crate::spelling::non_defaults_in;
 use crate::trailer_field::TrailerField;
 use der_core::{
@@ -74,7 +74,7 @@ impl<'a, O: ReadParams<'a>> TryFrom<&'a [u8]> for PssParamsOf<O, AnyRef<'a>> {
         ensures read { Decodes PssEncoding bytes.now (ok_of (pss_in O.octets any_of) result) }
         ensures exact { AnswersAsn1 (pss_in O.octets any_of) (rsa_pss_params bytes.now) result }
     {
-        let view = read_params::<RsaPssParamsView<'a>>(bytes)?;
+        let view = read_params::<RsaPssParamsView<'a>>(bytes, false)?;
         Ok(O::pss_from_view(view))
     }
 }
@@ -90,7 +90,7 @@ impl<'a, O: ReadParams<'a>> PssParamsOf<O, AnyRef<'a>> {
         ensures read { Decodes (IsShortest PssEncoding) bytes.now (ok_of (pss_in O.octets any_of) result) }
         ensures exact { AnswersAsn1 (pss_in O.octets any_of) (strict_pss_params bytes.now) result }
     {
-        let view = read_params_strict::<RsaPssParamsView<'a>>(bytes)?;
+        let view = read_params::<RsaPssParamsView<'a>>(bytes, true)?;
         Ok(O::pss_from_view(view))
     }
 }

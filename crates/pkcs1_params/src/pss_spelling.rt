@@ -12,8 +12,7 @@ use crate::listing::all_spellings;
 use crate::pss::{PssParamsOf, RsaPssParamsRef};
 use crate::spelling::{EncodeParams, count_defaults};
 use crate::trailer_field::TrailerField;
-use der_core::TagNumber;
-use spki_core::{AlgorithmIdentifierOf, AnyValue, AssociatedOid, IdentifierValue, written_default};
+use spki_core::{AlgorithmIdentifierOf, AnyValue, AssociatedOid, IdentifierValue};
 use std::alloc::Global;
 
 /// A field and the later ones.
@@ -52,16 +51,6 @@ impl<'b, O: IdentifierValue, P: AnyValue> EncodeParams for &'b PssParamsOf<O, P>
 
     fn lemma_is_valid(self) {
         let _salt_len = self.salt_len;
-    }
-
-    fn written_default(self, bytes: &[u8]) -> Option<TagNumber> {
-        let defaults = [
-            self.hash.is_default_hash(),
-            self.mask_gen.is_default(),
-            self.salt_len == RsaPssParamsRef::SALT_LEN_DEFAULT,
-            self.trailer_field == TrailerField::BC,
-        ];
-        written_default(bytes, &defaults)
     }
 }
 

@@ -1,73 +1,13 @@
-//! Reading of parameters, field by field. What differs between the kinds is a member of `AlgorithmParams`;
-//! `pss_reading.rt` and `oaep_reading.rt` have its bodies.
-ghost use Rattle.std.specs.Prelude.{◌≡◌, ◌<◌, ◌∷◌, List, IfSome, Ok, length};
-ghost use Rattle.der_core.specs.Words.{ok_of, sequence_octet, sequence_tag as sequence_kind};
-ghost use Rattle.spki_core.specs.Words.{FieldRecord, any_as, any_of, record_read, record_strictly, strict_whole, record_whole};
+//! Reading of parameters. What differs between the kinds is `read_noting`; `noting.rt` has its bodies.
+ghost use Rattle.std.specs.Prelude.{◌≡◌, ◌≤◌, List, false, if◌then◌else◌, length, option_map, true};
+ghost use Rattle.der_core.specs.Words.{Answers, limit, ok_of, sequence_tag as sequence_kind};
+ghost use Rattle.spki_core.specs.Words.{FieldRecord, any_as, any_of, noted_accepted, record_noted, record_read, record_strictly, record_whole, strict_whole, tag_number_in};
 ghost use Rattle.pkcs1_params.specs.Words.{AnswersAsn1, EncodingOfFields};
 ghost use Rattle.standard.specs.Statement.{Decodes, Field, IsShortest};
 
 use crate::error::Result;
-use der_core::Tag;
+use der_core::{Error, ErrorKind, Length, Tag, TagNumber, split_encoding};
 use spki_core::{AnyRef, AssociatedOid};
-
-/// Reads a whole slice. Nothing is allocated.
-#[inline(always)]
-pub(crate) fn read_params<'a, T: AlgorithmParams<'a>>(bytes: &'a [u8]) -> Result<T>
-    ensures read { Decodes (EncodingOfFields T.Is T.fields_of) bytes.now (ok_of T.params result) }
-    ensures exact { AnswersAsn1 T.params (record_whole T.form bytes.now) result }
-{
-    T::read_whole(bytes)
-}
-
-/// Like `read_params`, but rejects an encoding in which a default is written.
-#[inline(always)]
-pub(crate) fn read_params_strict<'a, T: AlgorithmParams<'a>>(bytes: &'a [u8]) -> Result<T>
-    ensures read { Decodes (IsShortest (EncodingOfFields T.Is T.fields_of)) bytes.now (ok_of T.params result) }
-    ensures exact { AnswersAsn1 T.params (strict_whole T.form bytes.now) result }
-{
-    if let Some(params) = quick_encoding::<T>(bytes) {
-        return Ok(params);
-    }
-    let params = T::read_whole(bytes)?;
-    params.reject_defaults(bytes)?;
-    Ok(params)
-}
-
-/// The contents octets of a SEQUENCE of fewer than 128, if a slice is its encoding.
-#[inline(always)]
-fn short_contents(bytes: &[u8]) -> Option<&[u8]>
-    ensures { IfSome result (λ contents. (length contents.now < 128)
-        × (bytes.now ≡ sequence_octet ∷ length contents.now ∷ contents.now)) }
-{
-    match bytes {
-        [0x30, count, contents @ ..] if *count < 0x80 && usize::from(*count) == contents.len() => {
-            Some(contents)
-        }
-        _ => None,
-    }
-}
-
-/// The parameters in a whole slice, if that is quickly told, and no default is written.
-#[inline(always)]
-fn quick_encoding<'a, T: AlgorithmParams<'a>>(bytes: &'a [u8]) -> Option<T>
-    ensures { IfSome result (λ it. strict_whole T.form bytes.now ≡ Ok (T.params it)) }
-{
-    let contents = short_contents(bytes)?;
-    let params = T::quick_strictly(contents)?;
-    Some(params)
-}
-
-/// The same of the parameters of an algorithm.
-#[inline(always)]
-pub(crate) fn quick_parameters<'a, T: AlgorithmParams<'a>>(any: &AnyRef<'a>) -> Option<T>
-    ensures { IfSome result (λ it.
-        any_as sequence_kind (record_strictly T.form) (any_of any.now) ≡ Ok (T.params it)) }
-{
-    if any.tag() != Tag::SEQUENCE {
-        return None;
-    }
-    T::quick_strictly(any.value())
-}
 
 /// Borrowed parameters of an algorithm.
 pub trait AlgorithmParams<'a>: Sized + Drop {
@@ -89,20 +29,86 @@ pub trait AlgorithmParams<'a>: Sized + Drop {
     /// The kinds of these fields, with their laws.
     ghost form: { FieldRecord Is fields_of };
 
-    /// The parameters with these contents octets, if that is quickly told, and no default is written.
-    fn quick_strictly(contents: &'a [u8]) -> Option<Self>
-        ensures { IfSome result (λ it. record_strictly form contents.now ≡ Ok (params it)) };
+    /// The parameters with these contents octets, and the first field that is written though it has its default. Err:
+    /// the first fault.
+    fn read_noting(contents: &'a [u8]) -> der_core::Result<(Self, Option<TagNumber>)>
+        requires { length contents.now ≤ limit }
+        ensures { Answers (λ p. (params p.0, option_map tag_number_in p.1)) result (record_noted form contents.now) };
+}
 
-    /// Reads the parameters of an algorithm field by field: `TagUnexpected` if they are no SEQUENCE.
-    fn read_any(any: AnyRef<'a>) -> Result<Self>
-        ensures { AnswersAsn1 params (any_as sequence_kind (record_read form) (any_of any.entry)) result };
+/// Reads a whole slice; if `strict`, only one in which no default is written. Nothing is allocated.
+#[inline(always)]
+pub(crate) fn read_params<'a, T: AlgorithmParams<'a>>(bytes: &'a [u8], strict: bool) -> Result<T>
+    ensures read { strict ≡ false → Decodes (EncodingOfFields T.Is T.fields_of) bytes.now (ok_of T.params result) }
+    ensures shortest { let Encoding = EncodingOfFields T.Is T.fields_of in
+        strict ≡ true → Decodes (IsShortest Encoding) bytes.now (ok_of T.params result) }
+    ensures exact { let read = if strict then strict_whole T.form else record_whole T.form in
+        AnswersAsn1 T.params (read bytes.now) result }
+{
+    Ok(read_slice(bytes, strict)?)
+}
 
-    /// Reads a whole slice field by field.
-    fn read_whole(bytes: &'a [u8]) -> Result<Self>
-        ensures { AnswersAsn1 params (record_whole form bytes.now) result };
+/// Reads a whole slice.
+#[inline(always)]
+fn read_slice<'a, T: AlgorithmParams<'a>>(bytes: &'a [u8], strict: bool) -> der_core::Result<T>
+    ensures { let read = if strict then strict_whole T.form else record_whole T.form in
+        Answers T.params result (read bytes.now) }
+{
+    if bytes.len() > Length::MAX.to_usize() {
+        return Err(Error::new(ErrorKind::Overflow));
+    }
+    let (contents, rest) = split_encoding(bytes, Tag::SEQUENCE)?;
+    let (params, noted) = T::read_noting(contents)?;
+    if !rest.is_empty() {
+        return Err(Error::new(ErrorKind::TrailingData));
+    }
+    reject_noted(noted, strict)?;
+    Ok(params)
+}
 
-    /// Rejects an encoding of the parameters in which a default is written: `Noncanonical` with the tag of the first.
-    fn reject_defaults(&self, encoding: &[u8]) -> Result<()>
-        requires { EncodingOfFields Is fields_of (params self.now) encoding.now }
-        ensures { AnswersAsn1 (λ _. params self.now) (strict_whole form encoding.now) result };
+/// Reads the parameters of an algorithm; if `strict`, only where no default is written. `TagUnexpected` if they are no
+/// SEQUENCE.
+#[inline(always)]
+pub(crate) fn read_any<'a, T: AlgorithmParams<'a>>(
+    any: AnyRef<'a>,
+    strict: bool,
+) -> der_core::Result<T>
+    ensures { let read = if strict then record_strictly T.form else record_read T.form in
+        Answers T.params result (any_as sequence_kind read (any_of any.entry)) }
+{
+    if any.tag() != Tag::SEQUENCE {
+        return Err(Error::new(ErrorKind::TagUnexpected {
+            expected: Tag::SEQUENCE,
+            actual: any.tag(),
+        }));
+    }
+    read_contents(any.value(), strict)
+}
+
+/// Reads contents octets; if `strict`, only those in which no default is written.
+#[inline(always)]
+pub(crate) fn read_contents<'a, T: AlgorithmParams<'a>>(
+    contents: &'a [u8],
+    strict: bool,
+) -> der_core::Result<T>
+    requires { length contents.now ≤ limit }
+    ensures { let read = if strict then record_strictly T.form else record_read T.form in
+        Answers T.params result (read contents.now) }
+{
+    let (params, noted) = T::read_noting(contents)?;
+    reject_noted(noted, strict)?;
+    Ok(params)
+}
+
+/// Rejects a written default, if reading is strict: `Noncanonical` with the field's tag.
+#[inline(always)]
+fn reject_noted(noted: Option<TagNumber>, strict: bool) -> der_core::Result<()>
+    ensures { Answers (λ u. u) result (noted_accepted strict (option_map tag_number_in noted)) }
+{
+    match noted {
+        Some(number) if strict => Err(Error::new(ErrorKind::Noncanonical {
+            tag: Tag::context(number),
+        })),
+        _ => Ok(()),
+    }
 }

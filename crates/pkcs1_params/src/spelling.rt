@@ -1,8 +1,8 @@
 //! Spellings of parameters: a mask says which of their defaults are written.
-ghost use Rattle.std.specs.Prelude.{◌≡◌, ◌≤◌, ◌<◌, ⊤, List, length, IfErr, IfOk, option_map};
+ghost use Rattle.std.specs.Prelude.{◌≡◌, ◌≤◌, ◌<◌, ⊤, List, length, IfErr, IfOk};
 ghost use Rattle.der_core.specs.Words.{limit, ok_of, one_spelling_shortest, reading_alike};
 ghost use Rattle.der_core.specs.declared.error.ErrorKind.{ErrorKind};
-ghost use Rattle.spki_core.specs.Words.{AreSpelled, FieldRecord, are_defaults, first_default, record_fields, record_law, record_under, spelling_printed, spelling_read, tag_number_in};
+ghost use Rattle.spki_core.specs.Words.{AreSpelled, FieldRecord, are_defaults, record_fields, record_law, record_under, spelling_printed, spelling_read};
 ghost use Rattle.spki_core.specs.FieldSpellings as spellings;
 ghost use Rattle.pkcs1_params.specs.DefaultBits.{bits_of};
 ghost use Rattle.pkcs1_params.specs.Meanings.{Refuses};
@@ -13,7 +13,7 @@ use crate::contents::{append_contents, contents_len, prepend_contents, quick_con
 use crate::error::Result;
 use crate::fields::Fields;
 use der_core::{
-    BackWriter, Contents, Encode, EncodeValue, ErrorKind, Length, SequenceTag, TagNumber, TaggedBy,
+    BackWriter, Contents, Encode, EncodeValue, ErrorKind, Length, SequenceTag, TaggedBy,
     Writer, write_over,
 };
 use std::alloc::Global;
@@ -42,12 +42,6 @@ pub trait EncodeParams: Copy + Drop {
     fn fields(self) -> Self::Fields
         ensures are { Self.Fields.written result ≡ record_fields form (params self) }
         ensures few { length (record_fields form (params self)) ≤ 7 };
-
-    /// The first field in an encoding that is written though it equals its default. The result is meaningful only if
-    /// the encoding is known to be one of these parameters.
-    fn written_default(self, bytes: &[u8]) -> Option<TagNumber>
-        ensures { let defaults = are_defaults (record_fields form (params self)) in
-            option_map tag_number_in result ≡ first_default defaults bytes.now };
 
     /// Does nothing: its contract says that the parameters may be encoded.
     fn lemma_is_valid(self)

@@ -38,6 +38,16 @@ module _ (k : Kind) (ks : List Kind) {given v : k.Value} {n : ℕ} (same : given
     | inr gone ↦ let p = ok_pair k.default v c rest (rw gone at field_known) in rw (gone, p.1, behind) refl
   ]
 
+  -- A fault of those behind it is theirs together.
+  pub field_spelled_not : (e : ErrorKind) → spelling_read ks rest ≡ Err e → spelling_read (k ∷ ks) c ≡ Err e
+  field_spelled_not e behind = elim (cases_Bool (is_next (160 + k.number) c)) [
+    | inl next ↦
+        let front : tagged (tag_of k) (alone k.at) c ≡ Ok (v, rest) =
+        sym (explicit_is k.at k.number (tag_of k) c refl) ∙ rw next at field_known in
+        rw (next, front, behind) refl
+    | inr gone ↦ let p = ok_pair k.default v c rest (rw gone at field_known) in rw (gone, p.1, behind) refl
+  ]
+
   -- It means the value.
   pub field_meant : or_default k.default (value_if_next k v c) ≡ v
   field_meant = elim (cases_Bool (is_next (160 + k.number) c)) [

@@ -23,3 +23,7 @@ unless_found (Some n) v = Err (noncanonical n)
 abbrev pub noted_on : ℕ → Bool → Bool → Option ℕ → Option ℕ
 noted_on number there default (Some first) = Some first
 noted_on number there default None = if there && default then Some number else None
+
+-- Whether what was noted is accepted: anything, or strictly nothing.
+abbrev pub noted_accepted : Bool → Option ℕ → Result (Unit {0}) ErrorKind
+noted_accepted strict noted = if strict then unless_found noted tt else Ok tt

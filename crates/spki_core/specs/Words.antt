@@ -7,7 +7,7 @@ pub use Rattle.spki_core.specs.HeldValues.{any_of, identifier_octets, own_any_of
 pub use Rattle.spki_core.specs.IdentifierTest.{ends_well, has_no_128, is_identifier, starts_at}
 pub use Rattle.spki_core.specs.Identifiers.{Algorithm, AreNullOrAbsent, AreSameHash, IsAny, IsHash, IsIdentifier, TagAndContents, algorithm_contents, algorithm_map, null_value, same_any, same_mask, same_plain, written_any}
 pub use Rattle.spki_core.specs.Readings.{algorithm_read, any_as, any_front, defaulted, explicit, identifier_read, numbered, opaque}
-pub use Rattle.spki_core.specs.StrictFields.{noncanonical, noted_on, tag_number_in, unless_found}
+pub use Rattle.spki_core.specs.StrictFields.{noncanonical, noted_accepted, noted_on, tag_number_in, unless_found}
 pub use Rattle.spki_core.specs.Laws.AnyValues.{HoldsAny, IsMapped, algorithm_decides, any_decides, holds_decides, holds_itself, mapped_same, same_mask_decides, same_plain_decides}
 pub use Rattle.spki_core.specs.Laws.FieldSpellings.Masks.{defaults_are, defaults_there, full, full_last, full_there, spelling_masked, under_is, under_mask, under_means, under_only, under_valid}
 pub use Rattle.spki_core.specs.Laws.FieldSpellings.Records.{record_alike, record_front_law, record_law, record_reads, record_shortest, spelled_from, spelled_to}

@@ -1,6 +1,6 @@
 //! Explicit fields with defaults (X.690 8.14.2, 11.5).
 ghost use Rattle.std.specs.Prelude.{◌≡◌, ◌≤◌, ◌+◌, ℕ, length, IfOk, option_map};
-ghost use Rattle.der_core.specs.Words.{limit, free_of, Prepends, Counts, Tells, AllocatesAtFront, Appends, Returns, context_octet, tlv, OptionalRead, Prints, ReadsBy, ReadsFronts, Tlv, optional_front};
+ghost use Rattle.der_core.specs.Words.{limit, free_of, Prepends, Counts, Tells, AllocatesAtFront, Appends, Returns, context_octet, is_next, tlv, OptionalRead, Prints, ReadsBy, ReadsFronts, Tlv, optional_front};
 ghost use Rattle.spki_core.specs.Words.{FieldAllocates, FieldRead, defaulted, explicit, noted_on, tag_number_in};
 
 use crate::context_specific::ContextSpecificRef;
@@ -32,20 +32,21 @@ pub fn read_field<'a, T: Decode<&'a [u8], M>, M: Memory>(
     Ok((inside.0, rest))
 }
 
-/// What is noted behind a field: the first field that was noted, or this one, if it is there with its default.
+/// What is noted of a field that was read at the front of these bytes: the first field that was noted, or this one, if
+/// it is there with its default.
 #[inline(always)]
 pub fn note(
     noted: Option<TagNumber>,
+    bytes: &[u8],
     number: TagNumber,
-    is_there: bool,
     is_default: bool,
 ) -> Option<TagNumber>
-    ensures { option_map tag_number_in result
-        ≡ noted_on number.value is_there is_default (option_map tag_number_in noted) }
+    ensures { let there = is_next (context_octet number.value) bytes.now in
+        option_map tag_number_in result ≡ noted_on number.value there is_default (option_map tag_number_in noted) }
 {
     match noted {
         Some(first) => Some(first),
-        None if is_there && is_default => Some(number),
+        None if begins_with(bytes, Tag::context(number)) && is_default => Some(number),
         None => None,
     }
 }

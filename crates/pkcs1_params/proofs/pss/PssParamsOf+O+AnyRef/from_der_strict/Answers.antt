@@ -1,10 +1,10 @@
 -- `from_der_strict` of `PssParamsOf<O, AnyRef>`, at the end: what `pss_from_view` makes of the view means the same
--- parameters, which `read_params_strict` read.
-use Rattle.std.proofs.Common.{subst, sym, Some}
+-- parameters, which `read_params` read strictly.
+use Rattle.std.proofs.Common.{refl, subst, sym, Some}
 use Rattle.standard.specs.Statement.{Decodes, IsShortest, PssEncoding}
 use Rattle.pkcs1_params.proofs.pss.PssParamsOf+O+AnyRef.from_der_strict.Goals as goal
 
 pub returns-clause-read : goal.returns-clause-read
 returns-clause-read g c =
     subst (λ v. Decodes (IsShortest PssEncoding) c.args.bytes.now (Some v)) (sym c.pss_from_view.ensures)
-    c.in_ok-view.ensures.read
+    (c.in_ok-view.ensures.shortest refl)
