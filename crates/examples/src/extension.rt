@@ -6,8 +6,8 @@ ghost use Rattle.examples.specs.Extension.{IsTrueOctet, critical_part, true_law,
 
 use der_core::{
     BackWriter, BooleanTag, Borrowed, Contents, DecodeValue, Encode, EncodeInParts, EncodeValue,
-    Encoding, Error, ErrorKind, Header, Length, Memory, OctetStringRef, OneContents, OptionalThen,
-    Reader, Record, Result, SequenceTag, Tag, TaggedBy, Writer, read_borrowed, write_only,
+    Encoding, Error, ErrorKind, Length, Memory, OctetStringRef, OneContents, OptionalThen, Record,
+    Result, SequenceTag, Tag, TaggedBy, Writer, read_borrowed, write_only,
 };
 use spki_core::ObjectIdentifier;
 
@@ -69,16 +69,8 @@ impl<'a, M: Memory> DecodeValue<&'a [u8], M> for True {
 
     ghost asks_memory = { nothing_asked };
 
-    fn decode_value<R: Reader<&'a [u8]>>(
-        _memory: M,
-        reader: &mut R,
-        header: Header,
-    ) -> Result<True> {
-        let contents = reader.read_slice(header.length)?;
-        match true_of(contents) {
-            Ok(value) => Ok(value),
-            Err(e) => Err(reader.error(e.kind())),
-        }
+    fn read_value(_memory: M, contents: &'a [u8]) -> Result<True> {
+        true_of(contents)
     }
 }
 

@@ -6,8 +6,8 @@ ghost use Rattle.der_core.specs.Words.{bytes_of, nothing_asked, number_contents,
 ghost use Rattle.pkcs1.specs.Words.{held_public_key};
 
 use der_core::{
-    AsUintRef, BackWriter, Contents, DecodeValue, EncodeValue, Header, IntegerTag, Length, Memory,
-    Reader, Result, TaggedBy, UintEncoding, UintRef, Writer,
+    AsUintRef, BackWriter, Contents, DecodeValue, EncodeValue, IntegerTag, Length, Memory, Result,
+    TaggedBy, UintEncoding, UintRef, Writer,
 };
 use pkcs1::RsaPublicKey;
 
@@ -65,15 +65,9 @@ impl<'a, M: Memory> DecodeValue<&'a [u8], M> for KeyNumber<'a> {
 
     ghost asks_memory = { nothing_asked };
 
-    fn decode_value<R: Reader<&'a [u8]>>(
-        memory: M,
-        reader: &mut R,
-        header: Header,
-    ) -> Result<KeyNumber<'a>> {
-        match UintRef::decode_value(memory, reader, header) {
-            Ok(number) => Ok(KeyNumber { number }),
-            Err(error) => Err(error),
-        }
+    fn read_value(memory: M, contents: &'a [u8]) -> Result<KeyNumber<'a>> {
+        let number = UintRef::read_value(memory, contents)?;
+        Ok(KeyNumber { number })
     }
 }
 
