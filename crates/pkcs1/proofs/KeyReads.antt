@@ -1,9 +1,8 @@
 -- Reading keys: a private one part by part, faults, what calls decode. A key has one encoding. For the calls that
 -- decode keys, and their laws.
-use Rattle.std.proofs.Common.{◌≡◌, ℕ, List, [], refl, ap, ◌∙◌, inl, inr, ⊎_elim, Option, Some, None, Ok, Err, subst, ◌++◌, ◌≤◌, length, sym, arith, append-nil}
+use Rattle.std.proofs.Common.{◌≡◌, ℕ, List, [], ap, ◌∙◌, inl, inr, Option, Some, None, Ok, Err, subst, ◌++◌, ◌≤◌, length, sym, arith, append-nil}
 use Rattle.der_core.specs.declared.error.ErrorKind.{ErrorKind}
-use Rattle.der_core.specs.Words.{AreBytes, Input, left_in, read_from, InputAllocates, HoldsBytes, front_reading_reads, ReadsFrontAlike, ReadsFrontPrinted, FrontReading, ◌>>=◌, made, tagged_law, made_tells, whole, value_in, FaultOrMemory, NoValueOrMemory, Reading, prints_one, limit, PrintsOne}
-use Rattle.der_core.proofs.ReadSteps.{ReadingFails}
+use Rattle.der_core.specs.Words.{AreBytes, front_reading_reads, ReadsFrontAlike, ReadsFrontPrinted, FrontReading, ◌>>=◌, made, tagged_law, made_tells, whole, value_in, FaultOrMemory, NoValueOrMemory, Reading, prints_one, limit, PrintsOne}
 use Rattle.pkcs1.specs.Words.{AllocatesInKey, front_read, eight_numbers_before, others_read, private_key_read, EightNumbersThen, OtherRow, eight_numbers_as, fronts_alike, front_law, version_number, number_front, whole_private_key, public_read, rsa_private_key, rsa_public_key, integer_law, private_law, public_law, private_stated, public_stated, AreDelimited, public_encoding, private_key_back, private_encoding, private_spells, private_as, AnyNumber, PrivateIsValid, PublicIsValid, public_from}
 use Rattle.pkcs1.specs.declared.version.Version.{Version}
 use Rattle.der_core.specs.Tags as tags
@@ -17,78 +16,32 @@ abbrev pub version_and_numbers : {U V : Type 0} → (U → V) → Version → Ei
     × EightNumbersThen V (Unit {0})
 version_and_numbers value v numbers = (version_number v, eight_numbers_as value (λ _. tt) numbers)
 
-module _ {V : Type 0} (at : FrontReading V) where
-  -- The version and the eight numbers were in front of what is left now.
-  abbrev pub KeyFrontGives : ℕ × EightNumbersThen V (Unit {0}) → Input → Input → Type 0
-  KeyFrontGives front before after =
-      (before ≡ None → (after ≡ None) × (front_read at [] ≡ Ok (front, [])))
-      × ((i : List ℕ) → before ≡ Some i
-      → (rest : List ℕ) × (front_read at i ≡ Ok (front, rest)) × (after ≡ Some rest))
-
-  -- They are in front of other primes that are read of what follows.
-  pub private_key_taken : (front : ℕ × EightNumbersThen V (Unit {0})) (primes : Option (List (OtherRow V)))
-      (i rest : List ℕ)
-      → front_read at i ≡ Ok (front, rest) → others_read at front.0 rest ≡ Ok primes
+-- They are in front of other primes that are read of what follows, or of a fault of these.
+module _ {V : Type 0} (at : FrontReading V) (front : ℕ × EightNumbersThen V (Unit {0})) (i rest : List ℕ)
+    (read : front_read at i ≡ Ok (front, rest)) where
+  pub private_key_taken : (primes : Option (List (OtherRow V))) → others_read at front.0 rest ≡ Ok primes
       → private_key_read at i ≡ Ok (eight_numbers_before front.1 primes)
-  private_key_taken front primes i rest read others =
+  private_key_taken primes others =
       ap (λ r. r >>= λ q. made (eight_numbers_before q.0.1) (others_read at q.0.0) q.1) read
       ∙ ap (λ r. r >>= λ o. Ok (eight_numbers_before front.1 o)) others
 
-  -- The same of a reader that holds the contents.
-  pub private_key_gives : (front : ℕ × EightNumbersThen V (Unit {0})) (primes : Option (List (OtherRow V)))
-      (before mid after : Input)
-      (n : ℕ) → HoldsBytes before n → KeyFrontGives front before mid
-      → (read_from mid (others_read at front.0) ≡ Ok primes) × (after ≡ Some [])
-      → (read_from before (private_key_read at) ≡ Ok (eight_numbers_before front.1 primes)) × (after ≡ Some [])
-  private_key_gives front primes None mid after n holds gives others = absurd holds
-  private_key_gives front primes (Some i) mid after n holds gives others =
-      let g = gives.1 i refl in (private_key_taken front primes i g.0 g.1 (rw g.2 at others.0), others.1)
+  pub fault_at_others : (e : ErrorKind) → others_read at front.0 rest ≡ Err e → private_key_read at i ≡ Err e
+  fault_at_others e fault =
+      ap (λ r. r >>= λ q. made (eight_numbers_before q.0.1) (others_read at q.0.0) q.1) read
+      ∙ ap (λ r. r >>= λ o. Ok (eight_numbers_before front.1 o)) fault
 
-  -- They are in front of a fault of the other primes.
-  private_key_fault_at_others : (e : ErrorKind) (front : ℕ × EightNumbersThen V (Unit {0})) (i : List ℕ) (mid : Input)
-      → KeyFrontGives front (Some i) mid → read_from mid (others_read at front.0) ≡ Err e
-      → private_key_read at i ≡ Err e
-  private_key_fault_at_others e front i mid gives fault =
-      let g = gives.1 i refl in
-      ap (λ r. r >>= λ q. made (eight_numbers_before q.0.1) (others_read at q.0.0) q.1) g.1
-      ∙ ap (λ r. r >>= λ o. Ok (eight_numbers_before front.1 o)) (rw g.2 at fault)
-
-  input_allocates_nothing : (i : Input) → InputAllocates (λ _. ⊥) i → ⊥
-  input_allocates_nothing None asked = asked
-  input_allocates_nothing (Some i) asked = asked
-
-  -- The same where no memory is asked for.
-  pub viewed_key_fails_at_others : (e : ErrorKind) (front : ℕ × EightNumbersThen V (Unit {0}))
-      (before mid after : Input) (n : ℕ)
-      → HoldsBytes before n → KeyFrontGives front before mid
-      → ReadingFails (others_read at front.0) (λ _. ⊥) e mid after
-      → ReadingFails (private_key_read at) (λ _. ⊥) e before after
-  viewed_key_fails_at_others e front None mid after n holds gives fails = absurd holds
-  viewed_key_fails_at_others e front (Some i) mid after n holds gives (failed, inl w) = absurd (input_allocates_nothing mid w.1)
-  viewed_key_fails_at_others e front (Some i) mid after n holds gives (failed, inr f) =
-      (failed, inr (private_key_fault_at_others e front i mid gives f))
-
-module _ {S V : Type 0} {valid : S → Type 0} {printed : S → List ℕ} {spelling : FrontReading S} {means : S → V}
-    {at : FrontReading V} (law : ReadsFrontPrinted valid printed spelling) (alike : ReadsFrontAlike spelling means at)
-    (may wants : List ℕ → Type 0) (e : ErrorKind) where
-  -- A fault of a private key, or memory ran out.
-  abbrev pub PrivateKeyFails : Input → Input → Type 0
-  PrivateKeyFails = ReadingFails (private_key_read at) (AllocatesInKey valid printed means may wants) e
-
-  -- The other primes behind the front aren't read.
-  pub private_key_fails_at_others : (front : ℕ × EightNumbersThen V (Unit {0})) (before mid after : Input) (n : ℕ)
-      → HoldsBytes before n
-      → AreBytes (left_in before) → KeyFrontGives at front before mid
-      → ReadingFails (others_read at front.0) wants e mid after
-      → PrivateKeyFails before after
-  private_key_fails_at_others front None mid after n holds bytes gives fails = absurd holds
-  private_key_fails_at_others front (Some i) mid after n holds bytes gives fails =
-      let g = gives.1 i refl in
-      let s = (front_reading_reads (front_law law) (fronts_alike alike)).gives i g.0 front bytes g.1 in (
-        fails.0,
-        ⊎_elim (λ w. inl (w.0, inr (front, (s.0, g.0, s.2, rw g.2 at w.1, s.1))))
-            (λ f. inr (private_key_fault_at_others at e front i mid gives f)) fails.1,
-      )
+-- Or of what needs memory.
+pub key_fails_at_others : {S V : Type 0} {valid : S → Type 0} {printed : S → List ℕ} {spelling : FrontReading S}
+    {means : S → V} {at : FrontReading V} → ReadsFrontPrinted valid printed spelling → ReadsFrontAlike spelling means at
+    → (may wants : List ℕ → Type 0) (e : ErrorKind) (front : ℕ × EightNumbersThen V (Unit {0})) (i rest : List ℕ)
+    → AreBytes i → front_read at i ≡ Ok (front, rest)
+    → FaultOrMemory e (wants rest) (others_read at front.0 rest ≡ Err e)
+    → FaultOrMemory e (AllocatesInKey valid printed means may wants i) (private_key_read at i ≡ Err e)
+key_fails_at_others law alike may wants e front i rest bytes read (inl w) =
+    let s = (front_reading_reads (front_law law) (fronts_alike alike)).gives i rest front bytes read in
+    inl (w.0, inr (front, (s.0, rest, s.2, w.1, s.1)))
+key_fails_at_others {at = at} law alike may wants e front i rest bytes read (inr f) =
+    inr (fault_at_others at front i rest read e f)
 
 -- The faults of keys are about the bytes.
 pub public_tells : FaultsTell rsa_public_key

@@ -1,10 +1,8 @@
 -- The other primes that an iterator has left: how many, and the first one. For `src/other_primes.rt`, and what makes
 -- one in `src/viewed_key.rt`.
-use Rattle.std.proofs.Common.{◌≡◌, ℕ, ◌-◌, ◌<◌, List, [], ◌∷◌, length, map, sym, ap, ◌∙◌, arith, drop, take, take_all, Some, None, Ok, false, nat_lt, refl}
-use Rattle.der_core.specs.Words.{AreBytes, Input, front_of, read_from, ok_pair, HoldsBytes}
-use Rattle.std.proofs.lemmas.Grind.{common_steps}
+use Rattle.std.proofs.Common.{◌≡◌, ℕ, ◌-◌, ◌<◌, List, ◌∷◌, length, map, sym, ap, ◌∙◌, Ok}
+use Rattle.der_core.specs.Words.{AreBytes}
 use Rattle.std.proofs.lemmas.List.{length-map}
-use Rattle.der_core.proofs.ReadSteps.{ReadingGives, input_injective}
 use Rattle.pkcs1.specs.Words.{held_other_primes, primes_encoded, number_front, primes_read, OtherRow, item_shorter, integer_law, primes_law, listed_printed, held_primes_behind_first, held_primes_are_read, next_law, next_some, held_primes_are_one, next_prime, others_left, others_left-is, other_stated}
 use Rattle.std.specs.List.{concat}
 use Rattle.pkcs1.specs.declared.other_primes.OtherPrimes.{OtherPrimes}
@@ -46,29 +44,7 @@ held_primes_read primes bytes is =
     ∙ held_primes_are_read primes.bytes.now primes.left primes.held
     ∙ ap (λ o. Ok o) (sym (others_left-is primes))
 
--- what reading the first one gave
-pub next_prime_read : {X : Type 0} (value : X → OtherRow ℕ) (other : X) (i : List ℕ) (before after : Input)
-    → before ≡ Some i → ReadingGives next_prime (value other) before after
-    → (rest : List ℕ) × (next_prime i ≡ Ok (value other, rest)) × (after ≡ Some rest)
-next_prime_read value other i None after is gives = cc
-next_prime_read value other i (Some j) after is (rest, read, left) =
-    (rest, ap next_prime (sym (input_injective j i is)) ∙ read, left)
-
 -- reading one leaves less
 pub next_prime_shorter : (i rest : List ℕ) (other : OtherRow ℕ) → AreBytes i → next_prime i ≡ Ok (other, rest)
     → length rest < length i
 next_prime_shorter i rest other are next = (item_shorter next_law next_some i rest other are next).0
-
--- all that is left is the front
-pub front_of_all_taken : (before : Input) (n : ℕ) (bytes rest : List ℕ) → HoldsBytes before n
-    → read_from before (front_of n) ≡ Ok (bytes, rest) → (before ≡ Some bytes) × (rest ≡ [])
-front_of_all_taken None n bytes rest h r = absurd h
-front_of_all_taken (Some c) n bytes rest h r =
-    let room : nat_lt (length c) n ≡ false = grind arith in
-    let p = ok_pair (take n c) bytes (drop n c) rest (rw room at r) in
-    let none : length rest ≡ 0 = (grind (arith, common_steps)) in
-    (ap (λ l. Some l) (sym (take_all n c (omega arith)) ∙ p.0), nothing rest none)
-  where
-    nothing : (l : List ℕ) → length l ≡ 0 → l ≡ []
-    nothing [] e = refl
-    nothing (x ∷ l) e = absurd (omega arith)

@@ -42,6 +42,12 @@ others_if_agreed version primes bytes =
     then (if lists_none primes then Err (Value sequence_tag) else ended primes bytes)
     else Err (Value integer_tag)
 
+-- The same of how many there are, if there is a list.
+abbrev pub others_agree : ℕ → Option ℕ → Reading (Unit {0})
+others_agree version None bytes = if version == 0 then ended tt bytes else Err (Value integer_tag)
+others_agree version (Some n) bytes =
+    if version == 1 then (if n == 0 then Err (Value sequence_tag) else ended tt bytes) else Err (Value integer_tag)
+
 -- What follows the eight numbers of a private key of this version.
 abbrev pub others_read : {Number : Type 0} → FrontReading Number → ℕ → Reading (Option (List (OtherRow Number)))
 others_read at version =

@@ -2,7 +2,7 @@
 pub use Rattle.pkcs1.specs.Allocating.{AllocatesForKey, AllocatesInKey, AllocatesInNumbers, AllocatesInOther, AllocatesInOthers, MayAllocate, NumberPrints, OthersFollow, OwnedKeyAllocates, OwnedPublicKeyAllocates, VersionPrints}
 pub use Rattle.pkcs1.specs.Held.{HoldsNone, IsPrivateKey, held_other_prime, held_other_primes, held_private_key, held_public_key, held_view, number_in, primes_encoded}
 pub use Rattle.pkcs1.specs.KeyEncodings.{AreDelimited, IsEncoded, Refuses, Rejects, Unmade, Withholds}
-pub use Rattle.pkcs1.specs.KeyReadings.{bytes_if_read, fault_in, front_read, lists_none, number_front, others_if_agreed, others_read, primes_read, private_key_read, public_read, rsa_private_key, rsa_public_key, version_read, whole_private_key}
+pub use Rattle.pkcs1.specs.KeyReadings.{bytes_if_read, fault_in, front_read, lists_none, number_front, others_agree, others_if_agreed, others_read, primes_read, private_key_read, public_read, rsa_private_key, rsa_public_key, version_read, whole_private_key}
 pub use Rattle.pkcs1.specs.KeyValue.{ListsNone, crt_with, key_row, key_with, other_of, others_of, parts_row, private_key_with, public_row}
 pub use Rattle.pkcs1.specs.Keys.{EightNumbersThen, KeyRow, OtherRow, PrivateRow, ThreeNumbersThen, eight_numbers_as, eight_numbers_before, key_numbers, other_as, others_as, others_in, private_as, private_front_parts, row_as, three_numbers_as, version_of}
 pub use Rattle.pkcs1.specs.OtherPrimesHeld.{next_prime}

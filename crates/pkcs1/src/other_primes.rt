@@ -3,7 +3,7 @@ ghost use Rattle.std.specs.Prelude.{◌≡◌, [], ◌≤◌, List, ℕ, length,
 ghost use Rattle.std.specs.List.{AllByRecursion};
 ghost use Rattle.std.specs.Iterator.{UpTo, YieldsFirstBy, item_count};
 ghost use Rattle.std.specs.Iterator.SizeHint.{IsWithinCount};
-ghost use Rattle.der_core.specs.Words.{AreBytes, ReadsFront, bytes_of, left_of, limit, nothing_asked, one_spelling_shortest, reading_alike};
+ghost use Rattle.der_core.specs.Words.{AreBytes, bytes_of, limit, nothing_asked, one_spelling_shortest, reading_alike};
 ghost use Rattle.pkcs1.specs.KeyReadings.{number_front, primes_read};
 ghost use Rattle.pkcs1.specs.Keys.{OtherRow};
 ghost use Rattle.pkcs1.specs.Laws.PrimesHeld.{HoldsPrimes-prop};
@@ -14,8 +14,7 @@ ghost use Rattle.standard.specs.Statement as standard;
 
 use crate::private_key::other_prime_info::OtherPrimeInfo;
 use der_core::{
-    Contents, Decode, DecodeValue, Header, Memory, NoMemory, Reader, Result, SequenceTag,
-    SliceReader, Tag, TaggedBy, UintRef, quick_contents,
+    Contents, Decode, DecodeValue, Memory, NoMemory, Result, SequenceTag, TaggedBy, UintRef,
 };
 
 /// An iterator over the other primes of a private key, in order. It borrows the input, allocates nothing, and knows how
@@ -28,58 +27,18 @@ pub struct OtherPrimes<'a> {
     ghost held: { HoldsPrimes bytes.now left } by { HoldsPrimes-prop bytes.now left },
 }
 
-/// Decodes the next other prime.
+/// The first other prime, and the bytes after it. The bytes are octets.
 #[inline(always)]
-fn read_other<'a>(reader: &mut SliceReader<'a>) -> Result<OtherPrimeInfo<UintRef<'a>>>
-    ensures { let value = ⟦<OtherPrimeInfo<UintRef<'static>> as Contents>⟧.value in
-        ReadsFront value next_prime (λ _. ⊥) result (left_of reader.old) (left_of reader.new) }
-{
-    let other = OtherPrimeInfo::decode(NoMemory, reader)?;
-    Ok(other)
-}
-
-/// The first other prime, and the bytes after it, if that is quickly told.
-#[inline(always)]
-fn quick_other<'a>(bytes: &'a [u8]) -> Option<(OtherPrimeInfo<UintRef<'a>>, &'a [u8])>
-    ensures some { let value = ⟦<OtherPrimeInfo<UintRef<'static>> as Contents>⟧.value in
-        IfSome result (λ p. next_prime bytes.now ≡ Ok (value p.0, p.1.now)) }
-    ensures octets { AreBytes bytes.now }
-{
-    let split = OtherPrimeInfo::quick(NoMemory, bytes)?;
-    Some(split)
-}
-
-/// Counts the other primes whose encodings, in a row, are the bytes, if that is quickly told.
-#[inline(always)]
-fn quick_count(bytes: &[u8]) -> Option<usize>
-    requires { length bytes.now ≤ limit }
-    ensures { IfSome result (HoldsPrimes bytes.now) }
-{
-    let mut rest = bytes;
-    let mut count = 0;
-    while !rest.is_empty() {
-        let (_other, behind) = quick_other(rest)?;
-        rest = behind;
-        count += 1;
-    }
-    Some(count)
-}
-
-/// Decodes the first other prime, and returns it with the bytes after it. The bytes are octets.
 fn first_other<'a>(bytes: &'a [u8]) -> Result<(OtherPrimeInfo<UintRef<'a>>, &'a [u8])>
     requires { length bytes.now ≤ limit }
     ensures ok { let value = ⟦<OtherPrimeInfo<UintRef<'static>> as Contents>⟧.value in
         IfOk result (λ p. next_prime bytes.now ≡ Ok (value p.0, p.1.now)) }
     ensures err { IfErr result (λ e. next_prime bytes.now ≡ Err e.kind) }
     ensures octets { AreBytes bytes.now }
+    ensures rest { IfOk result (λ p. length p.1.now ≤ limit) }
 {
-    if let Some(split) = quick_other(bytes) {
-        return Ok(split);
-    }
-    let mut reader = SliceReader::new(bytes)?;
-    let other = read_other(&mut reader)?;
-    let rest = reader.read_slice(reader.remaining_len())?;
-    Ok((other, rest))
+    let split = OtherPrimeInfo::read_one(NoMemory, bytes)?;
+    Ok(split)
 }
 
 /// The same octets, for a contract that says that they are octets.
@@ -97,10 +56,11 @@ fn count_others(bytes: &[u8]) -> Result<usize>
     ensures ok { IfOk result (HoldsPrimes bytes.now) }
     ensures exact { IfErr result (λ e. primes_read number_front bytes.now ≡ Err e.kind) }
 {
-    let mut reader = SliceReader::new(bytes)?;
+    let mut rest = bytes;
     let mut count = 0;
-    while reader.peek_octet().is_some() {
-        let _other = read_other(&mut reader)?;
+    while !rest.is_empty() {
+        let (_other, behind) = first_other(rest)?;
+        rest = behind;
         count += 1;
     }
     Ok(count)
@@ -174,27 +134,9 @@ impl<'a, M: Memory> DecodeValue<&'a [u8], M> for OtherPrimes<'a> {
 
     ghost asks_memory = { nothing_asked };
 
-    fn decode_value<R: Reader<&'a [u8]>>(
-        _memory: M,
-        reader: &mut R,
-        header: Header,
-    ) -> Result<OtherPrimes<'a>> {
-        let bytes = reader.read_slice(header.length)?;
-        match count_others(bytes) {
-            Ok(left) => Ok(OtherPrimes { bytes, left }),
-            Err(e) => Err(reader.error(e.kind())),
-        }
-    }
-
-    #[inline(always)]
-    fn quick_split(bytes: &'a [u8], tag: Tag) -> Option<(&'a [u8], &'a [u8])> {
-        quick_contents(bytes, tag)
-    }
-
-    #[inline(always)]
-    fn quick_value(_memory: M, contents: &'a [u8]) -> Option<OtherPrimes<'a>> {
-        let left = quick_count(contents)?;
-        Some(OtherPrimes {
+    fn read_value(_memory: M, contents: &'a [u8]) -> Result<OtherPrimes<'a>> {
+        let left = count_others(contents)?;
+        Ok(OtherPrimes {
             bytes: contents,
             left,
         })

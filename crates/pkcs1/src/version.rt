@@ -8,8 +8,8 @@ ghost use Rattle.der_core.specs.Words.{nothing_asked, number_contents, reading_a
 ghost use Rattle.pkcs1.specs.Words.{IsVersionOf, version_law, version_number, version_read, version_shortest};
 
 use der_core::{
-    BackWriter, Contents, DecodeValue, EncodeValue, ErrorKind, Header, IntegerTag, Length, Memory,
-    Reader, Result, Tag, TaggedBy, Writer, quick_short,
+    BackWriter, Contents, DecodeValue, EncodeValue, ErrorKind, IntegerTag, Length, Memory, Result,
+    Tag, TaggedBy, Writer,
 };
 use pkcs1_params::Error;
 use std::cmp::Ordering;
@@ -138,26 +138,13 @@ impl<'a, M: Memory> DecodeValue<&'a [u8], M> for Version {
 
     ghost asks_memory = { nothing_asked };
 
-    fn decode_value<R: Reader<&'a [u8]>>(
-        memory: M,
-        reader: &mut R,
-        header: Header,
-    ) -> Result<Version> {
-        let number = u8::decode_value(memory, reader, header)?;
+    #[inline(always)]
+    fn read_value(memory: M, contents: &'a [u8]) -> Result<Version> {
+        let number = u8::read_value(memory, contents)?;
         match Version::try_from(number) {
             Ok(version) => Ok(version),
-            Err(_) => Err(reader.error(ErrorKind::Value { tag: Tag::INTEGER })),
+            Err(_) => Err(der_core::Error::new(ErrorKind::Value { tag: Tag::INTEGER })),
         }
-    }
-
-    #[inline(always)]
-    fn quick_split(bytes: &'a [u8], tag: Tag) -> Option<(&'a [u8], &'a [u8])> {
-        quick_short(bytes, tag)
-    }
-
-    #[inline(always)]
-    fn quick_value(memory: M, contents: &'a [u8]) -> Option<Version> {
-        Version::try_from(u8::quick_value(memory, contents)?).ok()
     }
 }
 

@@ -1,13 +1,12 @@
 //! Other primes of private keys.
-ghost use Rattle.std.specs.Prelude.{◌≡◌, ◌↔◌, IsTrue, None, Some, Ok, IfOk, IfSome, IsOk, IfErr};
-ghost use Rattle.der_core.specs.Words.{ReadsWhole};
-ghost use Rattle.pkcs1.specs.Words.{AllocatesInOthers, ListsNone, other_of, others_of, others_read, version_number};
+ghost use Rattle.std.specs.Prelude.{◌≡◌, ◌≤◌, ◌↔◌, IsTrue, None, IfOk, IsOk, IfErr, length, option_map};
+ghost use Rattle.der_core.specs.Words.{Answers, Returns, ended, limit};
+ghost use Rattle.pkcs1.specs.Words.{AllocatesInOthers, ListsNone, other_of, others_agree, others_of, others_read, version_number};
 
 use crate::version::Version;
 use der_core::{
-    BackWriter, Borrowed, Decode, Encode, EncodeInParts, EncodeValue, Encoding, ErrorKind, Length,
-    Reader, Record, Result, SequenceTag, Tag, TaggedBy, TryClone, Writer, begins_with,
-    decode_optional, quick_alone,
+    BackWriter, Borrowed, Decode, Encode, EncodeInParts, EncodeValue, Encoding, Error, ErrorKind,
+    Length, Record, Result, SequenceTag, Tag, TaggedBy, TryClone, Writer, read_optional,
 };
 use std::alloc::{AllocError, Global};
 
@@ -146,62 +145,65 @@ pub(crate) fn lists_none<U>(others: &Option<OtherPrimeInfos<U>>) -> bool
     }
 }
 
-/// Decodes the rest of a key: its other primes, which must agree with the version.
-pub(crate) fn read_other_primes<'a, U: Decode<&'a [u8], Global>, R: Reader<&'a [u8]>>(
+/// How many are listed, if there is a list.
+fn count_listed<U>(others: &Option<OtherPrimeInfos<U>>) -> Option<usize>
+    ensures { result ≡ option_map (λ infos. length infos.items) others.now }
+{
+    match others {
+        Some(infos) => Some(infos.len()),
+        None => None,
+    }
+}
+
+/// Rejects other primes that don't agree with the version, of which so many are listed, and bytes behind them: `Value`
+/// of INTEGER if there is a list exactly for two primes, `Value` of SEQUENCE if it is empty, else `TrailingData`.
+pub(crate) fn require_agreed(version: Version, listed: Option<usize>, rest: &[u8]) -> Result<()>
+    ensures { Answers (λ u. u) result (others_agree (version_number version) listed rest.now) }
+{
+    match listed {
+        None => {
+            if version.is_multi() {
+                return Err(Error::new(ErrorKind::Value { tag: Tag::INTEGER }));
+            }
+            require_end(rest)
+        }
+        Some(count) => {
+            if !version.is_multi() {
+                return Err(Error::new(ErrorKind::Value { tag: Tag::INTEGER }));
+            }
+            if count == 0 {
+                return Err(Error::new(ErrorKind::Value { tag: Tag::SEQUENCE }));
+            }
+            require_end(rest)
+        }
+    }
+}
+
+/// `TrailingData` if bytes are left.
+#[inline(always)]
+fn require_end(rest: &[u8]) -> Result<()>
+    ensures { Answers (λ u. u) result (ended tt rest.now) }
+{
+    if !rest.is_empty() {
+        return Err(Error::new(ErrorKind::TrailingData));
+    }
+    Ok(())
+}
+
+/// Reads the rest of a key: its other primes, which must agree with the version.
+pub(crate) fn read_other_primes<'a, U: Decode<&'a [u8], Global>>(
     memory: Global,
-    reader: &mut R,
+    bytes: &'a [u8],
     version: Version,
 ) -> Result<Option<OtherPrimeInfos<U>>>
-    ensures { let may = AllocatesInOthers U.valid U.printed U.means U.Decode.may_allocate in
+    requires { length bytes.now ≤ limit }
+    ensures { let asked = AllocatesInOthers U.valid U.printed U.means U.Decode.may_allocate bytes.now in
         let read = others_read U.read_front (version_number version) in
-        ReadsWhole (others_of U.value) read may result (R.left reader.old) (R.left reader.new) }
+        Returns (others_of U.value) (read bytes.now) asked result }
 {
-    let others: Option<OtherPrimeInfos<U>> = decode_optional(memory, reader)?;
-    if version.is_multi() != others.is_some() {
-        return Err(reader.error(ErrorKind::Value { tag: Tag::INTEGER }));
-    }
-    if lists_none(&others) {
-        return Err(reader.error(ErrorKind::Value { tag: Tag::SEQUENCE }));
-    }
-    reader.finish()?;
+    let (others, rest) = read_optional::<OtherPrimeInfos<U>, Global>(memory, bytes)?;
+    require_agreed(version, count_listed(&others), rest)?;
     Ok(others)
-}
-
-/// What `read_other_primes` gives of all of the bytes, if that is quickly told.
-#[inline(always)]
-pub(crate) fn quick_other_primes<'a, U: Decode<&'a [u8], Global>>(
-    memory: Global,
-    bytes: &'a [u8],
-    version: Version,
-) -> Option<Option<OtherPrimeInfos<U>>>
-    ensures { let read = others_read U.read_front (version_number version) in
-        IfSome result (λ others. read bytes.now ≡ Ok (others_of U.value others)) }
-{
-    match version {
-        Version::Multi => Some(Some(quick_list(memory, bytes)?)),
-        Version::TwoPrime if bytes.is_empty() => Some(None),
-        Version::TwoPrime => None,
-    }
-}
-
-/// The other primes of a key of several that all of the bytes encode, if that is quickly told.
-#[inline(never)]
-fn quick_list<'a, U: Decode<&'a [u8], Global>>(
-    memory: Global,
-    bytes: &'a [u8],
-) -> Option<OtherPrimeInfos<U>>
-    ensures { IfSome result (λ infos.
-        others_read U.read_front 1 bytes.now ≡ Ok (others_of U.value (Some infos))) }
-{
-    if !begins_with(bytes, Tag::SEQUENCE) {
-        return None;
-    }
-    let infos: OtherPrimeInfos<U> = quick_alone(memory, bytes)?;
-    if infos.as_slice().is_empty() {
-        None
-    } else {
-        Some(infos)
-    }
 }
 
 /// Copies the other primes.
