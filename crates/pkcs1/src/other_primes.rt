@@ -27,9 +27,10 @@ pub struct OtherPrimes<'a> {
     ghost held: { HoldsPrimes bytes.now left } by { HoldsPrimes-prop bytes.now left },
 }
 
-/// The first other prime, and the bytes after it. The bytes are octets.
+/// Reads the other prime in front, an `OtherPrimeInfo`, and returns it with the bytes after it. Err: the first fault. A
+/// list of more than `Length::MAX` bytes isn't read.
 #[inline(always)]
-fn first_other<'a>(bytes: &'a [u8]) -> Result<(OtherPrimeInfo<UintRef<'a>>, &'a [u8])>
+pub fn first_other_prime<'a>(bytes: &'a [u8]) -> Result<(OtherPrimeInfo<UintRef<'a>>, &'a [u8])>
     requires { length bytes.now ≤ limit }
     ensures ok { let value = ⟦<OtherPrimeInfo<UintRef<'static>> as Contents>⟧.value in
         IfOk result (λ p. next_prime bytes.now ≡ Ok (value p.0, p.1.now)) }
@@ -59,7 +60,7 @@ fn count_others(bytes: &[u8]) -> Result<usize>
     let mut rest = bytes;
     let mut count = 0;
     while !rest.is_empty() {
-        let (_other, behind) = first_other(rest)?;
+        let (_other, behind) = first_other_prime(rest)?;
         rest = behind;
         count += 1;
     }
@@ -158,7 +159,7 @@ impl<'a> Iterator for OtherPrimes<'a> {
         if self.left == 0 {
             return None;
         }
-        match first_other(self.bytes) {
+        match first_other_prime(self.bytes) {
             Ok((other, rest)) => {
                 *self = OtherPrimes {
                     bytes: rest,

@@ -1,7 +1,7 @@
 //! Private keys.
 ghost use Rattle.std.specs.Prelude.{length, drop, ◌≡◌, ◌≢◌, ◌≤◌, List, None};
-ghost use Rattle.der_core.specs.Words.{ReadsFront, bytes_of, left_of, limit};
-ghost use Rattle.pkcs1.specs.Words.{held_other_prime, held_view, listed_others, next_prime, primes_encoded, rsa_private_key};
+ghost use Rattle.der_core.specs.Words.{bytes_of, limit};
+ghost use Rattle.pkcs1.specs.Words.{held_other_prime, held_view, listed_others, primes_encoded, rsa_private_key};
 ghost use Rattle.pkcs1_c.specs.Words.{ArePlaced, DecodesPrivateKey, EncodingIfHeld, HasPrivateNumbers, HoldsPrivateKey, IsErrorOf, IsStatusOf, PrivateKeyError, WritesOrTells, numbers_of_prime, octets_of_prime, private_key_seen};
 ghost use Rattle.standard.specs.Statement.{Decodes, OtherPrime as Prime, PrivateKeyEncoding};
 
@@ -9,8 +9,8 @@ use crate::bytes::Bytes;
 use crate::given_key::GivenKey;
 use crate::status::{OK, OTHER_PRIMES, status};
 use crate::written::write_encoding;
-use der_core::{Contents, Decode, NoMemory, Result, SliceReader};
-use pkcs1::{OtherPrimeInfo, RsaPrivateKeyView, UintRef};
+use der_core::Length;
+use pkcs1::{OtherPrimeInfo, RsaPrivateKeyView, UintRef, first_other_prime};
 
 /// The numbers of a private key, most significant byte first.
 #[repr(C)]
@@ -113,16 +113,6 @@ pub extern "C" fn pkcs1_c_private_key_decode<'a>(
     }
 }
 
-/// Decodes the prime at the front of what is left.
-#[inline(always)]
-fn read_prime<'a>(reader: &mut SliceReader<'a>) -> Result<OtherPrimeInfo<UintRef<'a>>>
-    ensures { let value = ⟦<OtherPrimeInfo<UintRef<'static>> as Contents>⟧.value in
-        ReadsFront value next_prime (λ _. ⊥) result (left_of reader.old) (left_of reader.new) }
-{
-    let prime = OtherPrimeInfo::decode(NoMemory, reader)?;
-    Ok(prime)
-}
-
 /// Puts the primes whose encodings are `listed`, one behind the other, into `others`, as many as fit. The rest of it is
 /// as it was. Nothing is promised of other octets, at which it stops, or of more octets than the limit.
 #[unsafe(no_mangle)]
@@ -130,12 +120,16 @@ pub extern "C" fn pkcs1_c_other_primes<'a>(listed: &'a [u8], others: &mut [Other
     ensures placed { (primes : List Prime) → length listed.now ≤ limit → listed.now ≡ primes_encoded primes
         → ArePlaced primes others.new × (drop (length primes) others.new ≡ drop (length primes) others.old) }
 {
-    let Ok(mut reader) = SliceReader::new(listed) else {
+    if listed.len() > Length::MAX.to_usize() {
         return;
-    };
+    }
+    let mut rest = listed;
     for i in 0..others.len() {
-        match read_prime(&mut reader) {
-            Ok(prime) => others[i] = to_c_other_prime(&prime),
+        match first_other_prime(rest) {
+            Ok((prime, behind)) => {
+                others[i] = to_c_other_prime(&prime);
+                rest = behind;
+            }
             Err(_) => return,
         }
     }

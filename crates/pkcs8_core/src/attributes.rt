@@ -4,8 +4,8 @@ ghost use Rattle.der_core.specs.Words.{AreBytes, itself_once, nothing_asked, oct
 ghost use Rattle.pkcs8_core.specs.Tags.{attributes_tag};
 
 use pkcs1::der::{
-    BackWriter, Contents, DecodeValue, EncodeValue, Header, Length, Memory, OneContents, Reader,
-    Result, Tag, TagMarker, TaggedBy, Writer, quick_contents,
+    BackWriter, Contents, DecodeValue, EncodeValue, Length, Memory, OneContents, Result, Tag,
+    TagMarker, TaggedBy, Writer,
 };
 
 /// The tag of attributes.
@@ -78,23 +78,9 @@ impl<'a, M: Memory> DecodeValue<&'a [u8], M> for Attributes<'a> {
 
     ghost asks_memory = { nothing_asked };
 
-    fn decode_value<R: Reader<&'a [u8]>>(
-        _memory: M,
-        reader: &mut R,
-        header: Header,
-    ) -> Result<Attributes<'a>> {
-        let bytes = reader.read_slice(header.length)?;
-        Ok(Attributes::new(bytes))
-    }
-
     #[inline(always)]
-    fn quick_split(bytes: &'a [u8], tag: Tag) -> Option<(&'a [u8], &'a [u8])> {
-        quick_contents(bytes, tag)
-    }
-
-    #[inline(always)]
-    fn quick_value(_memory: M, contents: &'a [u8]) -> Option<Attributes<'a>> {
-        Some(Attributes::new(contents))
+    fn read_value(_memory: M, contents: &'a [u8]) -> Result<Attributes<'a>> {
+        Ok(Attributes::new(contents))
     }
 }
 
