@@ -11,15 +11,6 @@ use Rattle.std.specs.Int.Count.{count_leading_zeros, leading_of_zero}
 use Rattle.std.proofs.lemmas.Int.Digits.{number_after_lt}
 
 -- What is left behind a padding zero.
-pub tail_holds_number : (xs : List ℕ) → 2 ≤ length xs → 128 ≤ get_or xs 1 0 → ((i : ℕ) → get_or xs i 0 < 256)
-    → HoldsNumber (take (length xs - 1) (drop 1 xs))
-tail_holds_number [] n h b = absurd (omega arith)
-tail_holds_number (x ∷ []) n h b = absurd (omega arith)
-tail_holds_number (x ∷ y ∷ ys) n h b =
-    let e : take (length (x ∷ y ∷ ys) - 1) (y ∷ ys) ≡ y ∷ ys =
-    take_all (length (x ∷ y ∷ ys) - 1) (y ∷ ys) (omega arith) in
-    rw e (omega arith, (λ _. omega arith), λ i. b (suc i))
-
 -- The faults of the contents of an INTEGER, as its reader meets them.
 pub integer_of_empty : (xs : List ℕ) (k : ErrorKind) (t : Tag) → length xs < 1 → k ≡ kind.Length t → t.octet ≡ 2
     → integer_of xs ≡ Err k
@@ -37,16 +28,20 @@ integer_of_negative (x ∷ y ∷ ys) k t n h e o =
     let big : nat_lt x 128 ≡ false = grind arith in
     rw big (ap (λ x. Err x) (sym (e ∙ ap kind.Value (same_tag t integer_tag o))))
 
-pub integer_of_padded : (xs : List ℕ) (k : ErrorKind) (t : Tag) → 2 ≤ length xs → get_or xs 0 0 ≡ 0
-    → get_or xs 1 0 < 128
+pub integer_of_padded : (xs : List ℕ) (k : ErrorKind) (t : Tag) → 1 ≤ length xs → get_or xs 0 0 ≡ 0
+    → 1 ≤ length (take (length xs - 1) (drop 1 xs)) → get_or (take (length xs - 1) (drop 1 xs)) 0 0 < 128
     → k ≡ kind.Noncanonical t → t.octet ≡ 2 → integer_of xs ≡ Err k
-integer_of_padded [] k t n z h e o = absurd (omega arith)
-integer_of_padded (x ∷ []) k t n z h e o = absurd (omega arith)
-integer_of_padded (x ∷ y ∷ ys) k t n z h e o =
-    let less : nat_lt x 128 ≡ true = grind arith in
-    let zero : (x == 0) ≡ true = grind arith in
-    let low : nat_lt y 128 ≡ true = grind arith in
-    rw (less, zero, low) (ap (λ x. Err x) (sym (e ∙ ap kind.Noncanonical (same_tag t integer_tag o))))
+integer_of_padded [] k t n z some h e o = absurd (omega arith)
+integer_of_padded (x ∷ xs) k t n z some h e o =
+    let all : take (length (x ∷ xs) - 1) xs ≡ xs = take_all _ xs (omega arith) in go xs (rw all at some) (rw all at h)
+  where
+    go : (xs : List ℕ) → 1 ≤ length xs → get_or xs 0 0 < 128 → integer_of (x ∷ xs) ≡ Err k
+    go [] some h = absurd (omega arith)
+    go (y ∷ ys) some h =
+        let less : nat_lt x 128 ≡ true = grind arith in
+        let zero : (x == 0) ≡ true = grind arith in
+        let low : nat_lt y 128 ≡ true = grind arith in
+        rw (less, zero, low) (ap (λ x. Err x) (sym (e ∙ ap kind.Noncanonical (same_tag t integer_tag o))))
 
 -- == Worked rows: contents octets, with the octets of the number or the kind of the fault ==
 

@@ -1,13 +1,10 @@
 -- Reading with `?`, where each step gives the value and what follows it, or the error: each exit of the code is one lemma.
-use Rattle.std.proofs.Common.{ℕ, Bool, true, false, List, [], ◌∷◌, ◌++◌, ◌≡◌, ◌≢◌, ◌≤◌, ◌==◌, length, take, drop, refl, subst, sym, ap, ◌∙◌, arith, inl, inr, ⊎_elim, append_assoc, length-take, Result, Ok, Err, Some, None, take-append-drop, take_all, nat_lt, not, eqb, if◌then◌else◌, IfOk, IfErr}
+use Rattle.std.proofs.Common.{ℕ, Bool, true, false, List, [], ◌++◌, ◌≡◌, ◌≢◌, ◌≤◌, ◌==◌, length, take, drop, subst, sym, ap, ◌∙◌, arith, inl, inr, ⊎_elim, length-take, Result, Ok, Err, Some, None, take_all, nat_lt, not, eqb, if◌then◌else◌, IfOk, IfErr}
 use Rattle.std.proofs.lemmas.List.{drop_all}
-use Rattle.der_core.specs.Words.{nat_tests, Error, ErrorKind, Tag, WithinLimit, AreBytes, Input, left_in, read_from, header_at, inner_of, end_of, small_of, header_at-sound, ok_pair, cond_cases, limit, AllocatesInParts, ReadsPrinted, AllocatesAtFront, DecodesOrMemory, InputAllocates, FaultOrMemory, Returns, ReadsAll, Reading, FrontReading, ◌>>=◌, chain, ended, expected, front_parts, parts, such, alone, tagged, contents_behind, inside, whole, ReadsContents, ReadsFronts, integer_tag, Tlv, HoldsBytes, front_of, behind_within, ok_injective, tagged_reads, AllocatesInRow, octets_of_all, bind_ok}
+use Rattle.der_core.specs.Words.{nat_tests, Error, ErrorKind, Tag, WithinLimit, AreBytes, Input, left_in, read_from, header_at, small_of, ok_pair, cond_cases, limit, AllocatesInParts, AllocatesAtFront, DecodesOrMemory, InputAllocates, FaultOrMemory, Returns, ReadsAll, Reading, FrontReading, ◌>>=◌, expected, front_parts, parts, such, tagged, contents_behind, inside, ReadsContents, ReadsFronts, integer_tag, Tlv, HoldsBytes, front_of, behind_within, ok_injective, tagged_reads, octets_of_all, bind_ok}
 use Rattle.der_core.specs.declared.error.ErrorKind.TheVariants.{OutOfMemory, TagUnexpected, Value}
 use Rattle.der_core.proofs.QuickReading.{read_inside}
 use Rattle.der_core.proofs.Readings.{contents_behind_other_tag}
-
-pub input_injective : (a b : List ℕ) (e : ◌≡◌ {A = Input} (Some a) (Some b)) → a ≡ b
-input_injective a b e = cc
 
 -- What a call ensures of an error, and of a value with what is left.
 abbrev pub ReadingFails : {R : Type 0} → Reading R → (List ℕ → Type 0) → ErrorKind → Input → Input → Type 0
@@ -16,30 +13,6 @@ ReadingFails read asked e before after = (after ≡ None)
 
 abbrev pub ReadingGives : {V : Type 0} → FrontReading V → V → Input → Input → Type 0
 ReadingGives at v before after = (rest : List ℕ) × (read_from before at ≡ Ok (v, rest)) × (after ≡ Some rest)
-
--- A function with the same faults, of contents that may ask for memory wherever the first ones may.
-pub failure_of_same_faults : {A B : Type 0} (read : Reading A) (other : Reading B)
-    → ((k : ErrorKind) (c : List ℕ) → read c ≡ Err k → other c ≡ Err k) → (asked more : List ℕ → Type 0)
-    → ((c : List ℕ) → asked c → more c) → (e : ErrorKind) (before after : Input)
-    → ReadingFails read asked e before after
-    → ReadingFails other more e before after
-failure_of_same_faults read other errs asked more to e None after (failed, inl w) = (failed, inl w)
-failure_of_same_faults read other errs asked more to e (Some c) after (failed, inl w) = (failed, inl (w.0, to c w.1))
-failure_of_same_faults read other errs asked more to e None after (failed, inr p) = (failed, inr (let q = p in cc))
-failure_of_same_faults read other errs asked more to e (Some c) after (failed, inr p) = (failed, inr (errs e c p))
-
--- Contents may ask for memory that were read.
-pub asks_read : {S : Type 0} {valid : S → Type 0} {printed : S → List ℕ} {read : Reading S}
-    → ReadsPrinted valid printed read → (s : S) (before : Input) → AreBytes (left_in before)
-    → read_from before read ≡ Ok s → InputAllocates (λ c. (t : S) × (c ≡ printed t)) before
-asks_read law s None bytes p = cc
-asks_read law s (Some c) bytes p = (s, (law.gives c s bytes p).1)
-
--- Behind a first part, what the chain gives is what follows it.
-pub chain_read_from : {A B : Type 0} (at : FrontReading A) (behind : A → Reading B) (x : A) (before mid : Input)
-    → ReadingGives at x before mid → read_from before (chain at behind) ≡ read_from mid (behind x)
-chain_read_from at behind x None mid (rest, p, is) = cc
-chain_read_from at behind x (Some i) mid (rest, p, is) = ap (λ r. r >>= λ q. behind q.0 q.1) p ∙ (rw is refl)
 
 -- A value that was read and doesn't pass the test.
 pub such_refuses_value : {V : Type 0} (read : Reading V) (test : V → Bool) (failure e : ErrorKind) (v : V) (c : List ℕ)
@@ -55,25 +28,13 @@ expected_refuses_value n v e c p ne kind =
     ap (λ r. (r >>= λ v. if v == n then Ok v else Err (Value integer_tag)) >>= λ _. Ok tt) p
     ∙ rw no (ap (λ k. Err k) (sym kind))
 
--- What was read at the front, by the grammar, and that memory may be asked for it. A fault, where none is asked for.
+-- Where a value was read at the front, memory may be asked for it.
 module _ {V : Type 0} {encoding : V → List ℕ → Type 0} {at : FrontReading V} (law : ReadsFronts encoding at) where
-  pub front_gives : (x : V) (before after : Input) → AreBytes (left_in before) → ReadingGives at x before after
-      → (b : List ℕ) × (rest : List ℕ) × (before ≡ Some (b ++ rest)) × (after ≡ Some rest) × encoding x b
-  front_gives x None after bytes (rest, p, is) = cc
-  front_gives x (Some i) after bytes (rest, p, is) =
-      let s = law.gives i rest x bytes p in (s.0, rest, ap (λ l. Some l) s.1, is, s.2)
-
   pub front_asks : (x : V) (before after : Input) → AreBytes (left_in before) → ReadingGives at x before after
       → InputAllocates (AllocatesAtFront (λ b. (v : V) × encoding v b)) before
   front_asks x None after bytes (rest, p, is) = cc
   front_asks x (Some i) after bytes (rest, p, is) =
       let s = law.gives i rest x bytes p in (s.0, rest, s.1, (x, s.2))
-
-pub front_errs : {V : Type 0} (at : FrontReading V) (e : ErrorKind) (before : Input) (b : List ℕ) → before ≡ Some b
-    → FaultOrMemory e (InputAllocates (AllocatesAtFront (λ _. ⊥)) before) (read_from before at ≡ Err e) → at b ≡ Err e
-front_errs at e None b is faulty = cc
-front_errs at e (Some i) b is (inl w) = absurd w.1.3
-front_errs at e (Some i) b is (inr p) = ap at (sym (input_injective i b is)) ∙ p
 
 -- A value that is copied once it was read, for which memory may be asked.
 pub copied : {X W V : Type 0} (value : X → W) (meaning : W → V) {given : Result V ErrorKind} (w : W) {asked : Type 0}
@@ -87,15 +48,6 @@ pub fault_without_memory : {e : ErrorKind} {asked fault : Type 0} → (asked →
 fault_without_memory never (inl w) = absurd (never w.1)
 fault_without_memory never (inr f) = f
 
--- What the code tests by `!`, and by `!=`.
-pub not_true : (b : Bool) → not b ≡ true → b ≡ false
-not_true true e = cc
-not_true false e = refl
-
-pub not_false : (b : Bool) → not b ≡ false → b ≡ true
-not_false true e = refl
-not_false false e = cc
-
 pub unequal_test_true : (r : Bool) (a b t : ℕ) → r ≡ true → r ≡ not (eqb a b) → b ≡ t → a ≢ t
 unequal_test_true r a b t e f g h =
     grind arith
@@ -103,14 +55,6 @@ unequal_test_true r a b t e f g h =
 pub unequal_test_false : (r : Bool) (a b t : ℕ) → r ≡ false → r ≡ not (eqb a b) → b ≡ t → a ≡ t
 unequal_test_false r a b t e f g =
     grind arith
-
--- Contents are split off, if there are as many octets as the header says.
-inner_of_splits : (n : ℕ) (left rest : List ℕ) (inner : Input) → inner_of n left ≡ Ok (inner, rest)
-    → (nat_lt (length left) n ≡ false) × (inner ≡ Some (take n left)) × (rest ≡ drop n left)
-inner_of_splits n left rest inner is =
-    ⊎_elim (λ w. cc)
-    (λ w. let parts = ok_pair (Some (take n left)) inner (drop n left) rest w.1 in (w.0, sym parts.0, sym parts.1))
-    (cond_cases (nat_lt (length left) n) _ _ _ is)
 
 module _ {V : Type 0} (tag : Tag) (read : Reading V) (may : List ℕ → Type 0) where
   -- the tag is another one
@@ -124,66 +68,6 @@ module _ {V : Type 0} (tag : Tag) (read : Reading V) (may : List ℕ → Type 0)
         (ap (λ r. r >>= λ h. contents_behind tag h >>= inside read) p
         ∙ ap (λ r. r >>= inside read) (contents_behind_other_tag tag actual n rest ne) ∙ ap (λ k. Err k) (sym kind)),
   )
-
-  -- the encoding whose contents ask for memory
-  front_of_tlv : (i left : List ℕ) (n : ℕ) → AreBytes i → header_at i ≡ Ok ((tag.octet, n), left)
-      → nat_lt (length left) n ≡ false → may (take n left) → AllocatesAtFront (Tlv tag.octet may) i
-  front_of_tlv i left n bytes p room asks =
-      let head = header_at-sound i left tag.octet n bytes p in
-      let c = take n left in
-      let enough : n ≤ length left = grind arith in
-      let len : length c ≡ n = simp length-take (omega arith) in
-      let all : i ≡ (tag.octet ∷ head.0 ++ c) ++ drop n left =
-      head.2 ∙ ap (λ l. tag.octet ∷ head.0 ++ l) (sym (take-append-drop n left))
-      ∙ ap (λ l. tag.octet ∷ l) (sym (append_assoc head.0 c (drop n left))) in (
-        tag.octet ∷ head.0 ++ c,
-        drop n left,
-        all,
-        record { octets = head.0; contents = c; counted = rw len head.1; holds = asks; written = refl },
-      )
-
-  -- the contents have a fault
-  pub value_fails : (before mid inner mid2 ended after : Input) (e : ErrorKind) (t n : ℕ) → AreBytes (left_in before)
-      → ReadingGives header_at (t, n) before mid → t ≡ tag.octet → ReadingGives (inner_of n) inner mid mid2
-      → ReadingFails read may e inner ended → after ≡ None
-      → ReadingFails (tagged tag read) (AllocatesAtFront (Tlv tag.octet may)) e before after
-  value_fails None mid inner mid2 ended after e t n bytes (left, p, is) same (rest, q, are) fails failed =
-      cc
-  value_fails (Some i) mid inner mid2 ended after e t n bytes (left, p, is) same (rest, q, are) fails failed =
-      let s = inner_of_splits n left rest inner (rw is at q) in
-      let head : header_at i ≡ Ok ((tag.octet, n), left) = p ∙ ap (λ o. Ok ((o, n), left)) same in
-      let octet : (tag.octet == tag.octet) ≡ true = grind arith in
-      let here : contents_behind tag ((tag.octet, n), left) ≡ Ok (take n left, drop n left) = rw (octet, s.0) refl in (
-        failed,
-        ⊎_elim
-            (λ w. inl (w.0, front_of_tlv i left n bytes head s.0 (rw s.1 at w.1)))
-            (λ f.
-            let g : read (take n left) ≡ Err e = rw s.1 at f in
-            inr
-            (ap (λ r. r >>= λ h. contents_behind tag h >>= inside read) head ∙ ap (λ r. r >>= inside read) here
-            ∙ ap (λ r. r >>= λ v. Ok (v, drop n left)) g))
-            fails.1,
-      )
-
--- Bytes behind an encoding that has to be alone, and behind that of a whole slice.
-ended_fails : {V : Type 0} (v : V) {e : ErrorKind} (rest : List ℕ) → end_of rest ≡ Err e → ended v rest ≡ Err e
-ended_fails v [] p = cc
-ended_fails v (x ∷ xs) p = cc
-
-pub alone_fails : {V : Type 0} (at : FrontReading V) (asked : List ℕ → Type 0) (before mid after : Input)
-    (e : ErrorKind) (v : V) → ReadingGives at v before mid → read_from mid end_of ≡ Err e → after ≡ None
-    → ReadingFails (alone at) asked e before after
-alone_fails at asked None mid after e v (rest, p, is) ends failed = let no = p in cc
-alone_fails at asked (Some i) mid after e v (rest, p, is) ends failed =
-    (failed, inr (ap (λ r. r >>= λ p. ended p.0 p.1) p ∙ ended_fails v rest (rw is at ends)))
-
-pub whole_trailing : {V : Type 0} (at : FrontReading V) (before mid : Input) (b : List ℕ) (e : ErrorKind) (v : V)
-    → before ≡ Some b → length (left_in before) ≤ limit → ReadingGives at v before mid → read_from mid end_of ≡ Err e
-    → whole at b ≡ Err e
-whole_trailing at before mid b e v is within (rest, p, left) ends =
-    let few : length b ≤ limit = rw is at within in
-    let no : nat_lt limit (length b) ≡ false = grind (arith, nat_tests, few) in
-    rw no (ap (λ r. r >>= λ p. ended p.0 p.1) (rw is at p) ∙ ended_fails v rest (rw left at ends))
 
 -- A fault of the header, or another tag, is one whatever the contents are.
 inner_errs : {V : Type 0} (read : Reading V) (k : ErrorKind) (r : Result (List ℕ × List ℕ) ErrorKind)
@@ -345,21 +229,6 @@ front_row_fails gives row first later a e i left bytes p (inl w) =
 front_row_fails gives row first later a e i left bytes p (inr q) =
     inr
     (ap (λ r. r >>= λ p. row p.1 >>= λ q. Ok ((p.0, q.0), q.1)) p ∙ ap (λ r. r >>= λ q. Ok ((a, q.0), q.1)) q)
-
--- A row, and then what depends on it: what follows has a fault.
-pub chain_fails : {A B : Type 0} {Row : A → List ℕ → Type 0} {row : FrontReading A}
-    → ((i rest : List ℕ) (a : A) → AreBytes i → row i ≡ Ok (a, rest) → (b : List ℕ) × (i ≡ b ++ rest) × Row a b)
-    → (behind : A → Reading B) (asked later : List ℕ → Type 0) (a : A) (e : ErrorKind) (i left : List ℕ) → AreBytes i
-    → row i ≡ Ok (a, left) → FaultOrMemory e (later left) (behind a left ≡ Err e)
-    → FaultOrMemory e (AllocatesInRow Row asked later i) (chain row behind i ≡ Err e)
-chain_fails gives behind asked later a e i left bytes p (inl w) =
-    let s = gives i left a bytes p in inl (w.0, inr (a, (s.0, left, s.2, w.1, s.1)))
-chain_fails gives behind asked later a e i left bytes p (inr q) =
-    inr (ap (λ r. r >>= λ p. behind p.0 p.1) p ∙ q)
-
-pub chain_gives : {A B : Type 0} (row : FrontReading A) (behind : A → Reading B) (a : A) (b : B) (i left : List ℕ)
-    → row i ≡ Ok (a, left) → behind a left ≡ Ok b → chain row behind i ≡ Ok b
-chain_gives row behind a b i left p q = ap (λ r. r >>= λ p. behind p.0 p.1) p ∙ q
 
 -- The grammar of what was returned.
 module _ {X V : Type 0} (value : X → V) {encoding : V → List ℕ → Type 0} {read : Reading V} (b : List ℕ)

@@ -17,7 +17,7 @@ pub use Rattle.der_core.specs.Length.{IsBase256, IsLength, length_octets, limit,
 pub use Rattle.der_core.specs.OctetStringRefValue.{octets_of}
 pub use Rattle.der_core.specs.Parts.{AllHave, AllocatesInParts, AllocatesInRow, IsNext, ItemsContents, Optional, OptionalRead, all_encodings}
 pub use Rattle.der_core.specs.Printed.{AreSpelledOnce, Prints, PrintsOne, ReadsAlike, ReadsFrontAlike, ReadsFrontPrinted, ReadsPrinted, Spells, Starts, WritesShortest, number_contents, number_of, ok_of, row, starts_with_any, value_in}
-pub use Rattle.der_core.specs.Reading.{AllocatesAtFront, AllocatesBehind, AllocatesForItems, AllocatesLast, BeginsWithEncoding, DecodesOrMemory, FaultOrMemory, HoldsBytes, InputAllocates, NoValueOrMemory, ReadsAll, ReadsEncoding, ReadsFront, ReadsRow, ReadsWhole, Returns, TellsNext, TellsOfBytes}
+pub use Rattle.der_core.specs.Reading.{AllocatesAtFront, AllocatesBehind, AllocatesForItems, AllocatesLast, BeginsWithEncoding, DecodesOrMemory, FaultOrMemory, HoldsBytes, InputAllocates, NoValueOrMemory, ReadsAll, ReadsEncoding, ReadsFront, ReadsWhole, Returns, TellsNext, TellsOfBytes}
 pub use Rattle.der_core.specs.Readings.{◌>>=◌, FrontReading, Reading, ReadsBy, ReadsContents, ReadsFronts, alone, by_tag, chain, checked, contents_behind, ended, expected, front_done, front_parts, in_range, inside, is_next, items, items_within, last, limited, made, no_parts, octets_of_all, optional_front, parts, ranged, read_document, such, tagged, unexpected, unless, whole}
 pub use Rattle.der_core.specs.SourcesSinks.{AppendsFront, CountsFailure, GivesAll, GivesMore, GivesSome, OneFailed}
 pub use Rattle.der_core.specs.StdIo.{IsCreated, IsOpened, read_faults, reader_of, write_faults, writer_of}
@@ -49,7 +49,7 @@ pub use Rattle.der_core.specs.Laws.Printed.Rows.{alone_law, decodes_as, end_law,
 pub use Rattle.der_core.specs.Laws.Printed.Shortest.{joined_shortest, last_shortest, list_shortest, made_shortest, one_spelling_shortest, row_shortest, tagged_shortest, tagged_some, written_is_shortest}
 pub use Rattle.der_core.specs.Laws.Readings.{alone_reads, any_contents_reads, back_bytes, behind_within, bind_err, bind_ok, ended_is, ended_tells, front_bytes, made_errs, made_tells, ok_injective, relation_of_equals}
 pub use Rattle.der_core.specs.Laws.SliceReaders.{left_of-bounded, left_of-bytes}
-pub use Rattle.der_core.specs.Laws.TaggedReadings.{by_tag_reads, checked_as, items_read, tagged_reads, unexpected_not, unexpected_tells}
+pub use Rattle.der_core.specs.Laws.TaggedReadings.{by_tag_reads, checked_as, tagged_reads, unexpected_not, unexpected_tells}
 pub use Rattle.std.proofs.lemmas.Bool.Decides.{nat_tests}
 pub use Rattle.std.proofs.lemmas.Result.{err_from_is_err_and}
 pub use Rattle.std.specs.Int.Digits.{number_from_digits}

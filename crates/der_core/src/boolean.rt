@@ -75,6 +75,7 @@ impl<'a, M: Memory> DecodeValue<&'a [u8], M> for bool {
 
     ghost asks_memory = { nothing_asked };
 
+    #[inline(always)]
     fn read_value(_memory: M, contents: &'a [u8]) -> Result<bool> {
         boolean(contents)
     }

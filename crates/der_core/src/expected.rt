@@ -51,6 +51,7 @@ impl<'a, M: Memory, const N: u8> DecodeValue<&'a [u8], M> for Expected<N> {
 
     ghost asks_memory = { nothing_asked };
 
+    #[inline(always)]
     fn read_value(memory: M, contents: &'a [u8]) -> Result<Expected<N>> {
         if u8::read_value(memory, contents)? != N {
             return Err(Error::new(ErrorKind::Value { tag: Tag::INTEGER }));

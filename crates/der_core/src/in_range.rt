@@ -61,6 +61,7 @@ impl<'a, M: Memory, const MIN: u8, const MAX: u8> DecodeValue<&'a [u8], M> for I
 
     ghost asks_memory = { nothing_asked };
 
+    #[inline(always)]
     fn read_value(memory: M, contents: &'a [u8]) -> Result<InRange<MIN, MAX>> {
         let number = InRange(u8::read_value(memory, contents)?);
         if !number.is_within() {

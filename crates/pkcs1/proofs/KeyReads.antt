@@ -19,12 +19,6 @@ version_and_numbers value v numbers = (version_number v, eight_numbers_as value 
 -- They are in front of other primes that are read of what follows, or of a fault of these.
 module _ {V : Type 0} (at : FrontReading V) (front : ℕ × EightNumbersThen V (Unit {0})) (i rest : List ℕ)
     (read : front_read at i ≡ Ok (front, rest)) where
-  pub private_key_taken : (primes : Option (List (OtherRow V))) → others_read at front.0 rest ≡ Ok primes
-      → private_key_read at i ≡ Ok (eight_numbers_before front.1 primes)
-  private_key_taken primes others =
-      ap (λ r. r >>= λ q. made (eight_numbers_before q.0.1) (others_read at q.0.0) q.1) read
-      ∙ ap (λ r. r >>= λ o. Ok (eight_numbers_before front.1 o)) others
-
   pub fault_at_others : (e : ErrorKind) → others_read at front.0 rest ≡ Err e → private_key_read at i ≡ Err e
   fault_at_others e fault =
       ap (λ r. r >>= λ q. made (eight_numbers_before q.0.1) (others_read at q.0.0) q.1) read

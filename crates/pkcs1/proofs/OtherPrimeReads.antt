@@ -44,5 +44,5 @@ module _ (v : Version) {multi : Bool} (h : IsTrue multi ↔ (v ≡ Multi)) (rest
         go TwoPrime e = cc
         go Multi e = refl
 
-    pub none_listed : multi ≡ true → n ≡ 0 → others_agree (version_number v) (Some n) rest ≡ Err (Value sequence_tag)
-    none_listed is none = multi_listed is ∙ rw none refl
+    pub empty_listed : multi ≡ true → n ≡ 0 → others_agree (version_number v) (Some n) rest ≡ Err (Value sequence_tag)
+    empty_listed is none = multi_listed is ∙ rw none refl

@@ -9,9 +9,7 @@ use crate::other_primes::OtherPrimes;
 use crate::private_key::PrivateKeyOf;
 use crate::private_key::other_prime_info::require_agreed;
 use crate::version::Version;
-use der_core::{
-    Contents, DecodeFront, DecodeValue, NoMemory, Result, UintRef, read_optional,
-};
+use der_core::{Contents, DecodeFront, DecodeValue, NoMemory, Result, UintRef, read_optional};
 
 /// A private key that borrows the input, for its other primes too.
 pub(crate) type ViewedKey<'a> = PrivateKeyOf<UintRef<'a>, OtherPrimes<'a>>;
@@ -27,7 +25,21 @@ fn count_listed(others: &Option<OtherPrimes<'_>>) -> Option<usize>
 }
 
 /// Reads the rest of a key: its other primes, which must agree with the version.
+#[inline(always)]
 fn read_listed<'a>(bytes: &'a [u8], version: Version) -> Result<Option<OtherPrimes<'a>>>
+    requires { length bytes.now ≤ limit }
+    ensures { let read = others_read number_front (version_number version) in
+        Answers (option_map others_left) result (read bytes.now) }
+{
+    if bytes.is_empty() && !version.is_multi() {
+        return Ok(None);
+    }
+    read_list(bytes, version)
+}
+
+/// The same of any bytes.
+#[inline(never)]
+fn read_list<'a>(bytes: &'a [u8], version: Version) -> Result<Option<OtherPrimes<'a>>>
     requires { length bytes.now ≤ limit }
     ensures { let read = others_read number_front (version_number version) in
         Answers (option_map others_left) result (read bytes.now) }

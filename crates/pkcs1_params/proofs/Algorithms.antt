@@ -21,12 +21,6 @@ pub identified_is : {V : Type 0} (oid : List ℕ) (read : Reading V) (c : List �
     → identified oid read (algorithm_holding oid c) ≡ read c
 identified_is oid read c = let same : bytes_eq oid oid ≡ true = (bytes_eq-Decides oid oid).1 refl in rw same refl
 
--- What a whole slice is read as, by its identifier.
-pub identified_behind_any : {V : Type 0} (oid bytes : List ℕ) (a : Algorithm TagAndContents) (x : TagAndContents)
-    → whole plain_front bytes ≡ Ok a → ((read : Reading V) → identified oid read a ≡ any_as tags.sequence_tag read x)
-    → (read : Reading V) → whole_algorithm oid read bytes ≡ any_as tags.sequence_tag read x
-identified_behind_any oid bytes a x is given read = ap (λ r. r >>= identified oid read) is ∙ given read
-
 -- And nothing is read of another one.
 pub identified_holds : {V : Type 0} (oid : List ℕ) (read : Reading V) (a : Algorithm TagAndContents) (v : V)
     → identified oid read a ≡ Ok v → (c : List ℕ) × (a ≡ algorithm_holding oid c) × (read c ≡ Ok v)
@@ -151,12 +145,6 @@ module _ (oid : List ℕ) (valid : is_identifier oid ≡ true) where
         (few, sequence c, (law.0, within, c, law.1, refl), is))
         (λ v e. whole_algorithm_read v bytes are e)
 
-    -- A value that is read has this encoding.
-    pub algorithm_encodes : (v : V) (bytes : List ℕ) → AreBytes bytes
-        → whole_algorithm oid (record_read r) bytes ≡ Ok v → IdentifierEncoding v bytes
-    algorithm_encodes v bytes are is =
-        (subst (λ x. Decodes IdentifierEncoding bytes (value_in x)) is (algorithm_decodes bytes are)).0
-
     -- Strict reading of the identifier is that of the parameters.
     pub strict_algorithm_in : (v : V) (bytes p : List ℕ) → AreBytes bytes → IdentifierEncoding v bytes
         → bytes ≡ wrapped oid p
@@ -170,25 +158,6 @@ module _ (oid : List ℕ) (valid : is_identifier oid ≡ true) where
         whole_algorithm_is (record_strictly r) c bytes are few (is ∙ ap (wrapped oid) there)
         ∙ ap (λ x. x >>= strict_value r.kinds r.join)
         ((record_law r).takes s ok less ∙ sym (whole_takes (record_front_law r) s p (fit, ok, sym one ∙ there)))
-
-    -- What is read, where the parameters are found as an encoding of any tag.
-    pub identified_behind_reads : (a : Algorithm TagAndContents) (x : TagAndContents) (v : V) (bytes : List ℕ)
-        → AreBytes bytes
-        → whole plain_front bytes ≡ Ok a
-        → ((read : Reading V) → identified oid read a ≡ any_as tags.sequence_tag read x)
-        → any_as tags.sequence_tag (record_read r) x ≡ Ok v
-        → IdentifierEncoding v bytes × ((p : List ℕ) → bytes ≡ wrapped oid p
-        → ParametersEncoding v p × (whole_algorithm oid (record_strictly r) bytes ≡ strict_whole r p))
-    identified_behind_reads a x v bytes are is given read =
-        let holds = algorithm_encodes v bytes are
-        (identified_behind_any oid bytes a x is given (record_read r) ∙ read) in (
-          holds,
-          λ p at. (
-            wrapped_inner_encodes oid ParametersEncoding v bytes p holds at,
-            strict_algorithm_in v bytes p
-                are holds at,
-          ),
-        )
 
     -- What isn't read isn't read strictly, for the same fault.
     pub strict_algorithm_errs : (bytes : List ℕ) (k : ErrorKind) → whole_algorithm oid (record_read r) bytes ≡ Err k

@@ -96,16 +96,6 @@ pub answers_asn1_behind : {X A B : Type 0} (value : X → B) (first : Result A E
 answers_asn1_behind value first behind a is (Ok x) p = ap (λ r. r >>= behind) is ∙ p
 answers_asn1_behind value first behind a is (Err e) p = asn1_as (λ k f. ap (λ r. r >>= behind) is ∙ f) e p
 
--- The error of a fault.
-pub fault_kind_given : {V : Type 0} (given : Result V ErrorKind) (k : ErrorKind) → given ≡ Err k → (e : Error)
-    → IsAsn1 (λ a. a.kind ≡ k) e → IsAsn1 (λ a. given ≡ Err a.kind) e
-fault_kind_given given k is = asn1_as (λ a p. is ∙ ap (λ k. Err k) (sym p))
-
--- The same error of a function that gives the same.
-pub fault_kind_same : {V : Type 0} {given other : Result V ErrorKind} → given ≡ other → (e : Error)
-    → IsAsn1 (λ a. other ≡ Err a.kind) e → IsAsn1 (λ a. given ≡ Err a.kind) e
-fault_kind_same same e p = subst (λ r. IsAsn1 (λ a. r ≡ Err a.kind) e) (sym same) p
-
 -- A call that returns what a function gives decodes what the function does.
 pub answers_asn1_decode : {X V B : Type 0} (E : V → B → Type 0) (bytes : B) (value : X → V) (given : Result V ErrorKind)
     → Decodes E bytes (value_in given) → (r : Result X Error) → AnswersAsn1 value given r

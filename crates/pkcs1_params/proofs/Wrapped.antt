@@ -52,13 +52,6 @@ module _ (oid : List ℕ) where
   wrapped_one p q few is =
       (wrapped_front p q [] few (omega (arith, ap length is)) (append-nil (wrapped p) ∙ is)).0
 
-  -- What the identifier holds encodes its parameters.
-  pub wrapped_inner_encodes : {V : Type 0} (E : V → List ℕ → Type 0) (v : V) (bytes p : List ℕ)
-      → AlgorithmEncoding oid E v bytes
-      → bytes ≡ wrapped p → E v p
-  wrapped_inner_encodes E v bytes p (few, q, holds, is) given =
-      subst (E v) (wrapped_one q p (omega (arith, few, ap length is)) (sym is ∙ given)) holds
-
   -- The shortest encoding of the identifier holds the shortest of the parameters.
   module _ {V : Type 0} (E : V → List ℕ → Type 0) (v : V) (p : List ℕ) (few : length (wrapped p) ≤ limit) where
     pub shortest_outside : IsShortest E v p → IsShortest (AlgorithmEncoding oid E) v (wrapped p)
@@ -125,11 +118,3 @@ module _ (oid : List ℕ) where
             (wrapped_at_encodes (SequenceOf Is fields Fields) i h ((a.every (slice_index_or all i [])).1 (i, h, refl))),
       );
     }
-
--- What stands behind the object identifier in the contents.
-pub behind_oid : (oid p : List ℕ) → length oid ≤ 39 → drop (2 + length oid) (tlv 6 oid ++ p) ≡ p
-unfolding length_octets
-behind_oid oid p few =
-    let short : nat_lt (length oid) 128 ≡ true = grind arith in
-    let is : length (tlv 6 oid) ≡ 2 + length oid = rw short (omega arith) in
-    ap (λ n. drop n (tlv 6 oid ++ p)) (sym is) ∙ drop-append_seam (tlv 6 oid) p

@@ -15,7 +15,6 @@ use der_core::{DecodeParts, NoMemory, Result, TagNumber};
 use spki_core::{note, read_field};
 
 /// RSASSA-PSS parameters.
-#[inline(always)]
 pub(crate) fn note_pss(contents: &[u8]) -> Result<(RsaPssParamsView<'_>, Option<TagNumber>)>
     requires { length contents.now ≤ limit }
     ensures { let noted = record_noted pss_record contents.now in
@@ -48,7 +47,6 @@ pub(crate) fn note_pss(contents: &[u8]) -> Result<(RsaPssParamsView<'_>, Option<
 }
 
 /// RSAES-OAEP parameters.
-#[inline(always)]
 pub(crate) fn note_oaep(contents: &[u8]) -> Result<(RsaOaepParamsView<'_>, Option<TagNumber>)>
     requires { length contents.now ≤ limit }
     ensures { let noted = record_noted oaep_record contents.now in

@@ -8,7 +8,7 @@ use crate::from_view::ReadParams;
 use crate::noting::note_oaep;
 use crate::oaep::{OaepParamsOf, RsaOaepParamsView};
 use crate::oaep_algorithm::RsaesOaep;
-use crate::reading::{AlgorithmParams, read_contents};
+use crate::reading::{AlgorithmParams, read_fields};
 use der_core::{DecodeValue, Memory, Result, TagNumber};
 use spki_core::AnyRef;
 
@@ -39,7 +39,7 @@ impl<'a, M: Memory, O: ReadParams<'a>> DecodeValue<&'a [u8], M> for OaepParamsOf
 
     #[inline(always)]
     fn read_value(_memory: M, contents: &'a [u8]) -> Result<OaepParamsOf<O, AnyRef<'a>>> {
-        let view = read_contents::<RsaOaepParamsView<'a>>(contents, false)?;
+        let view = read_fields::<RsaOaepParamsView<'a>>(contents, false)?;
         Ok(O::oaep_from_view(view))
     }
 }

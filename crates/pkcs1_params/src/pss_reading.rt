@@ -8,7 +8,7 @@ use crate::from_view::ReadParams;
 use crate::noting::note_pss;
 use crate::pss::{PssParamsOf, RsaPssParamsView};
 use crate::pss_algorithm::RsassaPss;
-use crate::reading::{AlgorithmParams, read_contents};
+use crate::reading::{AlgorithmParams, read_fields};
 use der_core::{DecodeValue, Memory, Result, TagNumber};
 use spki_core::AnyRef;
 
@@ -39,7 +39,7 @@ impl<'a, M: Memory, O: ReadParams<'a>> DecodeValue<&'a [u8], M> for PssParamsOf<
 
     #[inline(always)]
     fn read_value(_memory: M, contents: &'a [u8]) -> Result<PssParamsOf<O, AnyRef<'a>>> {
-        let view = read_contents::<RsaPssParamsView<'a>>(contents, false)?;
+        let view = read_fields::<RsaPssParamsView<'a>>(contents, false)?;
         Ok(O::pss_from_view(view))
     }
 }

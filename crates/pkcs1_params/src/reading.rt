@@ -82,12 +82,12 @@ pub(crate) fn read_any<'a, T: AlgorithmParams<'a>>(
             actual: any.tag(),
         }));
     }
-    read_contents(any.value(), strict)
+    read_fields(any.value(), strict)
 }
 
 /// Reads contents octets; if `strict`, only those in which no default is written.
 #[inline(always)]
-pub(crate) fn read_contents<'a, T: AlgorithmParams<'a>>(
+pub(crate) fn read_fields<'a, T: AlgorithmParams<'a>>(
     contents: &'a [u8],
     strict: bool,
 ) -> der_core::Result<T>

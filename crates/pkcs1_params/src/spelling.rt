@@ -13,8 +13,8 @@ use crate::contents::{append_contents, contents_len, prepend_contents, quick_con
 use crate::error::Result;
 use crate::fields::Fields;
 use der_core::{
-    BackWriter, Contents, Encode, EncodeValue, ErrorKind, Length, SequenceTag, TaggedBy,
-    Writer, write_over,
+    BackWriter, Contents, Encode, EncodeValue, ErrorKind, Length, SequenceTag, TaggedBy, Writer,
+    write_over,
 };
 use std::alloc::Global;
 

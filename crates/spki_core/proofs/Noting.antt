@@ -1,8 +1,8 @@
 -- Reading that notes the first default that is written, and reading with and without a look at that.
-use Rattle.std.proofs.Common.{ℕ, Bool, true, false, List, [], ◌∷◌, inl, inr, ◌≡◌, ap, ◌∙◌, sym, refl, ◌+◌, Option, Some, None, Result, Ok, Err, if◌then◌else◌}
+use Rattle.std.proofs.Common.{ℕ, Bool, true, List, [], ◌∷◌, inl, inr, ◌≡◌, ap, ◌∙◌, sym, refl, ◌+◌, Option, Some, None, Result, Ok, Err, if◌then◌else◌}
 use Rattle.std.proofs.lemmas.Bool.{cases_Bool}
 use Rattle.der_core.specs.declared.error.ErrorKind.{ErrorKind}
-use Rattle.der_core.specs.Words.{◌>>=◌, Reading, ReadsAlike, context_octet, is_next, sequence_tag, tagged, tagged_alike, whole, whole_alike}
+use Rattle.der_core.specs.Words.{◌>>=◌, ReadsAlike, context_octet, is_next, sequence_tag, tagged, tagged_alike, whole, whole_alike}
 use Rattle.spki_core.specs.Words.{FieldRecord, Kind, Spelling, first_written, noted_accepted, noted_on, record_alike, record_means, record_noted, record_read, record_strictly, record_whole, spelling_read, strict_whole, unless_found}
 use Rattle.spki_core.proofs.Readings.{default_is_there, default_there, value_if_next}
 use Rattle.standard.specs.Statement.{Field}
@@ -54,7 +54,7 @@ module _ {V : Type 0} {Is : V → Type 0} {fields : V → List Field} (r : Field
         rw isnt
         (sym ((whole_alike (tagged_alike (record_alike r) sequence_tag)).same b)
         ∙ bind_twice (whole (tagged sequence_tag (spelling_read r.kinds)) b)
-          (λ s. (record_means r s, first_written r.kinds s)) (λ p. Ok p.0)
+        (λ s. (record_means r s, first_written r.kinds s)) (λ p. Ok p.0)
         ∙ ap (λ o. o >>= λ p. Ok p.0) (slice_same b))
   ]
 

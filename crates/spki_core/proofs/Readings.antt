@@ -99,13 +99,13 @@ reads_at_tag value at may n tag is r before after reads =
     (λ j i. sym (explicit_is at n tag i is) j)
     (subst (λ o. ReadsFront value (tagged tag (alone at)) (Tlv o may) r before after) is reads)
 
-pub field_fails : {V : Type 0} (at : FrontReading V) (default : V) (may : List ℕ → Type 0) (n : ℕ) (tag : Tag)
+pub field_not_read : {V : Type 0} (at : FrontReading V) (default : V) (may : List ℕ → Type 0) (n : ℕ) (tag : Tag)
     (b : List ℕ) (e : ErrorKind) → tag.octet ≡ context_octet n → is_next (context_octet n) b ≡ true
     → FaultOrMemory e (AllocatesAtFront (Tlv tag.octet may) b) (tagged tag (alone at) b ≡ Err e)
     → FaultOrMemory e (AllocatesAtFront (Tlv (context_octet n) may) b) (defaulted n at default b ≡ Err e)
-field_fails at default may n tag b e is next (inl w) =
+field_not_read at default may n tag b e is next (inl w) =
     inl (w.0, subst (λ o. AllocatesAtFront (Tlv o may) b) is w.1)
-field_fails at default may n tag b e is next (inr f) = inr (rw next (explicit_is at n tag b is ∙ f))
+field_not_read at default may n tag b e is next (inr f) = inr (rw next (explicit_is at n tag b is ∙ f))
 
 -- Contents behind the octet of a tag that is known are split off by it.
 header_of_tag : (tag : Tag) (xs : List ℕ) → header_at (tag.octet ∷ xs) ≡ with_tag tag.octet (length_at xs)

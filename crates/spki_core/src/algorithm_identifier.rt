@@ -95,7 +95,9 @@ impl<'a, M: Memory, O: ReadIdentifier<'a>, P: Decode<&'a [u8], M>> DecodeValue<&
 
     #[inline(always)]
     fn read_value(memory: M, contents: &'a [u8]) -> Result<AlgorithmIdentifierOf<O, P>> {
-        let (oid, Last(parameters)) = <(IdentifierView<'a>, Last<P>)>::read_parts(memory, contents)?;
+        let (oid, Last(parameters)) = <(IdentifierView<'a>, Last<P>)>::read_parts(
+            memory, contents,
+        )?;
         Ok(O::algorithm_from_view(AlgorithmView { oid, parameters }))
     }
 }

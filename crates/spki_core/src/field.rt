@@ -5,8 +5,8 @@ ghost use Rattle.spki_core.specs.Words.{FieldAllocates, FieldRead, defaulted, ex
 
 use crate::context_specific::ContextSpecificRef;
 use der_core::{
-    BackWriter, Containing, Decode, Encode, Encoding, Length, Memory, Result, Tag, TagNumber, Writer,
-    begins_with, read_tagged,
+    BackWriter, Containing, Decode, Encode, Encoding, Length, Memory, Result, Tag, TagNumber,
+    Writer, begins_with, read_tagged,
 };
 
 /// The value of an explicit field in front, or the default if the first octet isn't that of its tag, and what follows.

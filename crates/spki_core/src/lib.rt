@@ -20,7 +20,8 @@ pub use any::{AnyParams, AnyRef, AnyValue};
 pub use as_algorithm::AsAlgorithmIdentifierRef;
 pub use context_specific::{ContextSpecificRef, read_context_specific};
 pub use field::{
-    encode_field, field_len, lemma_fields_are_read, note, prepend_field, quick_field_len, read_field,
+    encode_field, field_len, lemma_fields_are_read, note, prepend_field, quick_field_len,
+    read_field,
 };
 pub use identifier_view::{IdentifierValue, IdentifierView};
 pub use object_identifier::{AssociatedOid, ObjectIdentifier, ObjectIdentifierTag};

@@ -13,8 +13,8 @@ ghost use Rattle.std.specs.Cmp.Rules.{comparing, hashing};
 
 use crate::identifier_view::IdentifierView;
 use der_core::{
-    BackWriter, Contents, DecodeValue, EncodeValue, EqualByValue, ErrorKind, Length, Memory, Result,
-    Tag, TagMarker, TaggedBy, Writer,
+    BackWriter, Contents, DecodeValue, EncodeValue, EqualByValue, ErrorKind, Length, Memory,
+    Result, Tag, TagMarker, TaggedBy, Writer,
 };
 use std::hash::{Hash, Hasher};
 

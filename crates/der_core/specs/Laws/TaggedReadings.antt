@@ -12,7 +12,7 @@ use Rattle.der_core.specs.Laws.LengthReading.{tlv_header, header_sound, header_a
 use Rattle.der_core.specs.Laws.Readings.{front_bytes, back_bytes, behind_bytes, behind_within, relation_of_equals, ok_injective, bind_ok, bind_err, made_tells}
 use Rattle.der_core.specs.Length.{limit}
 use Rattle.der_core.specs.Reading.{TellsOfBytes}
-use Rattle.der_core.specs.Readings.{Reading, FrontReading, ◌>>=◌, made, items_within, items, checked, unexpected, by_tag, contents_behind, inside, tagged, ReadsContents, ReadsFronts}
+use Rattle.der_core.specs.Readings.{Reading, FrontReading, ◌>>=◌, made, items_within, checked, unexpected, by_tag, contents_behind, inside, tagged, ReadsContents, ReadsFronts}
 use Rattle.der_core.specs.Parts.{ItemsContents}
 use Rattle.der_core.specs.Tag.{is_allowed}
 
@@ -233,10 +233,3 @@ module _ {V : Type 0} {encoding : V → List ℕ → Type 0} {at : FrontReading 
       ⊎_elim (law.tells (x ∷ xs) k)
       (λ s. made_tells (λ vs. s.0.0 ∷ vs) (items_within n at s.0.1) (items_tell n s.0.1 k) s.2)
       (bind_err (at (x ∷ xs)) _ e)
-
-  pub items_read : ReadsContents (ItemsContents encoding) (items at)
-  items_read = record {
-    gives = λ c v b e. items_give (length c) c v b e;
-    takes = λ c v w p. items_take v (length c) c (omega arith) w p;
-    tells = λ c k e. items_tell (length c) c k e;
-  }

@@ -69,7 +69,10 @@ impl<'a, M: Memory> DecodeValue<&'a [u8], M> for u8 {
 
     #[inline(always)]
     fn read_value(_memory: M, contents: &'a [u8]) -> Result<u8> {
-        small(contents)
+        match contents {
+            [number] if *number < 0x80 => Ok(*number),
+            _ => small(contents),
+        }
     }
 }
 

@@ -151,22 +151,21 @@ impl<'a> UintRef<'a> {
 }
 
 /// The number with these contents octets.
+#[inline(always)]
 pub(crate) fn integer(contents: &[u8]) -> Result<UintRef<'_>>
     requires { length contents.now ≤ limit }
     ensures { Answers (λ u. u.bytes.now) result (integer_of contents.now) }
 {
-    if contents.is_empty() {
-        return Err(Error::new(ErrorKind::Length { tag: Tag::INTEGER }));
-    }
+    let tag = Tag::INTEGER;
     match contents {
-        [first, ..] if *first >= 0x80 => Err(Error::new(ErrorKind::Value { tag: Tag::INTEGER })),
-        [0, second, ..] if *second < 0x80 => Err(Error::new(ErrorKind::Noncanonical {
-            tag: Tag::INTEGER,
-        })),
-        [0, _, ..] => Ok(UintRef {
-            bytes: &contents[1..],
-        }),
-        _ => Ok(UintRef { bytes: contents }),
+        [0, rest @ ..] => match rest {
+            [] => Ok(UintRef { bytes: contents }),
+            [second, ..] if *second >= 0x80 => Ok(UintRef { bytes: rest }),
+            [_, ..] => Err(Error::new(ErrorKind::Noncanonical { tag })),
+        },
+        [first, ..] if *first < 0x80 => Ok(UintRef { bytes: contents }),
+        [] => Err(Error::new(ErrorKind::Length { tag })),
+        [_, ..] => Err(Error::new(ErrorKind::Value { tag })),
     }
 }
 

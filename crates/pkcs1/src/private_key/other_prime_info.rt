@@ -191,7 +191,26 @@ fn require_end(rest: &[u8]) -> Result<()>
 }
 
 /// Reads the rest of a key: its other primes, which must agree with the version.
+#[inline(always)]
 pub(crate) fn read_other_primes<'a, U: Decode<&'a [u8], Global>>(
+    memory: Global,
+    bytes: &'a [u8],
+    version: Version,
+) -> Result<Option<OtherPrimeInfos<U>>>
+    requires { length bytes.now ≤ limit }
+    ensures { let asked = AllocatesInOthers U.valid U.printed U.means U.Decode.may_allocate bytes.now in
+        let read = others_read U.read_front (version_number version) in
+        Returns (others_of U.value) (read bytes.now) asked result }
+{
+    if bytes.is_empty() && !version.is_multi() {
+        return Ok(None);
+    }
+    read_list(memory, bytes, version)
+}
+
+/// The same of any bytes.
+#[inline(never)]
+fn read_list<'a, U: Decode<&'a [u8], Global>>(
     memory: Global,
     bytes: &'a [u8],
     version: Version,

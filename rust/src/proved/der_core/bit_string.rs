@@ -4,14 +4,11 @@
 use crate::proved::der_core::back_writer::BackWriter;
 use crate::proved::der_core::decode::DecodeValue;
 use crate::proved::der_core::encode::{EncodeValue, joined_len};
-use crate::proved::der_core::error::{ErrorKind, Result};
+use crate::proved::der_core::error::{Error, ErrorKind, Result};
 use crate::proved::der_core::grammar::{Contents, TagMarker, TaggedBy};
-use crate::proved::der_core::header::Header;
 use crate::proved::der_core::length::Length;
 use crate::proved::der_core::memory::Memory;
 use crate::proved::der_core::octet_string::OctetStringRef;
-use crate::proved::der_core::quick::quick_contents;
-use crate::proved::der_core::reader::Reader;
 use crate::proved::der_core::tag::Tag;
 use crate::proved::der_core::writer::Writer;
 
@@ -35,45 +32,23 @@ impl<C> TaggedBy for BitString<C> {
     type Marker = BitStringTag;
 }
 
-/// Reads the number of unused bits, which has to be 0: how many octets are left behind it.
-fn read_unused_bits<'a, R: Reader<&'a [u8]>>(reader: &mut R, length: Length) -> Result<Length> {
+/// The octets behind the number of unused bits, which has to be there, and 0.
+#[inline(always)]
+fn octets_behind(contents: &[u8]) -> Result<&[u8]> {
     let tag = Tag::BIT_STRING;
-    if length.to_usize() == 0 {
-        return Err(reader.error(ErrorKind::Length { tag }));
+    match contents {
+        [] => Err(Error::new(ErrorKind::Length { tag })),
+        [unused, ..] if *unused != 0 => Err(Error::new(ErrorKind::Value { tag })),
+        [_, octets @ ..] => Ok(octets),
     }
-    let unused = reader.read_slice(Length::ONE)?;
-    if unused[0] != 0 {
-        return Err(reader.error(ErrorKind::Value { tag }));
-    }
-    Ok(Length::of(length.to_usize() - 1))
 }
 
 impl<'a, M: Memory, C: DecodeValue<&'a [u8], M>> DecodeValue<&'a [u8], M> for BitString<C> {
-    fn decode_value<R: Reader<&'a [u8]>>(
-        memory: M,
-        reader: &mut R,
-        header: Header,
-    ) -> Result<BitString<C>> {
-        let length = read_unused_bits(reader, header.length)?;
-        let tag = header.tag;
-        let contents = C::decode_value(memory, reader, Header { tag, length })?;
-        Ok(BitString(contents))
-    }
-
     #[inline(always)]
-    fn quick_split(bytes: &'a [u8], tag: Tag) -> Option<(&'a [u8], &'a [u8])> {
-        quick_contents(bytes, tag)
-    }
-
-    #[inline(always)]
-    fn quick_value(memory: M, contents: &'a [u8]) -> Option<BitString<C>> {
-        match contents {
-            [0, octets @ ..] => match C::quick_value(memory, octets) {
-                Some(contents) => Some(BitString(contents)),
-                None => None,
-            },
-            _ => None,
-        }
+    fn read_value(memory: M, contents: &'a [u8]) -> Result<BitString<C>> {
+        let octets = octets_behind(contents)?;
+        let value = C::read_value(memory, octets)?;
+        Ok(BitString(value))
     }
 }
 

@@ -6,11 +6,8 @@ use crate::proved::der_core::decode::DecodeValue;
 use crate::proved::der_core::encode::EncodeValue;
 use crate::proved::der_core::error::{Error, ErrorKind, Result};
 use crate::proved::der_core::grammar::{Contents, TagMarker, TaggedBy};
-use crate::proved::der_core::header::Header;
 use crate::proved::der_core::length::Length;
 use crate::proved::der_core::memory::Memory;
-use crate::proved::der_core::quick::quick_short;
-use crate::proved::der_core::reader::Reader;
 use crate::proved::der_core::tag::Tag;
 use crate::proved::der_core::writer::Writer;
 
@@ -44,30 +41,9 @@ fn boolean(contents: &[u8]) -> Result<bool> {
 }
 
 impl<'a, M: Memory> DecodeValue<&'a [u8], M> for bool {
-    fn decode_value<R: Reader<&'a [u8]>>(
-        _memory: M,
-        reader: &mut R,
-        header: Header,
-    ) -> Result<bool> {
-        let contents = reader.read_slice(header.length)?;
-        match boolean(contents) {
-            Ok(value) => Ok(value),
-            Err(e) => Err(reader.error(e.kind())),
-        }
-    }
-
     #[inline(always)]
-    fn quick_split(bytes: &'a [u8], tag: Tag) -> Option<(&'a [u8], &'a [u8])> {
-        quick_short(bytes, tag)
-    }
-
-    #[inline(always)]
-    fn quick_value(_memory: M, contents: &'a [u8]) -> Option<bool> {
-        match contents {
-            [0xff] => Some(true),
-            [0x00] => Some(false),
-            _ => None,
-        }
+    fn read_value(_memory: M, contents: &'a [u8]) -> Result<bool> {
+        boolean(contents)
     }
 }
 

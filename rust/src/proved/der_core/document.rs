@@ -8,10 +8,8 @@ use crate::proved::der_core::encode::{Encode, EncodeValue};
 use crate::proved::der_core::error::{Error, ErrorKind, Result};
 use crate::proved::der_core::file_system::FileSystem;
 use crate::proved::der_core::grammar::{Contents, FixedTag, Sequence, SequenceTag, TaggedBy};
-use crate::proved::der_core::header::Header;
 use crate::proved::der_core::length::Length;
 use crate::proved::der_core::memory::{NoMemory, copy_of};
-use crate::proved::der_core::reader::Reader;
 use crate::proved::der_core::source_sink::{Close, Sink, Source};
 use crate::proved::der_core::transfer::{read_all, write_all};
 use crate::rattle_std::alloc::Global;
@@ -29,12 +27,7 @@ impl TaggedBy for AnySequence {
 }
 
 impl<'a> DecodeValue<&'a [u8], NoMemory> for AnySequence {
-    fn decode_value<R: Reader<&'a [u8]>>(
-        _memory: NoMemory,
-        reader: &mut R,
-        header: Header,
-    ) -> Result<AnySequence> {
-        reader.read_slice(header.length)?;
+    fn read_value(_memory: NoMemory, _contents: &'a [u8]) -> Result<AnySequence> {
         Ok(AnySequence)
     }
 }

@@ -4,13 +4,10 @@
 use crate::proved::der_core::back_writer::BackWriter;
 use crate::proved::der_core::decode::DecodeValue;
 use crate::proved::der_core::encode::EncodeValue;
-use crate::proved::der_core::error::{ErrorKind, Result};
+use crate::proved::der_core::error::{Error, ErrorKind, Result};
 use crate::proved::der_core::grammar::{Contents, IntegerTag, TaggedBy};
-use crate::proved::der_core::header::Header;
 use crate::proved::der_core::length::Length;
 use crate::proved::der_core::memory::Memory;
-use crate::proved::der_core::quick::quick_short;
-use crate::proved::der_core::reader::Reader;
 use crate::proved::der_core::tag::Tag;
 use crate::proved::der_core::writer::Writer;
 
@@ -25,29 +22,12 @@ impl<const N: u8> TaggedBy for Expected<N> {
 }
 
 impl<'a, M: Memory, const N: u8> DecodeValue<&'a [u8], M> for Expected<N> {
-    fn decode_value<R: Reader<&'a [u8]>>(
-        memory: M,
-        reader: &mut R,
-        header: Header,
-    ) -> Result<Expected<N>> {
-        if u8::decode_value(memory, reader, header)? != N {
-            return Err(reader.error(ErrorKind::Value { tag: Tag::INTEGER }));
+    #[inline(always)]
+    fn read_value(memory: M, contents: &'a [u8]) -> Result<Expected<N>> {
+        if u8::read_value(memory, contents)? != N {
+            return Err(Error::new(ErrorKind::Value { tag: Tag::INTEGER }));
         }
         Ok(Expected)
-    }
-
-    #[inline(always)]
-    fn quick_split(bytes: &'a [u8], tag: Tag) -> Option<(&'a [u8], &'a [u8])> {
-        quick_short(bytes, tag)
-    }
-
-    #[inline(always)]
-    fn quick_value(memory: M, contents: &'a [u8]) -> Option<Expected<N>> {
-        if u8::quick_value(memory, contents)? == N {
-            Some(Expected)
-        } else {
-            None
-        }
     }
 }
 

@@ -6,11 +6,8 @@ use crate::proved::der_core::decode::DecodeValue;
 use crate::proved::der_core::encode::EncodeValue;
 use crate::proved::der_core::error::{Error, ErrorKind, Result};
 use crate::proved::der_core::grammar::{Contents, IntegerTag, TaggedBy};
-use crate::proved::der_core::header::Header;
 use crate::proved::der_core::length::Length;
 use crate::proved::der_core::memory::Memory;
-use crate::proved::der_core::quick::quick_short;
-use crate::proved::der_core::reader::Reader;
 use crate::proved::der_core::tag::Tag;
 use crate::proved::der_core::writer::Writer;
 
@@ -33,31 +30,13 @@ impl<const MIN: u8, const MAX: u8> TaggedBy for InRange<MIN, MAX> {
 }
 
 impl<'a, M: Memory, const MIN: u8, const MAX: u8> DecodeValue<&'a [u8], M> for InRange<MIN, MAX> {
-    fn decode_value<R: Reader<&'a [u8]>>(
-        memory: M,
-        reader: &mut R,
-        header: Header,
-    ) -> Result<InRange<MIN, MAX>> {
-        let number = InRange(u8::decode_value(memory, reader, header)?);
+    #[inline(always)]
+    fn read_value(memory: M, contents: &'a [u8]) -> Result<InRange<MIN, MAX>> {
+        let number = InRange(u8::read_value(memory, contents)?);
         if !number.is_within() {
-            return Err(reader.error(ErrorKind::Value { tag: Tag::INTEGER }));
+            return Err(Error::new(ErrorKind::Value { tag: Tag::INTEGER }));
         }
         Ok(number)
-    }
-
-    #[inline(always)]
-    fn quick_split(bytes: &'a [u8], tag: Tag) -> Option<(&'a [u8], &'a [u8])> {
-        quick_short(bytes, tag)
-    }
-
-    #[inline(always)]
-    fn quick_value(memory: M, contents: &'a [u8]) -> Option<InRange<MIN, MAX>> {
-        let number = InRange(u8::quick_value(memory, contents)?);
-        if number.is_within() {
-            Some(number)
-        } else {
-            None
-        }
     }
 }
 

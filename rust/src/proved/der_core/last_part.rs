@@ -3,15 +3,13 @@
 
 use crate::proved::der_core::back_writer::BackWriter;
 use crate::proved::der_core::borrowed::Borrowed;
-use crate::proved::der_core::decode::{Decode, DecodeValue, decode_optional};
+use crate::proved::der_core::decode::{Decode, DecodeValue, read_optional};
 use crate::proved::der_core::encode::{Encode, EncodeValue};
-use crate::proved::der_core::error::Result;
+use crate::proved::der_core::error::{Error, ErrorKind, Result};
 use crate::proved::der_core::grammar::{Contents, Encoding, FixedTag};
 use crate::proved::der_core::length::Length;
 use crate::proved::der_core::memory::Memory;
 use crate::proved::der_core::parts::DecodeParts;
-use crate::proved::der_core::quick::quick_alone;
-use crate::proved::der_core::reader::Reader;
 use crate::proved::der_core::writer::Writer;
 
 /// An OPTIONAL last part: one encoding, or nothing. Whatever is left is read as the part.
@@ -32,18 +30,12 @@ impl<T: Encoding> Contents for Last<T> {}
 
 impl<'a, M: Memory, T: Decode<&'a [u8], M>> DecodeParts<&'a [u8], M> for Last<T> {
     #[inline(always)]
-    fn decode_parts<R: Reader<&'a [u8]>>(memory: M, reader: &mut R) -> Result<Last<T>> {
-        let part = decode_last(memory, reader)?;
-        Ok(Last(part))
-    }
-
-    #[inline(always)]
-    fn quick_parts(memory: M, contents: &'a [u8]) -> Option<Last<T>> {
+    fn read_parts(memory: M, contents: &'a [u8]) -> Result<Last<T>> {
         if contents.is_empty() {
-            return Some(Last(None));
+            return Ok(Last(None));
         }
-        let part = quick_alone(memory, contents)?;
-        Some(Last(Some(part)))
+        let part = T::read_alone(memory, contents)?;
+        Ok(Last(Some(part)))
     }
 }
 
@@ -88,22 +80,12 @@ impl<T: Contents + FixedTag> Contents for LastByTag<T> {}
 impl<'a, M: Memory, T: DecodeValue<&'a [u8], M> + FixedTag> DecodeParts<&'a [u8], M>
     for LastByTag<T> {
     #[inline(always)]
-    fn decode_parts<R: Reader<&'a [u8]>>(memory: M, reader: &mut R) -> Result<LastByTag<T>> {
-        let part = decode_optional(memory, reader)?;
-        reader.finish()?;
-        Ok(LastByTag(Last(part)))
-    }
-
-    #[inline(always)]
-    fn quick_parts(memory: M, contents: &'a [u8]) -> Option<LastByTag<T>> {
-        match contents {
-            [] => Some(LastByTag(Last(None))),
-            [first, ..] if *first == T::TAG.octet() => {
-                let part = quick_alone(memory, contents)?;
-                Some(LastByTag(Last(Some(part))))
-            }
-            _ => None,
+    fn read_parts(memory: M, contents: &'a [u8]) -> Result<LastByTag<T>> {
+        let (part, rest) = read_optional(memory, contents)?;
+        if !rest.is_empty() {
+            return Err(Error::new(ErrorKind::TrailingData));
         }
+        Ok(LastByTag(Last(part)))
     }
 }
 
@@ -127,30 +109,4 @@ impl<T: EncodeValue + FixedTag> EncodeValue for LastByTag<T> {
     fn prepend_value(&self, writer: &mut BackWriter<'_>) {
         self.0.prepend_value(writer);
     }
-}
-
-/// Reads all that is left as one encoding: `TrailingData` if bytes follow it. `Failed` on a reader that has failed.
-#[inline(always)]
-pub fn decode_whole<'a, T: Decode<&'a [u8], M>, M: Memory, R: Reader<&'a [u8]>>(
-    memory: M,
-    reader: &mut R,
-) -> Result<T> {
-    let value = T::decode(memory, reader)?;
-    reader.finish()?;
-    Ok(value)
-}
-
-/// Reads all that is left as one encoding, or as none if nothing is left: `TrailingData` if bytes follow the encoding.
-/// `Failed` on a reader that has failed.
-#[inline(always)]
-pub fn decode_last<'a, T: Decode<&'a [u8], M>, M: Memory, R: Reader<&'a [u8]>>(
-    memory: M,
-    reader: &mut R,
-) -> Result<Option<T>> {
-    if reader.peek_octet().is_none() {
-        reader.finish()?;
-        return Ok(None);
-    }
-    let value = decode_whole(memory, reader)?;
-    Ok(Some(value))
 }

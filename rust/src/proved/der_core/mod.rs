@@ -34,13 +34,13 @@ mod one_encoding;
 mod optional_last;
 mod optional_part;
 mod parts;
-mod quick;
 mod reader;
 mod record;
 mod sequence_of;
 mod slice_reader;
 mod slices;
 mod source_sink;
+mod split;
 mod std_io;
 mod tag;
 mod tagged;
@@ -53,7 +53,10 @@ pub use bit_string::{BitString, BitStringRef, BitStringTag};
 pub use boolean::BooleanTag;
 pub use borrowed::Borrowed;
 pub use containing::Containing;
-pub use decode::{Decode, DecodeValue, decode_optional, is_tag_next, read_borrowed, read_owned};
+pub use decode::{
+    Decode, DecodeValue, decode_optional, decode_tagged, is_tag_next, read_borrowed, read_optional,
+    read_owned, read_tagged,
+};
 pub use document::{Document, DocumentOf, Open, Secret, SecretDocument, write_over};
 pub use encode::{Encode, EncodeValue, joined_len};
 pub use error::{Error, ErrorKind, Result};
@@ -67,7 +70,7 @@ pub use grammar::{
 pub use header::Header;
 pub use in_range::InRange;
 pub use integer::{AsUintRef, Uint, UintEncoding, UintRef};
-pub use last_part::{Last, LastByTag, decode_last, decode_whole};
+pub use last_part::{Last, LastByTag};
 pub use laws::{
     lemma_clones_hold_the_same, lemma_contents_are_read, lemma_documents_compare_by_bytes,
     lemma_encodings_are_read, lemma_headers_compare_by_value, lemma_kinds_compare_by_value,
@@ -81,12 +84,12 @@ pub use octet_string::{OctetStringRef, OctetStringTag};
 pub use one_encoding::{OneContents, OneEncoding, lemma_one_encoding, write_only};
 pub use optional_part::OptionalThen;
 pub use parts::DecodeParts;
-pub use quick::{begins_with, quick_alone, quick_any, quick_contents, quick_short};
 pub use reader::{BytesLeft, Octets, Reader};
 pub use record::{EncodeInParts, InParts, Record};
 pub use slice_reader::SliceReader;
 pub use slices::{read_contents, read_front};
 pub use source_sink::{Close, Sink, Source};
+pub use split::{begins_with, split_encoding};
 pub use std_io::{FromRead, ToWrite};
 pub use tag::{Tag, TagNumber};
 pub use tagged::{Explicit, Tagged};

@@ -6,11 +6,8 @@ use crate::proved::der_core::decode::DecodeValue;
 use crate::proved::der_core::encode::EncodeValue;
 use crate::proved::der_core::error::{Error, ErrorKind, Result};
 use crate::proved::der_core::grammar::{Contents, EqualByValue, TagMarker, TaggedBy};
-use crate::proved::der_core::header::Header;
 use crate::proved::der_core::length::Length;
 use crate::proved::der_core::memory::Memory;
-use crate::proved::der_core::quick::quick_contents;
-use crate::proved::der_core::reader::Reader;
 use crate::proved::der_core::tag::Tag;
 use crate::proved::der_core::writer::Writer;
 
@@ -61,23 +58,9 @@ impl TaggedBy for OctetStringRef<'_> {
 impl EqualByValue for OctetStringRef<'_> {}
 
 impl<'a, M: Memory> DecodeValue<&'a [u8], M> for OctetStringRef<'a> {
-    fn decode_value<R: Reader<&'a [u8]>>(
-        _memory: M,
-        reader: &mut R,
-        header: Header,
-    ) -> Result<OctetStringRef<'a>> {
-        let bytes = reader.read_slice(header.length)?;
-        Ok(OctetStringRef { bytes })
-    }
-
     #[inline(always)]
-    fn quick_split(bytes: &'a [u8], tag: Tag) -> Option<(&'a [u8], &'a [u8])> {
-        quick_contents(bytes, tag)
-    }
-
-    #[inline(always)]
-    fn quick_value(_memory: M, contents: &'a [u8]) -> Option<OctetStringRef<'a>> {
-        Some(OctetStringRef { bytes: contents })
+    fn read_value(_memory: M, contents: &'a [u8]) -> Result<OctetStringRef<'a>> {
+        Ok(OctetStringRef { bytes: contents })
     }
 }
 

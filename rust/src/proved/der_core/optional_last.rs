@@ -2,7 +2,7 @@
 //! An OPTIONAL part in front of an OPTIONAL last one.
 
 use crate::proved::der_core::back_writer::BackWriter;
-use crate::proved::der_core::decode::{Decode, DecodeValue, decode_optional};
+use crate::proved::der_core::decode::{Decode, DecodeValue, read_optional};
 use crate::proved::der_core::encode::{Encode, EncodeValue, joined_len};
 use crate::proved::der_core::error::{Error, ErrorKind, Result};
 use crate::proved::der_core::grammar::{Contents, Encoding, FixedTag};
@@ -11,7 +11,6 @@ use crate::proved::der_core::length::Length;
 use crate::proved::der_core::memory::Memory;
 use crate::proved::der_core::optional_part::OptionalThen;
 use crate::proved::der_core::parts::DecodeParts;
-use crate::proved::der_core::reader::Reader;
 use crate::proved::der_core::tag::Tag;
 use crate::proved::der_core::writer::Writer;
 
@@ -19,15 +18,15 @@ impl<T: Contents + FixedTag, A: Encoding> Contents for OptionalThen<T, Last<A>> 
 
 /// Reads the last part behind a part with this tag: `Value` of the tag if it may begin with that too.
 #[inline(always)]
-fn decode_last_behind<'a, A: Decode<&'a [u8], M>, M: Memory, R: Reader<&'a [u8]>>(
+fn read_last_behind<'a, A: Decode<&'a [u8], M>, M: Memory>(
     memory: M,
-    reader: &mut R,
+    bytes: &'a [u8],
     tag: Tag,
 ) -> Result<Last<A>> {
     if A::may_start_with(tag) {
-        return Err(reader.error(ErrorKind::Value { tag }));
+        return Err(Error::new(ErrorKind::Value { tag }));
     }
-    Last::decode_parts(memory, reader)
+    Last::read_parts(memory, bytes)
 }
 
 impl<'a, M, T, A> DecodeParts<&'a [u8], M> for OptionalThen<T, Last<A>>
@@ -37,31 +36,10 @@ where
     A: Decode<&'a [u8], M>,
 {
     #[inline(always)]
-    fn decode_parts<R: Reader<&'a [u8]>>(
-        memory: M,
-        reader: &mut R,
-    ) -> Result<OptionalThen<T, Last<A>>> {
-        let part = decode_optional(memory, reader)?;
-        let rest = decode_last_behind(memory, reader, T::TAG)?;
+    fn read_parts(memory: M, contents: &'a [u8]) -> Result<OptionalThen<T, Last<A>>> {
+        let (part, behind) = read_optional(memory, contents)?;
+        let rest = read_last_behind(memory, behind, T::TAG)?;
         Ok(OptionalThen(part, rest))
-    }
-
-    #[inline(always)]
-    fn quick_parts(memory: M, contents: &'a [u8]) -> Option<OptionalThen<T, Last<A>>> {
-        if A::may_start_with(T::TAG) {
-            return None;
-        }
-        match contents {
-            [first, ..] if *first == T::TAG.octet() => {
-                let (part, behind) = T::quick(memory, contents)?;
-                let rest = Last::quick_parts(memory, behind)?;
-                Some(OptionalThen(Some(part), rest))
-            }
-            _ => {
-                let rest = Last::quick_parts(memory, contents)?;
-                Some(OptionalThen(None, rest))
-            }
-        }
     }
 }
 

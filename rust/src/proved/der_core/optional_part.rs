@@ -2,14 +2,13 @@
 //! An OPTIONAL part in front of others, which is known by its tag.
 
 use crate::proved::der_core::back_writer::BackWriter;
-use crate::proved::der_core::decode::{Decode, DecodeValue, decode_optional};
+use crate::proved::der_core::decode::{Decode, DecodeValue, read_optional};
 use crate::proved::der_core::encode::{Encode, EncodeValue, joined_len};
 use crate::proved::der_core::error::{Error, ErrorKind, Result};
 use crate::proved::der_core::grammar::{Contents, Encoding, FixedTag};
 use crate::proved::der_core::length::Length;
 use crate::proved::der_core::memory::Memory;
 use crate::proved::der_core::parts::DecodeParts;
-use crate::proved::der_core::reader::Reader;
 use crate::proved::der_core::tag::Tag;
 use crate::proved::der_core::writer::Writer;
 
@@ -22,19 +21,15 @@ impl<T: Contents + FixedTag, A: Encoding, B: Contents> Contents for OptionalThen
 
 /// Reads the row behind a part with this tag: `Value` of the tag if the row may begin with it too.
 #[inline(always)]
-fn decode_behind<'a, A, B, M: Memory, R: Reader<&'a [u8]>>(
-    memory: M,
-    reader: &mut R,
-    tag: Tag,
-) -> Result<(A, B)>
+fn read_behind<'a, A, B, M: Memory>(memory: M, bytes: &'a [u8], tag: Tag) -> Result<(A, B)>
 where
     A: Decode<&'a [u8], M>,
     B: DecodeParts<&'a [u8], M>,
 {
     if A::may_start_with(tag) {
-        return Err(reader.error(ErrorKind::Value { tag }));
+        return Err(Error::new(ErrorKind::Value { tag }));
     }
-    <(A, B)>::decode_parts(memory, reader)
+    <(A, B)>::read_parts(memory, bytes)
 }
 
 impl<'a, M, T, A, B> DecodeParts<&'a [u8], M> for OptionalThen<T, (A, B)>
@@ -45,31 +40,10 @@ where
     B: DecodeParts<&'a [u8], M>,
 {
     #[inline(always)]
-    fn decode_parts<R: Reader<&'a [u8]>>(
-        memory: M,
-        reader: &mut R,
-    ) -> Result<OptionalThen<T, (A, B)>> {
-        let part = decode_optional(memory, reader)?;
-        let rest = decode_behind(memory, reader, T::TAG)?;
+    fn read_parts(memory: M, contents: &'a [u8]) -> Result<OptionalThen<T, (A, B)>> {
+        let (part, behind) = read_optional(memory, contents)?;
+        let rest = read_behind(memory, behind, T::TAG)?;
         Ok(OptionalThen(part, rest))
-    }
-
-    #[inline(always)]
-    fn quick_parts(memory: M, contents: &'a [u8]) -> Option<OptionalThen<T, (A, B)>> {
-        if A::may_start_with(T::TAG) {
-            return None;
-        }
-        match contents {
-            [first, ..] if *first == T::TAG.octet() => {
-                let (part, behind) = T::quick(memory, contents)?;
-                let rest = <(A, B)>::quick_parts(memory, behind)?;
-                Some(OptionalThen(Some(part), rest))
-            }
-            _ => {
-                let rest = <(A, B)>::quick_parts(memory, contents)?;
-                Some(OptionalThen(None, rest))
-            }
-        }
     }
 }
 

@@ -5,24 +5,18 @@
 use crate::proved::der_core::back_writer::BackWriter;
 use crate::proved::der_core::decode::Decode;
 use crate::proved::der_core::encode::{Encode, EncodeValue, joined_len};
-use crate::proved::der_core::error::Result;
+use crate::proved::der_core::error::{Error, ErrorKind, Result};
 use crate::proved::der_core::grammar::{Contents, Encoding};
 use crate::proved::der_core::length::Length;
 use crate::proved::der_core::memory::Memory;
-use crate::proved::der_core::reader::{Octets, Reader};
+use crate::proved::der_core::reader::Octets;
 use crate::proved::der_core::writer::Writer;
 
-/// Contents that are read to the end of what is left. Of these the type's `read` gives the value, or the kind of the
-/// first fault. Calls return that, or `OutOfMemory` where the type may allocate.
+/// Parts that are read from contents. Of these the type's `read` gives the value, or the kind of the first fault. Calls
+/// return that, or `OutOfMemory` where the type may allocate.
 pub trait DecodeParts<B: Octets, M: Memory>: Contents + Sized {
-    /// Reads all that is left as the contents octets of a value. Err: the first fault, or `OutOfMemory`.
-    fn decode_parts<R: Reader<B>>(memory: M, reader: &mut R) -> Result<Self>;
-
-    /// The value that reading gives of all of these contents octets. `None` says nothing of them.
-    #[inline(always)]
-    fn quick_parts(_memory: M, _contents: B) -> Option<Self> {
-        None
-    }
+    /// The value of these contents octets, at most `Length::MAX`. Err: the first fault, or `OutOfMemory`.
+    fn read_parts(memory: M, contents: B) -> Result<Self>;
 }
 
 impl Contents for () {}
@@ -31,34 +25,22 @@ impl<A: Encoding, B: Contents> Contents for (A, B) {}
 
 impl<'a, M: Memory> DecodeParts<&'a [u8], M> for () {
     #[inline(always)]
-    fn decode_parts<R: Reader<&'a [u8]>>(_memory: M, reader: &mut R) -> Result<()> {
-        reader.finish()
-    }
-
-    #[inline(always)]
-    fn quick_parts(_memory: M, contents: &'a [u8]) -> Option<()> {
-        if contents.is_empty() { Some(()) } else { None }
+    fn read_parts(_memory: M, contents: &'a [u8]) -> Result<()> {
+        if contents.is_empty() {
+            Ok(())
+        } else {
+            Err(Error::new(ErrorKind::TrailingData))
+        }
     }
 }
 
 impl<'a, M: Memory, A: Decode<&'a [u8], M>, B: DecodeParts<&'a [u8], M>> DecodeParts<&'a [u8], M>
     for (A, B) {
     #[inline(always)]
-    fn decode_parts<R: Reader<&'a [u8]>>(memory: M, reader: &mut R) -> Result<(A, B)> {
-        let first = A::decode(memory, reader)?;
-        let rest = B::decode_parts(memory, reader)?;
+    fn read_parts(memory: M, contents: &'a [u8]) -> Result<(A, B)> {
+        let (first, behind) = A::read_one(memory, contents)?;
+        let rest = B::read_parts(memory, behind)?;
         Ok((first, rest))
-    }
-
-    #[inline(always)]
-    fn quick_parts(memory: M, contents: &'a [u8]) -> Option<(A, B)> {
-        match A::quick(memory, contents) {
-            Some((first, behind)) => match B::quick_parts(memory, behind) {
-                Some(rest) => Some((first, rest)),
-                None => None,
-            },
-            None => None,
-        }
     }
 }
 

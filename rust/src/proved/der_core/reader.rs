@@ -5,9 +5,23 @@ use crate::proved::der_core::error::{Error, ErrorKind, Result};
 use crate::proved::der_core::length::Length;
 
 /// The slices that a reader returns: `&[u8]`.
-pub trait Octets {}
+pub trait Octets {
+    /// How many bytes there are.
+    fn octet_count(&self) -> usize;
+}
 
-impl<'a> Octets for &'a [u8] {}
+impl<'a> Octets for &'a [u8] {
+    #[inline(always)]
+    fn octet_count(&self) -> usize {
+        count_octets(self)
+    }
+}
+
+/// How many bytes there are. They are octets.
+#[inline(always)]
+fn count_octets(bytes: &[u8]) -> usize {
+    bytes.len()
+}
 
 /// The bytes that a reader has left.
 pub trait BytesLeft {}

@@ -6,12 +6,9 @@ use crate::proved::der_core::decode::DecodeValue;
 use crate::proved::der_core::encode::EncodeValue;
 use crate::proved::der_core::error::Result;
 use crate::proved::der_core::grammar::Contents;
-use crate::proved::der_core::header::Header;
 use crate::proved::der_core::length::{Length, UNTOLD};
 use crate::proved::der_core::memory::Memory;
 use crate::proved::der_core::parts::DecodeParts;
-use crate::proved::der_core::quick::quick_contents;
-use crate::proved::der_core::reader::Reader;
 use crate::proved::der_core::tag::Tag;
 use crate::proved::der_core::writer::Writer;
 
@@ -29,22 +26,9 @@ where
     T::Parts: DecodeParts<&'a [u8], M>,
 {
     #[inline(always)]
-    fn decode_value<R: Reader<&'a [u8]>>(memory: M, reader: &mut R, _header: Header) -> Result<T> {
-        let parts = T::Parts::decode_parts(memory, reader)?;
+    fn read_value(memory: M, contents: &'a [u8]) -> Result<T> {
+        let parts = T::Parts::read_parts(memory, contents)?;
         Ok(T::from_parts(parts))
-    }
-
-    #[inline(always)]
-    fn quick_split(bytes: &'a [u8], tag: Tag) -> Option<(&'a [u8], &'a [u8])> {
-        quick_contents(bytes, tag)
-    }
-
-    #[inline(always)]
-    fn quick_value(memory: M, contents: &'a [u8]) -> Option<T> {
-        match T::Parts::quick_parts(memory, contents) {
-            Some(parts) => Some(T::from_parts(parts)),
-            None => None,
-        }
     }
 }
 

@@ -5,12 +5,9 @@ use crate::rattle_std::prelude::Vec;
 use crate::proved::der_core::back_writer::BackWriter;
 use crate::proved::der_core::decode::{Decode, DecodeValue};
 use crate::proved::der_core::encode::{Encode, EncodeValue, joined_len};
-use crate::proved::der_core::error::{ErrorKind, Result};
+use crate::proved::der_core::error::{Error, ErrorKind, Result};
 use crate::proved::der_core::grammar::{Contents, Encoding, SequenceTag, TaggedBy};
-use crate::proved::der_core::header::Header;
 use crate::proved::der_core::length::{Length, UNTOLD};
-use crate::proved::der_core::quick::quick_contents;
-use crate::proved::der_core::reader::Reader;
 use crate::proved::der_core::tag::Tag;
 use crate::proved::der_core::writer::Writer;
 use crate::rattle_std::alloc::Global;
@@ -22,35 +19,17 @@ impl<T> TaggedBy for Vec<T> {
 }
 
 impl<'a, T: Decode<&'a [u8], Global>> DecodeValue<&'a [u8], Global> for Vec<T> {
-    fn decode_value<R: Reader<&'a [u8]>>(
-        memory: Global,
-        reader: &mut R,
-        _header: Header,
-    ) -> Result<Vec<T>> {
-        let mut items = Vec::new(memory);
-        while reader.peek_octet().is_some() {
-            let item = T::decode(memory, reader)?;
-            if items.push(item).is_err() {
-                return Err(reader.error(ErrorKind::OutOfMemory));
-            }
-        }
-        Ok(items)
-    }
-
-    #[inline(always)]
-    fn quick_split(bytes: &'a [u8], tag: Tag) -> Option<(&'a [u8], &'a [u8])> {
-        quick_contents(bytes, tag)
-    }
-
-    fn quick_value(memory: Global, contents: &'a [u8]) -> Option<Vec<T>> {
+    fn read_value(memory: Global, contents: &'a [u8]) -> Result<Vec<T>> {
         let mut items = Vec::new(memory);
         let mut left = contents;
         while !left.is_empty() {
-            let (item, behind) = T::quick(memory, left)?;
-            items.push(item).ok()?;
+            let (item, behind) = T::read_one(memory, left)?;
+            if items.push(item).is_err() {
+                return Err(Error::new(ErrorKind::OutOfMemory));
+            }
             left = behind;
         }
-        Some(items)
+        Ok(items)
     }
 }
 

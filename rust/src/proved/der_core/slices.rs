@@ -2,13 +2,10 @@
 //! Reading of slices that hold contents octets alone, or an encoding and what follows it.
 
 use crate::proved::der_core::decode::{Decode, DecodeValue};
-use crate::proved::der_core::error::Result;
+use crate::proved::der_core::error::{Error, ErrorKind, Result};
 use crate::proved::der_core::grammar::FixedTag;
-use crate::proved::der_core::header::Header;
 use crate::proved::der_core::length::Length;
 use crate::proved::der_core::memory::Memory;
-use crate::proved::der_core::reader::Reader;
-use crate::proved::der_core::slice_reader::SliceReader;
 
 /// Reads a whole slice as the contents octets behind a header, whose tag is the caller's to compare. Ok only if they
 /// are those of a value, and of no other: then this value. Err: the first fault, `Overflow` if they are more than
@@ -18,27 +15,10 @@ pub fn read_contents<'a, T: DecodeValue<&'a [u8], M> + FixedTag, M: Memory>(
     memory: M,
     contents: &'a [u8],
 ) -> Result<T> {
-    if contents.len() <= Length::MAX.to_usize() {
-        if let Some(value) = T::quick_value(memory, contents) {
-            return Ok(value);
-        }
+    if contents.len() > Length::MAX.to_usize() {
+        return Err(Error::new(ErrorKind::Overflow));
     }
-    read_contents_slowly(memory, contents)
-}
-
-/// Reads contents octets part by part.
-#[cold]
-#[inline(never)]
-fn read_contents_slowly<'a, T: DecodeValue<&'a [u8], M> + FixedTag, M: Memory>(
-    memory: M,
-    contents: &'a [u8],
-) -> Result<T> {
-    let mut reader = SliceReader::new(contents)?;
-    let header = Header {
-        tag: T::TAG,
-        length: reader.remaining_len(),
-    };
-    T::decode_value(memory, &mut reader, header)
+    T::read_value(memory, contents)
 }
 
 /// Reads the encoding at the front of a slice. Ok only if the slice begins with one, and with no other: then its value,
@@ -49,22 +29,8 @@ pub fn read_front<'a, T: Decode<&'a [u8], M>, M: Memory>(
     memory: M,
     bytes: &'a [u8],
 ) -> Result<(T, &'a [u8])> {
-    if bytes.len() <= Length::MAX.to_usize() {
-        if let Some(split) = T::quick(memory, bytes) {
-            return Ok(split);
-        }
+    if bytes.len() > Length::MAX.to_usize() {
+        return Err(Error::new(ErrorKind::Overflow));
     }
-    read_front_slowly(memory, bytes)
-}
-
-/// Reads the encoding at the front part by part.
-#[cold]
-#[inline(never)]
-fn read_front_slowly<'a, T: Decode<&'a [u8], M>, M: Memory>(
-    memory: M,
-    bytes: &'a [u8],
-) -> Result<(T, &'a [u8])> {
-    let mut reader = SliceReader::new(bytes)?;
-    let value = T::decode(memory, &mut reader)?;
-    Ok((value, reader.rest()))
+    T::read_one(memory, bytes)
 }

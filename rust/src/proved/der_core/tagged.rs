@@ -7,11 +7,8 @@ use crate::proved::der_core::decode::DecodeValue;
 use crate::proved::der_core::encode::EncodeValue;
 use crate::proved::der_core::error::Result;
 use crate::proved::der_core::grammar::{Contents, TagMarker, TaggedBy};
-use crate::proved::der_core::header::Header;
 use crate::proved::der_core::length::Length;
 use crate::proved::der_core::memory::Memory;
-use crate::proved::der_core::quick::quick_contents;
-use crate::proved::der_core::reader::Reader;
 use crate::proved::der_core::tag::Tag;
 use crate::proved::der_core::writer::Writer;
 use crate::rattle_std::marker::PhantomData;
@@ -46,26 +43,10 @@ impl<M: TagMarker, C> TaggedBy for Tagged<M, C> {
 
 impl<'a, K: TagMarker, M: Memory, C: DecodeValue<&'a [u8], M>> DecodeValue<&'a [u8], M>
     for Tagged<K, C> {
-    fn decode_value<R: Reader<&'a [u8]>>(
-        memory: M,
-        reader: &mut R,
-        header: Header,
-    ) -> Result<Tagged<K, C>> {
-        let contents = C::decode_value(memory, reader, header)?;
+    #[inline(always)]
+    fn read_value(memory: M, contents: &'a [u8]) -> Result<Tagged<K, C>> {
+        let contents = C::read_value(memory, contents)?;
         Ok(Tagged::new(contents))
-    }
-
-    #[inline(always)]
-    fn quick_split(bytes: &'a [u8], tag: Tag) -> Option<(&'a [u8], &'a [u8])> {
-        quick_contents(bytes, tag)
-    }
-
-    #[inline(always)]
-    fn quick_value(memory: M, contents: &'a [u8]) -> Option<Tagged<K, C>> {
-        match C::quick_value(memory, contents) {
-            Some(contents) => Some(Tagged::new(contents)),
-            None => None,
-        }
     }
 }
 

@@ -27,7 +27,7 @@ pub use laws::{
     lemma_same_keys_have_the_same_encoding, lemma_types_exclude_each_other,
     lemma_views_hold_what_they_encode,
 };
-pub use other_primes::OtherPrimes;
+pub use other_primes::{OtherPrimes, first_other_prime};
 pub use crate::proved::pkcs1_params::{
     DefaultSalt, EncodeParams, Error, FromAlgorithm, Mgf1, OaepParamsOf, PSpecified, PssParamsOf,
     Result, RsaOaepParams, RsaOaepParamsOwned, RsaOaepParamsRef, RsaOaepParamsView, RsaPssParams,

@@ -3,8 +3,7 @@
 
 use crate::proved::pkcs1::private_key::other_prime_info::OtherPrimeInfo;
 use crate::proved::der_core::{
-    Contents, Decode, DecodeValue, Header, Memory, NoMemory, Reader, Result, SequenceTag,
-    SliceReader, Tag, TaggedBy, UintRef, quick_contents,
+    Contents, Decode, DecodeValue, Memory, NoMemory, Result, SequenceTag, TaggedBy, UintRef,
 };
 
 /// An iterator over the other primes of a private key, in order. It borrows the input, allocates nothing, and knows how
@@ -15,42 +14,12 @@ pub struct OtherPrimes<'a> {
     left: usize,
 }
 
-/// Decodes the next other prime.
+/// Reads the other prime in front, an `OtherPrimeInfo`, and returns it with the bytes after it. Err: the first fault. A
+/// list of more than `Length::MAX` bytes isn't read.
 #[inline(always)]
-fn read_other<'a>(reader: &mut SliceReader<'a>) -> Result<OtherPrimeInfo<UintRef<'a>>> {
-    let other = OtherPrimeInfo::decode(NoMemory, reader)?;
-    Ok(other)
-}
-
-/// The first other prime, and the bytes after it, if that is quickly told.
-#[inline(always)]
-fn quick_other<'a>(bytes: &'a [u8]) -> Option<(OtherPrimeInfo<UintRef<'a>>, &'a [u8])> {
-    let split = OtherPrimeInfo::quick(NoMemory, bytes)?;
-    Some(split)
-}
-
-/// Counts the other primes whose encodings, in a row, are the bytes, if that is quickly told.
-#[inline(always)]
-fn quick_count(bytes: &[u8]) -> Option<usize> {
-    let mut rest = bytes;
-    let mut count = 0;
-    while !rest.is_empty() {
-        let (_other, behind) = quick_other(rest)?;
-        rest = behind;
-        count += 1;
-    }
-    Some(count)
-}
-
-/// Decodes the first other prime, and returns it with the bytes after it. The bytes are octets.
-fn first_other<'a>(bytes: &'a [u8]) -> Result<(OtherPrimeInfo<UintRef<'a>>, &'a [u8])> {
-    if let Some(split) = quick_other(bytes) {
-        return Ok(split);
-    }
-    let mut reader = SliceReader::new(bytes)?;
-    let other = read_other(&mut reader)?;
-    let rest = reader.read_slice(reader.remaining_len())?;
-    Ok((other, rest))
+pub fn first_other_prime<'a>(bytes: &'a [u8]) -> Result<(OtherPrimeInfo<UintRef<'a>>, &'a [u8])> {
+    let split = OtherPrimeInfo::read_one(NoMemory, bytes)?;
+    Ok(split)
 }
 
 /// The same octets, for a contract that says that they are octets.
@@ -61,10 +30,11 @@ fn as_octets(bytes: &[u8]) -> &[u8] {
 
 /// Counts the other primes whose encodings, in a row, are the bytes.
 fn count_others(bytes: &[u8]) -> Result<usize> {
-    let mut reader = SliceReader::new(bytes)?;
+    let mut rest = bytes;
     let mut count = 0;
-    while reader.peek_octet().is_some() {
-        let _other = read_other(&mut reader)?;
+    while !rest.is_empty() {
+        let (_other, behind) = first_other_prime(rest)?;
+        rest = behind;
         count += 1;
     }
     Ok(count)
@@ -97,27 +67,9 @@ impl TaggedBy for OtherPrimes<'_> {
 }
 
 impl<'a, M: Memory> DecodeValue<&'a [u8], M> for OtherPrimes<'a> {
-    fn decode_value<R: Reader<&'a [u8]>>(
-        _memory: M,
-        reader: &mut R,
-        header: Header,
-    ) -> Result<OtherPrimes<'a>> {
-        let bytes = reader.read_slice(header.length)?;
-        match count_others(bytes) {
-            Ok(left) => Ok(OtherPrimes { bytes, left }),
-            Err(e) => Err(reader.error(e.kind())),
-        }
-    }
-
-    #[inline(always)]
-    fn quick_split(bytes: &'a [u8], tag: Tag) -> Option<(&'a [u8], &'a [u8])> {
-        quick_contents(bytes, tag)
-    }
-
-    #[inline(always)]
-    fn quick_value(_memory: M, contents: &'a [u8]) -> Option<OtherPrimes<'a>> {
-        let left = quick_count(contents)?;
-        Some(OtherPrimes {
+    fn read_value(_memory: M, contents: &'a [u8]) -> Result<OtherPrimes<'a>> {
+        let left = count_others(contents)?;
+        Ok(OtherPrimes {
             bytes: contents,
             left,
         })
@@ -132,7 +84,7 @@ impl<'a> Iterator for OtherPrimes<'a> {
         if self.left == 0 {
             return None;
         }
-        match first_other(self.bytes) {
+        match first_other_prime(self.bytes) {
             Ok((other, rest)) => {
                 *self = OtherPrimes {
                     bytes: rest,

@@ -10,10 +10,10 @@ use crate::proved::pkcs1::public_key::{RsaPublicKey, RsaPublicKeyRef};
 use crate::proved::pkcs1::version::Version;
 use crate::proved::der_core::{
     BackWriter, Contents, Decode, DecodeFront, DecodeValue, Encode, EncodeValue, Encoding,
-    ErrorKind, Header, Length, Reader, Result, SequenceTag, Tag, TaggedBy, UNTOLD, Uint,
-    UintEncoding, UintRef, Writer, quick_contents,
+    ErrorKind, Length, Result, SequenceTag, Tag, TaggedBy, UNTOLD, Uint, UintEncoding, UintRef,
+    Writer,
 };
-use other_prime_info::{OtherPrimeInfos, lists_none, quick_other_primes, read_other_primes};
+use other_prime_info::{OtherPrimeInfos, lists_none, read_other_primes};
 use crate::rattle_std::alloc::{AllocError, Global};
 use crate::rattle_std::fmt;
 
@@ -100,30 +100,12 @@ impl<U, O> TaggedBy for PrivateKeyOf<U, O> {
 }
 
 impl<'a, U: Decode<&'a [u8], Global>> DecodeValue<&'a [u8], Global> for RsaPrivateKey<U> {
-    fn decode_value<R: Reader<&'a [u8]>>(
-        memory: Global,
-        reader: &mut R,
-        _header: Header,
-    ) -> Result<RsaPrivateKey<U>> {
-        let (version, numbers) = KeyFront::<U>::decode_front(memory, reader)?;
-        let others = read_other_primes(memory, reader, version)?;
+    #[inline(always)]
+    fn read_value(memory: Global, contents: &'a [u8]) -> Result<RsaPrivateKey<U>> {
+        let (front, behind) = KeyFront::<U>::read_first(memory, contents)?;
+        let (version, numbers) = front;
+        let others = read_other_primes(memory, behind, version)?;
         Ok(key_of(numbers, others))
-    }
-
-    #[inline(always)]
-    fn quick_split(bytes: &'a [u8], tag: Tag) -> Option<(&'a [u8], &'a [u8])> {
-        quick_contents(bytes, tag)
-    }
-
-    #[inline(always)]
-    fn quick_value(memory: Global, contents: &'a [u8]) -> Option<RsaPrivateKey<U>> {
-        match KeyFront::<U>::quick_front(memory, contents) {
-            Some(((version, numbers), rest)) => match quick_other_primes(memory, rest, version) {
-                Some(others) => Some(key_of(numbers, others)),
-                None => None,
-            },
-            None => None,
-        }
     }
 }
 

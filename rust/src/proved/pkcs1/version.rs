@@ -2,8 +2,8 @@
 //! Versions of private keys.
 
 use crate::proved::der_core::{
-    BackWriter, Contents, DecodeValue, EncodeValue, ErrorKind, Header, IntegerTag, Length, Memory,
-    Reader, Result, Tag, TaggedBy, Writer, quick_short,
+    BackWriter, Contents, DecodeValue, EncodeValue, ErrorKind, IntegerTag, Length, Memory, Result,
+    Tag, TaggedBy, Writer,
 };
 use crate::proved::pkcs1_params::Error;
 use crate::rattle_std::cmp::Ordering;
@@ -76,26 +76,13 @@ impl TaggedBy for Version {
 }
 
 impl<'a, M: Memory> DecodeValue<&'a [u8], M> for Version {
-    fn decode_value<R: Reader<&'a [u8]>>(
-        memory: M,
-        reader: &mut R,
-        header: Header,
-    ) -> Result<Version> {
-        let number = u8::decode_value(memory, reader, header)?;
+    #[inline(always)]
+    fn read_value(memory: M, contents: &'a [u8]) -> Result<Version> {
+        let number = u8::read_value(memory, contents)?;
         match Version::try_from(number) {
             Ok(version) => Ok(version),
-            Err(_) => Err(reader.error(ErrorKind::Value { tag: Tag::INTEGER })),
+            Err(_) => Err(crate::proved::der_core::Error::new(ErrorKind::Value { tag: Tag::INTEGER })),
         }
-    }
-
-    #[inline(always)]
-    fn quick_split(bytes: &'a [u8], tag: Tag) -> Option<(&'a [u8], &'a [u8])> {
-        quick_short(bytes, tag)
-    }
-
-    #[inline(always)]
-    fn quick_value(memory: M, contents: &'a [u8]) -> Option<Version> {
-        Version::try_from(u8::quick_value(memory, contents)?).ok()
     }
 }
 

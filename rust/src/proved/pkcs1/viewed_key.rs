@@ -4,92 +4,46 @@
 use crate::proved::pkcs1::key_numbers::{KeyFront, key_of};
 use crate::proved::pkcs1::other_primes::OtherPrimes;
 use crate::proved::pkcs1::private_key::PrivateKeyOf;
+use crate::proved::pkcs1::private_key::other_prime_info::require_agreed;
 use crate::proved::pkcs1::version::Version;
-use crate::proved::der_core::{
-    Contents, Decode, DecodeFront, DecodeValue, ErrorKind, Header, NoMemory, Reader, Result, Tag,
-    UintRef, begins_with, decode_optional, quick_alone, quick_contents,
-};
+use crate::proved::der_core::{Contents, DecodeFront, DecodeValue, NoMemory, Result, UintRef, read_optional};
 
 /// A private key that borrows the input, for its other primes too.
 pub(crate) type ViewedKey<'a> = PrivateKeyOf<UintRef<'a>, OtherPrimes<'a>>;
 
-/// Whether the list is there but empty.
-fn lists_none(others: &Option<OtherPrimes<'_>>) -> bool {
+/// How many are listed, if there is a list.
+fn count_listed(others: &Option<OtherPrimes<'_>>) -> Option<usize> {
     match others {
-        Some(primes) => primes.remaining() == 0,
-        None => false,
+        Some(primes) => Some(primes.remaining()),
+        None => None,
     }
 }
 
-/// Decodes the rest of a key: its other primes, which must agree with the version.
-fn read_listed<'a, R: Reader<&'a [u8]>>(
-    reader: &mut R,
-    version: Version,
-) -> Result<Option<OtherPrimes<'a>>> {
-    let others: Option<OtherPrimes<'a>> = decode_optional(NoMemory, reader)?;
-    if version.is_multi() != others.is_some() {
-        return Err(reader.error(ErrorKind::Value { tag: Tag::INTEGER }));
-    }
-    if lists_none(&others) {
-        return Err(reader.error(ErrorKind::Value { tag: Tag::SEQUENCE }));
-    }
-    reader.finish()?;
-    Ok(others)
-}
-
-/// The other primes of a key of several that all of the bytes encode, if that is quickly told.
-#[inline(never)]
-fn quick_others(bytes: &[u8]) -> Option<OtherPrimes<'_>> {
-    if !begins_with(bytes, Tag::SEQUENCE) {
-        return None;
-    }
-    let others: OtherPrimes<'_> = quick_alone(NoMemory, bytes)?;
-    if others.remaining() == 0 {
-        None
-    } else {
-        Some(others)
-    }
-}
-
-/// What `read_listed` gives of all of the bytes, if that is quickly told.
+/// Reads the rest of a key: its other primes, which must agree with the version.
 #[inline(always)]
-fn quick_listed(bytes: &[u8], version: Version) -> Option<Option<OtherPrimes<'_>>> {
-    match version {
-        Version::Multi => match quick_others(bytes) {
-            Some(others) => Some(Some(others)),
-            None => None,
-        },
-        Version::TwoPrime if bytes.is_empty() => Some(None),
-        Version::TwoPrime => None,
+fn read_listed<'a>(bytes: &'a [u8], version: Version) -> Result<Option<OtherPrimes<'a>>> {
+    if bytes.is_empty() && !version.is_multi() {
+        return Ok(None);
     }
+    read_list(bytes, version)
+}
+
+/// The same of any bytes.
+#[inline(never)]
+fn read_list<'a>(bytes: &'a [u8], version: Version) -> Result<Option<OtherPrimes<'a>>> {
+    let (others, rest) = read_optional::<OtherPrimes<'a>, NoMemory>(NoMemory, bytes)?;
+    require_agreed(version, count_listed(&others), rest)?;
+    Ok(others)
 }
 
 impl Contents for ViewedKey<'_> {}
 
 impl<'a> DecodeValue<&'a [u8], NoMemory> for ViewedKey<'a> {
-    fn decode_value<R: Reader<&'a [u8]>>(
-        memory: NoMemory,
-        reader: &mut R,
-        _header: Header,
-    ) -> Result<ViewedKey<'a>> {
-        let (version, numbers) = KeyFront::<UintRef<'a>>::decode_front(memory, reader)?;
-        let others = read_listed(reader, version)?;
+    #[inline(always)]
+    fn read_value(memory: NoMemory, contents: &'a [u8]) -> Result<ViewedKey<'a>> {
+        let (front, behind) = KeyFront::<UintRef<'a>>::read_first(memory, contents)?;
+        let (version, numbers) = front;
+        let others = read_listed(behind, version)?;
         Ok(key_of(numbers, others))
-    }
-
-    #[inline(always)]
-    fn quick_split(bytes: &'a [u8], tag: Tag) -> Option<(&'a [u8], &'a [u8])> {
-        quick_contents(bytes, tag)
-    }
-
-    #[inline(always)]
-    fn quick_value(memory: NoMemory, contents: &'a [u8]) -> Option<ViewedKey<'a>> {
-        match KeyFront::<UintRef<'a>>::quick_front(memory, contents) {
-            Some(((version, numbers), rest)) => match quick_listed(rest, version) {
-                Some(others) => Some(key_of(numbers, others)),
-                None => None,
-            },
-            None => None,
-        }
     }
 }

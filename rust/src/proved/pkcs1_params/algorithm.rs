@@ -3,13 +3,13 @@
 //! one, and `reading.rt` the parameters in it.
 
 use crate::proved::pkcs1_params::error::{Error, Result};
-use crate::proved::pkcs1_params::reading::{AlgorithmParams, quick_parameters};
+use crate::proved::pkcs1_params::reading::{AlgorithmParams, read_any};
 use crate::proved::pkcs1_params::shortest::Shortest;
 use crate::proved::pkcs1_params::spelling::EncodeParams;
 use crate::proved::der_core::{Decode, Encode, ErrorKind, NoMemory};
 use crate::proved::spki_core::{
     AlgorithmIdentifierOf, AlgorithmIdentifierRef, AlgorithmView, AnyRef, AssociatedOid,
-    IdentifierValue, IdentifierView,
+    IdentifierValue,
 };
 
 /// Borrowed parameters that are read from the algorithm identifier that they stand in: `RsaPssParamsRef`,
@@ -34,38 +34,29 @@ pub trait FromAlgorithm<'a>: AlgorithmParams<'a> {
 
 impl<'a, T: AlgorithmParams<'a>> FromAlgorithm<'a> for T {
     fn from_algorithm(algorithm: &AlgorithmIdentifierRef<'a>) -> Result<T> {
-        from_identifier(algorithm)
+        from_identifier(algorithm, false)
     }
 
     fn from_algorithm_der(bytes: &'a [u8]) -> Result<T> {
         let algorithm = AlgorithmView::from_der(NoMemory, bytes)?;
-        from_identifier(&algorithm)
+        from_identifier(&algorithm, false)
     }
 
     fn from_algorithm_der_strict(bytes: &'a [u8]) -> Result<T> {
-        from_identifier_strict(bytes)
+        let algorithm = AlgorithmView::from_der(NoMemory, bytes)?;
+        from_identifier(&algorithm, true)
     }
 }
 
-/// The parameters in an algorithm identifier, whatever holds its object identifier.
+/// The parameters in an algorithm identifier, whatever holds its object identifier; if `strict`, only where no default
+/// is written.
 #[inline(always)]
 fn from_identifier<'a, O: IdentifierValue, T: AlgorithmParams<'a>>(
     algorithm: &AlgorithmIdentifierOf<O, AnyRef<'a>>,
+    strict: bool,
 ) -> Result<T> {
     let any = parameters_of::<O, T>(algorithm)?;
-    T::read_any(any)
-}
-
-/// The parameters in a whole slice that is an algorithm identifier, unless a default is written in them.
-fn from_identifier_strict<'a, T: AlgorithmParams<'a>>(bytes: &'a [u8]) -> Result<T> {
-    let algorithm = AlgorithmView::from_der(NoMemory, bytes)?;
-    let any = parameters_of::<IdentifierView<'a>, T>(&algorithm)?;
-    if let Some(params) = quick_parameters::<T>(&any) {
-        return Ok(params);
-    }
-    let params = T::read_any(any)?;
-    params.reject_defaults(encoded_parameters::<T>(bytes))?;
-    Ok(params)
+    Ok(read_any(any, strict)?)
 }
 
 /// The parameters in an algorithm identifier, whatever holds its object identifier, as they are before they are read.
@@ -80,23 +71,6 @@ fn parameters_of<'a, O: IdentifierValue, T: AlgorithmParams<'a>>(
     match algorithm.parameters {
         Some(any) => Ok(any),
         None => Err(Error::Asn1(crate::proved::der_core::Error::new(ErrorKind::ParametersMissing))),
-    }
-}
-
-/// The encoding of the parameters in an algorithm identifier.
-fn encoded_parameters<'a, T: AlgorithmParams<'a>>(identifier: &'a [u8]) -> &'a [u8] {
-    match AnyRef::from_der(NoMemory, identifier) {
-        Ok(any) => behind(any.value(), 2 + T::Oid::octets().len()),
-        Err(_) => crate::rattle_std::NO_OCTETS,
-    }
-}
-
-/// The octets behind the first `count`, or none if there are fewer.
-fn behind(octets: &[u8], count: usize) -> &[u8] {
-    if count <= octets.len() {
-        &octets[count..]
-    } else {
-        crate::rattle_std::NO_OCTETS
     }
 }
 

@@ -4,15 +4,7 @@
 use crate::proved::pkcs1_params::hash_fields::MaskGenOf;
 use crate::proved::pkcs1_params::oaep::{OaepParamsOf, RsaOaepParams, RsaOaepParamsRef, RsaOaepParamsView};
 use crate::proved::pkcs1_params::pss::{PssParamsOf, RsaPssParams, RsaPssParamsRef, RsaPssParamsView};
-use crate::proved::der_core::{DecodeValue, FixedTag, NoMemory};
 use crate::proved::spki_core::{AlgorithmIdentifier, AnyRef, IdentifierView, ObjectIdentifier, ReadIdentifier};
-
-/// `AnyRef::decode_as` of a type that asks for no memory.
-pub(crate) fn decode_borrowed<'a, T: DecodeValue<&'a [u8], NoMemory> + FixedTag>(
-    any: AnyRef<'a>,
-) -> crate::proved::der_core::Result<T> {
-    any.decode_as(NoMemory)
-}
 
 /// What holds the identifiers of parameters that are read: `IdentifierView`, or `ObjectIdentifier` as copies.
 pub trait ReadParams<'a>: ReadIdentifier<'a> {

@@ -8,7 +8,7 @@ use crate::proved::pkcs1_params::from_view::ReadParams;
 use crate::proved::pkcs1_params::hash_fields::{MaskGenOf, mgf1_with, with_null};
 use crate::proved::pkcs1_params::hash_functions::Sha1;
 use crate::proved::pkcs1_params::label::empty_source;
-use crate::proved::pkcs1_params::reading::{read_params, read_params_strict};
+use crate::proved::pkcs1_params::reading::read_params;
 use crate::proved::pkcs1_params::spelling::non_defaults_in;
 use crate::proved::der_core::{
     BackWriter, Contents, EncodeValue, EqualByValue, ErrorKind, Length, Memory, NoMemory,
@@ -61,7 +61,7 @@ impl<'a, O: ReadParams<'a>> TryFrom<&'a [u8]> for OaepParamsOf<O, AnyRef<'a>> {
     /// Reads parameters, and allocates nothing. Ok exactly if the whole slice encodes some: then these. A field that is
     /// left out has its default, and a default that is written out is accepted. Err: the first fault of parameters.
     fn try_from(bytes: &'a [u8]) -> Result<OaepParamsOf<O, AnyRef<'a>>> {
-        let view = read_params::<RsaOaepParamsView<'a>>(bytes)?;
+        let view = read_params::<RsaOaepParamsView<'a>>(bytes, false)?;
         Ok(O::oaep_from_view(view))
     }
 }
@@ -70,7 +70,7 @@ impl<'a, O: ReadParams<'a>> OaepParamsOf<O, AnyRef<'a>> {
     /// Reads parameters as `try_from` does, but only from their shortest encoding. Of an encoding in which a default is
     /// written the error is `Noncanonical` with the tag of the first such field. Else it is that of `try_from`.
     pub fn from_der_strict(bytes: &'a [u8]) -> Result<OaepParamsOf<O, AnyRef<'a>>> {
-        let view = read_params_strict::<RsaOaepParamsView<'a>>(bytes)?;
+        let view = read_params::<RsaOaepParamsView<'a>>(bytes, true)?;
         Ok(O::oaep_from_view(view))
     }
 }

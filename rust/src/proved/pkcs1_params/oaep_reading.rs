@@ -1,86 +1,28 @@
 // Made of crates/pkcs1_params/src/oaep_reading.rt by tools/erase/erase.py, and not to be edited.
-//! What `reading.rt` calls of RSAES-OAEP parameters: fields that are read quickly, in `quick.rt`; each field by `read_field` of
-//! `spki_core`; and defaults that are written, in `strict.rt`.
+//! What `reading.rt` calls of RSAES-OAEP parameters.
 
-use crate::proved::pkcs1_params::error::Result;
-use crate::proved::pkcs1_params::from_view::{ReadParams, decode_borrowed};
-use crate::proved::pkcs1_params::hash_fields::{mgf1_with, with_null};
-use crate::proved::pkcs1_params::hash_functions::Sha1;
-use crate::proved::pkcs1_params::label::empty_source;
+use crate::proved::pkcs1_params::from_view::ReadParams;
+use crate::proved::pkcs1_params::noting::note_oaep;
 use crate::proved::pkcs1_params::oaep::{OaepParamsOf, RsaOaepParamsView};
 use crate::proved::pkcs1_params::oaep_algorithm::RsaesOaep;
-use crate::proved::pkcs1_params::quick::quick_oaep;
-use crate::proved::pkcs1_params::reading::AlgorithmParams;
-use crate::proved::pkcs1_params::strict;
-use crate::proved::der_core::{
-    DecodeValue, Header, Memory, NoMemory, Reader, Tag, TagNumber, quick_short, read_borrowed,
-};
-use crate::proved::spki_core::{AnyRef, read_field};
+use crate::proved::pkcs1_params::reading::{AlgorithmParams, read_fields};
+use crate::proved::der_core::{DecodeValue, Memory, Result, TagNumber};
+use crate::proved::spki_core::AnyRef;
 
 impl<'a, O: ReadParams<'a>> AlgorithmParams<'a> for OaepParamsOf<O, AnyRef<'a>> {
     type Oid = RsaesOaep;
 
-    fn quick_strictly(contents: &'a [u8]) -> Option<OaepParamsOf<O, AnyRef<'a>>> {
-        let view = quick_oaep(contents, true)?;
-        Some(O::oaep_from_view(view))
-    }
-
-    fn read_any(any: AnyRef<'a>) -> Result<OaepParamsOf<O, AnyRef<'a>>> {
-        let view = decode_borrowed::<RsaOaepParamsView<'a>>(any)?;
-        Ok(O::oaep_from_view(view))
-    }
-
     #[inline(always)]
-    fn read_whole(bytes: &'a [u8]) -> Result<OaepParamsOf<O, AnyRef<'a>>> {
-        let view = read_borrowed::<RsaOaepParamsView<'a>>(bytes)?;
-        Ok(O::oaep_from_view(view))
-    }
-
-    fn reject_defaults(&self, encoding: &[u8]) -> Result<()> {
-        strict::reject_defaults(self, encoding)
+    fn read_noting(contents: &'a [u8]) -> Result<(OaepParamsOf<O, AnyRef<'a>>, Option<TagNumber>)> {
+        let (view, noted) = note_oaep(contents)?;
+        Ok((O::oaep_from_view(view), noted))
     }
 }
 
 impl<'a, M: Memory, O: ReadParams<'a>> DecodeValue<&'a [u8], M> for OaepParamsOf<O, AnyRef<'a>> {
     #[inline(always)]
-    fn decode_value<R: Reader<&'a [u8]>>(
-        memory: M,
-        reader: &mut R,
-        _header: Header,
-    ) -> crate::proved::der_core::Result<OaepParamsOf<O, AnyRef<'a>>> {
-        let hash = read_field(
-            memory,
-            reader,
-            TagNumber::new(0),
-            with_null::<Sha1, _, _, _>(NoMemory),
-        )?;
-        let mask_gen = read_field(
-            memory,
-            reader,
-            TagNumber::new(1),
-            mgf1_with::<Sha1, _, _, _>(NoMemory),
-        )?;
-        let p_source = read_field(
-            memory,
-            reader,
-            TagNumber::new(2),
-            empty_source::<_, _, _>(NoMemory),
-        )?;
-        reader.finish()?;
-        Ok(O::oaep_from_view(RsaOaepParamsView {
-            hash,
-            mask_gen,
-            p_source,
-        }))
-    }
-
-    #[inline(always)]
-    fn quick_split(bytes: &'a [u8], tag: Tag) -> Option<(&'a [u8], &'a [u8])> {
-        quick_short(bytes, tag)
-    }
-
-    fn quick_value(_memory: M, contents: &'a [u8]) -> Option<OaepParamsOf<O, AnyRef<'a>>> {
-        let view = quick_oaep(contents, false)?;
-        Some(O::oaep_from_view(view))
+    fn read_value(_memory: M, contents: &'a [u8]) -> Result<OaepParamsOf<O, AnyRef<'a>>> {
+        let view = read_fields::<RsaOaepParamsView<'a>>(contents, false)?;
+        Ok(O::oaep_from_view(view))
     }
 }

@@ -10,8 +10,7 @@ use crate::proved::pkcs1_params::label::is_same_source;
 use crate::proved::pkcs1_params::listing::all_spellings;
 use crate::proved::pkcs1_params::oaep::OaepParamsOf;
 use crate::proved::pkcs1_params::spelling::{EncodeParams, count_defaults};
-use crate::proved::der_core::TagNumber;
-use crate::proved::spki_core::{AlgorithmIdentifierOf, AnyValue, AssociatedOid, IdentifierValue, written_default};
+use crate::proved::spki_core::{AlgorithmIdentifierOf, AnyValue, AssociatedOid, IdentifierValue};
 use crate::rattle_std::alloc::Global;
 
 /// A field and the later ones.
@@ -36,15 +35,6 @@ impl<'b, O: IdentifierValue, P: AnyValue> EncodeParams for &'b OaepParamsOf<O, P
     }
 
     fn lemma_is_valid(self) {}
-
-    fn written_default(self, bytes: &[u8]) -> Option<TagNumber> {
-        let defaults = [
-            self.hash.is_default_hash(),
-            self.mask_gen.is_default(),
-            self.p_source.is_default_source(),
-        ];
-        written_default(bytes, &defaults)
-    }
 }
 
 impl<O: IdentifierValue, P: AnyValue> OaepParamsOf<O, P> {

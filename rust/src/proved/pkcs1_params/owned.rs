@@ -4,7 +4,7 @@
 use crate::proved::pkcs1_params::hash_fields::{MaskGenOf, MaskGenRef};
 use crate::proved::pkcs1_params::oaep::{RsaOaepParams, RsaOaepParamsOwned, RsaOaepParamsRef};
 use crate::proved::pkcs1_params::pss::{RsaPssParams, RsaPssParamsOwned, RsaPssParamsRef};
-use crate::proved::der_core::{DecodeValue, Header, NoMemory, Reader, Result};
+use crate::proved::der_core::{DecodeValue, NoMemory, Result};
 use crate::proved::spki_core::{
     AlgorithmIdentifier, AlgorithmIdentifierRef, Any, AnyParams, AnyRef, ObjectIdentifier,
 };
@@ -68,29 +68,15 @@ fn copy_oaep(alloc: Global, params: RsaOaepParamsRef<'_>) -> Result<RsaOaepParam
 }
 
 impl<'a> DecodeValue<&'a [u8], Global> for RsaPssParams<Any> {
-    fn decode_value<R: Reader<&'a [u8]>>(
-        memory: Global,
-        reader: &mut R,
-        header: Header,
-    ) -> Result<RsaPssParamsOwned> {
-        let params = RsaPssParamsRef::decode_value(NoMemory, reader, header)?;
-        match copy_pss(memory, params) {
-            Ok(copy) => Ok(copy),
-            Err(e) => Err(reader.error(e.kind())),
-        }
+    fn read_value(memory: Global, contents: &'a [u8]) -> Result<RsaPssParamsOwned> {
+        let params = RsaPssParamsRef::read_value(NoMemory, contents)?;
+        copy_pss(memory, params)
     }
 }
 
 impl<'a> DecodeValue<&'a [u8], Global> for RsaOaepParams<Any> {
-    fn decode_value<R: Reader<&'a [u8]>>(
-        memory: Global,
-        reader: &mut R,
-        header: Header,
-    ) -> Result<RsaOaepParamsOwned> {
-        let params = RsaOaepParamsRef::decode_value(NoMemory, reader, header)?;
-        match copy_oaep(memory, params) {
-            Ok(copy) => Ok(copy),
-            Err(e) => Err(reader.error(e.kind())),
-        }
+    fn read_value(memory: Global, contents: &'a [u8]) -> Result<RsaOaepParamsOwned> {
+        let params = RsaOaepParamsRef::read_value(NoMemory, contents)?;
+        copy_oaep(memory, params)
     }
 }

@@ -7,7 +7,7 @@ use crate::proved::pkcs1_params::error::{Error, Result, fault_of};
 use crate::proved::pkcs1_params::from_view::ReadParams;
 use crate::proved::pkcs1_params::hash_fields::{MaskGenOf, mgf1_with, with_null};
 use crate::proved::pkcs1_params::hash_functions::Sha1;
-use crate::proved::pkcs1_params::reading::{read_params, read_params_strict};
+use crate::proved::pkcs1_params::reading::read_params;
 use crate::proved::pkcs1_params::spelling::non_defaults_in;
 use crate::proved::pkcs1_params::trailer_field::TrailerField;
 use crate::proved::der_core::{
@@ -64,7 +64,7 @@ impl<'a, O: ReadParams<'a>> TryFrom<&'a [u8]> for PssParamsOf<O, AnyRef<'a>> {
     /// Reads parameters, and allocates nothing. Ok exactly if the whole slice encodes some: then these. A field that is
     /// left out has its default, and a default that is written out is accepted. Err: the first fault of parameters.
     fn try_from(bytes: &'a [u8]) -> Result<PssParamsOf<O, AnyRef<'a>>> {
-        let view = read_params::<RsaPssParamsView<'a>>(bytes)?;
+        let view = read_params::<RsaPssParamsView<'a>>(bytes, false)?;
         Ok(O::pss_from_view(view))
     }
 }
@@ -73,7 +73,7 @@ impl<'a, O: ReadParams<'a>> PssParamsOf<O, AnyRef<'a>> {
     /// Reads parameters as `try_from` does, but only from their shortest encoding. Of an encoding in which a default is
     /// written the error is `Noncanonical` with the tag of the first such field. Else it is that of `try_from`.
     pub fn from_der_strict(bytes: &'a [u8]) -> Result<PssParamsOf<O, AnyRef<'a>>> {
-        let view = read_params_strict::<RsaPssParamsView<'a>>(bytes)?;
+        let view = read_params::<RsaPssParamsView<'a>>(bytes, true)?;
         Ok(O::pss_from_view(view))
     }
 }

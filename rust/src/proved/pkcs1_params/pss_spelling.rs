@@ -10,8 +10,7 @@ use crate::proved::pkcs1_params::listing::all_spellings;
 use crate::proved::pkcs1_params::pss::{PssParamsOf, RsaPssParamsRef};
 use crate::proved::pkcs1_params::spelling::{EncodeParams, count_defaults};
 use crate::proved::pkcs1_params::trailer_field::TrailerField;
-use crate::proved::der_core::TagNumber;
-use crate::proved::spki_core::{AlgorithmIdentifierOf, AnyValue, AssociatedOid, IdentifierValue, written_default};
+use crate::proved::spki_core::{AlgorithmIdentifierOf, AnyValue, AssociatedOid, IdentifierValue};
 use crate::rattle_std::alloc::Global;
 
 /// A field and the later ones.
@@ -40,16 +39,6 @@ impl<'b, O: IdentifierValue, P: AnyValue> EncodeParams for &'b PssParamsOf<O, P>
 
     fn lemma_is_valid(self) {
         let _salt_len = self.salt_len;
-    }
-
-    fn written_default(self, bytes: &[u8]) -> Option<TagNumber> {
-        let defaults = [
-            self.hash.is_default_hash(),
-            self.mask_gen.is_default(),
-            self.salt_len == RsaPssParamsRef::SALT_LEN_DEFAULT,
-            self.trailer_field == TrailerField::BC,
-        ];
-        written_default(bytes, &defaults)
     }
 }
 

@@ -6,8 +6,8 @@ use crate::proved::pkcs1_params::contents::{append_contents, contents_len, prepe
 use crate::proved::pkcs1_params::error::Result;
 use crate::proved::pkcs1_params::fields::Fields;
 use crate::proved::der_core::{
-    BackWriter, Contents, Encode, EncodeValue, ErrorKind, Length, SequenceTag, TagNumber, TaggedBy,
-    Writer, write_over,
+    BackWriter, Contents, Encode, EncodeValue, ErrorKind, Length, SequenceTag, TaggedBy, Writer,
+    write_over,
 };
 use crate::rattle_std::alloc::Global;
 
@@ -18,10 +18,6 @@ pub trait EncodeParams: Copy {
 
     /// The fields, in order, of which there are at most 7.
     fn fields(self) -> Self::Fields;
-
-    /// The first field in an encoding that is written though it equals its default. The result is meaningful only if
-    /// the encoding is known to be one of these parameters.
-    fn written_default(self, bytes: &[u8]) -> Option<TagNumber>;
 
     /// Does nothing: its contract says that the parameters may be encoded.
     fn lemma_is_valid(self);

@@ -2,8 +2,8 @@
 //! The trailer field of RSASSA-PSS.
 
 use crate::proved::der_core::{
-    BackWriter, Contents, DecodeValue, EncodeValue, EqualByValue, ErrorKind, Header, IntegerTag,
-    Length, Memory, Reader, Result, Tag, TaggedBy, Writer, quick_short,
+    BackWriter, Contents, DecodeValue, EncodeValue, EqualByValue, Error, ErrorKind, IntegerTag,
+    Length, Memory, Result, Tag, TaggedBy, Writer,
 };
 
 /// The trailer field, of which one is known (RFC 8017 A.2.3).
@@ -32,27 +32,11 @@ impl TaggedBy for TrailerField {
 impl EqualByValue for TrailerField {}
 
 impl<'a, M: Memory> DecodeValue<&'a [u8], M> for TrailerField {
-    fn decode_value<R: Reader<&'a [u8]>>(
-        memory: M,
-        reader: &mut R,
-        header: Header,
-    ) -> Result<TrailerField> {
-        match u8::decode_value(memory, reader, header)? {
+    #[inline(always)]
+    fn read_value(memory: M, contents: &'a [u8]) -> Result<TrailerField> {
+        match u8::read_value(memory, contents)? {
             1 => Ok(TrailerField::BC),
-            _ => Err(reader.error(ErrorKind::Value { tag: Tag::INTEGER })),
-        }
-    }
-
-    #[inline(always)]
-    fn quick_split(bytes: &'a [u8], tag: Tag) -> Option<(&'a [u8], &'a [u8])> {
-        quick_short(bytes, tag)
-    }
-
-    #[inline(always)]
-    fn quick_value(memory: M, contents: &'a [u8]) -> Option<TrailerField> {
-        match u8::quick_value(memory, contents)? {
-            1 => Some(TrailerField::BC),
-            _ => None,
+            _ => Err(Error::new(ErrorKind::Value { tag: Tag::INTEGER })),
         }
     }
 }

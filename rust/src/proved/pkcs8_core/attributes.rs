@@ -2,8 +2,8 @@
 //! The attributes of containers, as opaque bytes.
 
 use crate::proved::pkcs1::der::{
-    BackWriter, Contents, DecodeValue, EncodeValue, Header, Length, Memory, OneContents, Reader,
-    Result, Tag, TagMarker, TaggedBy, Writer, quick_contents,
+    BackWriter, Contents, DecodeValue, EncodeValue, Length, Memory, OneContents, Result, Tag,
+    TagMarker, TaggedBy, Writer,
 };
 
 /// The tag of attributes.
@@ -36,23 +36,9 @@ impl TaggedBy for Attributes<'_> {
 impl OneContents for Attributes<'_> {}
 
 impl<'a, M: Memory> DecodeValue<&'a [u8], M> for Attributes<'a> {
-    fn decode_value<R: Reader<&'a [u8]>>(
-        _memory: M,
-        reader: &mut R,
-        header: Header,
-    ) -> Result<Attributes<'a>> {
-        let bytes = reader.read_slice(header.length)?;
-        Ok(Attributes::new(bytes))
-    }
-
     #[inline(always)]
-    fn quick_split(bytes: &'a [u8], tag: Tag) -> Option<(&'a [u8], &'a [u8])> {
-        quick_contents(bytes, tag)
-    }
-
-    #[inline(always)]
-    fn quick_value(_memory: M, contents: &'a [u8]) -> Option<Attributes<'a>> {
-        Some(Attributes::new(contents))
+    fn read_value(_memory: M, contents: &'a [u8]) -> Result<Attributes<'a>> {
+        Ok(Attributes::new(contents))
     }
 }
 

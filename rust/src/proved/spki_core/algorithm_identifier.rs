@@ -6,8 +6,8 @@ use crate::proved::spki_core::identifier_view::{IdentifierValue, IdentifierView}
 use crate::proved::spki_core::object_identifier::{AssociatedOid, ObjectIdentifier};
 use crate::proved::der_core::{
     BackWriter, Contents, Decode, DecodeParts, DecodeValue, Encode, EncodeValue, Encoding,
-    EqualByValue, Error, ErrorKind, Header, Last, Length, Memory, Reader, Result, SequenceTag, Tag,
-    TaggedBy, TryClone, Writer, quick_short,
+    EqualByValue, Error, ErrorKind, Last, Length, Memory, Result, SequenceTag, TaggedBy, TryClone,
+    Writer,
 };
 use crate::rattle_std::alloc::Global;
 use crate::rattle_std::fmt;
@@ -60,28 +60,11 @@ impl<P: EqualByValue> EqualByValue for AlgorithmIdentifier<P> {}
 impl<'a, M: Memory, O: ReadIdentifier<'a>, P: Decode<&'a [u8], M>> DecodeValue<&'a [u8], M>
     for AlgorithmIdentifierOf<O, P> {
     #[inline(always)]
-    fn decode_value<R: Reader<&'a [u8]>>(
-        memory: M,
-        reader: &mut R,
-        _header: Header,
-    ) -> Result<AlgorithmIdentifierOf<O, P>> {
-        let (oid, Last(parameters)) = <(IdentifierView<'a>, Last<P>)>::decode_parts(
-            memory, reader,
-        )?;
-        Ok(O::algorithm_from_view(AlgorithmView { oid, parameters }))
-    }
-
-    #[inline(always)]
-    fn quick_split(bytes: &'a [u8], tag: Tag) -> Option<(&'a [u8], &'a [u8])> {
-        quick_short(bytes, tag)
-    }
-
-    #[inline(always)]
-    fn quick_value(memory: M, contents: &'a [u8]) -> Option<AlgorithmIdentifierOf<O, P>> {
-        let (oid, Last(parameters)) = <(IdentifierView<'a>, Last<P>)>::quick_parts(
+    fn read_value(memory: M, contents: &'a [u8]) -> Result<AlgorithmIdentifierOf<O, P>> {
+        let (oid, Last(parameters)) = <(IdentifierView<'a>, Last<P>)>::read_parts(
             memory, contents,
         )?;
-        Some(O::algorithm_from_view(AlgorithmView { oid, parameters }))
+        Ok(O::algorithm_from_view(AlgorithmView { oid, parameters }))
     }
 }
 

@@ -5,8 +5,7 @@ use crate::proved::spki_core::context_specific::short_len;
 use crate::proved::spki_core::wide_tag::WideTag;
 use crate::proved::der_core::{
     BackWriter, Decode, DecodeValue, Encode, Encoding, EqualByValue, Error, ErrorKind, FixedTag,
-    Header, Length, Memory, Reader, Result, SliceReader, Tag, TryClone, Writer, quick_any,
-    read_contents,
+    Header, Length, Memory, Reader, Result, Tag, TryClone, Writer, read_contents, split_encoding,
 };
 use crate::rattle_std::alloc::Global;
 use crate::rattle_std::fmt;
@@ -24,10 +23,16 @@ impl<'a> AnyRef<'a> {
         if contents.len() > Length::MAX.to_usize() {
             return Err(Error::new(ErrorKind::Overflow));
         }
-        Ok(AnyRef {
+        Ok(AnyRef::over(tag, contents))
+    }
+
+    /// This tag with these contents.
+    #[inline(always)]
+    fn over(tag: Tag, contents: &'a [u8]) -> AnyRef<'a> {
+        AnyRef {
             tag: WideTag::of(tag),
             contents,
-        })
+        }
     }
 
     /// NULL (X.690 8.8), which has no contents octets.
@@ -87,35 +92,27 @@ impl Encoding for AnyRef<'_> {
 
 impl<'a, M: Memory> Decode<&'a [u8], M> for AnyRef<'a> {
     #[inline(always)]
+    fn read_one(_memory: M, bytes: &'a [u8]) -> Result<(AnyRef<'a>, &'a [u8])> {
+        let tag = first_tag(bytes)?;
+        let (contents, rest) = split_encoding(bytes, tag)?;
+        Ok((AnyRef::over(tag, contents), rest))
+    }
+
     fn decode<R: Reader<&'a [u8]>>(_memory: M, reader: &mut R) -> Result<AnyRef<'a>> {
-        read_any(reader)
-    }
-
-    #[inline(always)]
-    fn quick(_memory: M, bytes: &'a [u8]) -> Option<(AnyRef<'a>, &'a [u8])> {
-        let (tag, contents, rest) = quick_any(bytes)?;
-        match AnyRef::new(tag, contents) {
-            Ok(any) => Some((any, rest)),
-            Err(_) => None,
-        }
-    }
-
-    fn from_der(_memory: M, bytes: &'a [u8]) -> Result<AnyRef<'a>> {
-        let mut reader = SliceReader::new(bytes)?;
-        let any = read_any(&mut reader)?;
-        reader.finish()?;
-        Ok(any)
+        let header = Header::decode(reader)?;
+        let contents = reader.read_slice(header.length)?;
+        let tag = WideTag::of(header.tag);
+        Ok(AnyRef { tag, contents })
     }
 }
 
+/// The tag in front. `Incomplete` of no byte, `TagUnknown` of an octet that isn't supported.
 #[inline(always)]
-fn read_any<'a, R: Reader<&'a [u8]>>(reader: &mut R) -> Result<AnyRef<'a>> {
-    let header = Header::decode(reader)?;
-    let contents = reader.read_slice(header.length)?;
-    Ok(AnyRef {
-        tag: WideTag::of(header.tag),
-        contents,
-    })
+fn first_tag(bytes: &[u8]) -> Result<Tag> {
+    match bytes {
+        [octet, ..] => Tag::from_octet(*octet),
+        [] => Err(Error::new(ErrorKind::Incomplete)),
+    }
 }
 
 impl Encode for AnyRef<'_> {

@@ -2,8 +2,8 @@
 //! Values inside explicit context-specific tags (X.690 8.14.2).
 
 use crate::proved::der_core::{
-    BackWriter, Decode, Encode, Encoding, ErrorKind, Header, Length, Memory, Reader, Result, Tag,
-    TagNumber, UNTOLD, Writer, decode_whole, is_tag_next,
+    BackWriter, Containing, Decode, Encode, Encoding, Header, Length, Memory, Reader, Result, Tag,
+    TagNumber, UNTOLD, Writer, decode_tagged, is_tag_next,
 };
 
 /// A borrowed value that is written inside the tag `[tag_number]`.
@@ -68,12 +68,6 @@ impl<'b, T: Encode> Encode for ContextSpecificRef<'b, T> {
     }
 }
 
-/// Whether the next octet is that of the field's tag. Nothing is read. `Failed` on a reader that has failed.
-#[inline(always)]
-pub fn is_field_next<'a, R: Reader<&'a [u8]>>(reader: &mut R, number: TagNumber) -> Result<bool> {
-    is_tag_next(reader, Tag::context(number))
-}
-
 /// Reads an explicit field if the next octet is that of its tag, else returns `None` and reads nothing. `TrailingData`
 /// if bytes follow the encoding inside the tag. `Failed` on a reader that has failed.
 pub fn read_context_specific<'a, T: Decode<&'a [u8], M>, M: Memory, R: Reader<&'a [u8]>>(
@@ -81,7 +75,7 @@ pub fn read_context_specific<'a, T: Decode<&'a [u8], M>, M: Memory, R: Reader<&'
     reader: &mut R,
     number: TagNumber,
 ) -> Result<Option<T>> {
-    if !is_field_next(reader, number)? {
+    if !is_tag_next(reader, Tag::context(number))? {
         return Ok(None);
     }
     let value = read_explicit(memory, reader, number)?;
@@ -89,32 +83,11 @@ pub fn read_context_specific<'a, T: Decode<&'a [u8], M>, M: Memory, R: Reader<&'
 }
 
 /// Reads the tag of a field with one encoding inside.
-#[inline(always)]
-pub fn read_explicit<'a, T: Decode<&'a [u8], M>, M: Memory, R: Reader<&'a [u8]>>(
+fn read_explicit<'a, T: Decode<&'a [u8], M>, M: Memory, R: Reader<&'a [u8]>>(
     memory: M,
     reader: &mut R,
     number: TagNumber,
 ) -> Result<T> {
-    read_inside(memory, reader, Tag::context(number))
-}
-
-/// Reads a tag with one encoding inside.
-#[inline(always)]
-fn read_inside<'a, T: Decode<&'a [u8], M>, M: Memory, R: Reader<&'a [u8]>>(
-    memory: M,
-    reader: &mut R,
-    tag: Tag,
-) -> Result<T> {
-    let header = Header::decode(reader)?;
-    if header.tag != tag {
-        return Err(reader.error(ErrorKind::TagUnexpected {
-            expected: tag,
-            actual: header.tag,
-        }));
-    }
-    let mut nested = reader.nested(header.length)?;
-    match decode_whole(memory, &mut nested) {
-        Ok(value) => Ok(value),
-        Err(e) => Err(reader.error(e.kind())),
-    }
+    let inside: Containing<T> = decode_tagged(memory, reader, Tag::context(number))?;
+    Ok(inside.0)
 }

@@ -1,43 +1,43 @@
 // Made of crates/spki_core/src/field.rt by tools/erase/erase.py, and not to be edited.
 //! Explicit fields with defaults (X.690 8.14.2, 11.5).
 
-use crate::proved::spki_core::context_specific::{ContextSpecificRef, is_field_next, read_explicit};
+use crate::proved::spki_core::context_specific::ContextSpecificRef;
 use crate::proved::der_core::{
-    BackWriter, Decode, Encode, Encoding, Length, Memory, Reader, Result, Tag, TagNumber, Writer,
-    begins_with, quick_alone, quick_short,
+    BackWriter, Containing, Decode, Encode, Encoding, Length, Memory, Result, Tag, TagNumber,
+    Writer, begins_with, read_tagged,
 };
 
-/// Reads an explicit field, or returns its default if the next octet isn't that of its tag. If the default is costly to
-/// make, call `is_field_next` first. `Failed` on a reader that has failed.
+/// The value of an explicit field in front, or the default if the first octet isn't that of its tag, and what follows.
+/// Err: the first fault, or `OutOfMemory`.
 #[inline(always)]
-pub fn read_field<'a, T: Decode<&'a [u8], M>, M: Memory, R: Reader<&'a [u8]>>(
-    memory: M,
-    reader: &mut R,
-    number: TagNumber,
-    default: T,
-) -> Result<T> {
-    if is_field_next(reader, number)? {
-        read_explicit(memory, reader, number)
-    } else {
-        Ok(default)
-    }
-}
-
-/// What `read_field` gives of a slice, with what follows it. `None` says nothing of the slice.
-#[inline(always)]
-pub fn quick_field<'a, T: Decode<&'a [u8], M>, M: Memory>(
+pub fn read_field<'a, T: Decode<&'a [u8], M>, M: Memory>(
     memory: M,
     bytes: &'a [u8],
     number: TagNumber,
     default: T,
-) -> Option<(T, &'a [u8])> {
+) -> Result<(T, &'a [u8])> {
     let tag = Tag::context(number);
     if !begins_with(bytes, tag) {
-        return Some((default, bytes));
+        return Ok((default, bytes));
     }
-    let (contents, rest) = quick_short(bytes, tag)?;
-    let value = quick_alone(memory, contents)?;
-    Some((value, rest))
+    let (inside, rest) = read_tagged::<Containing<T>, M>(memory, bytes, tag)?;
+    Ok((inside.0, rest))
+}
+
+/// What is noted of a field that was read at the front of these bytes: the first field that was noted, or this one, if
+/// it is there with its default.
+#[inline(always)]
+pub fn note(
+    noted: Option<TagNumber>,
+    bytes: &[u8],
+    number: TagNumber,
+    is_default: bool,
+) -> Option<TagNumber> {
+    match noted {
+        Some(first) => Some(first),
+        None if begins_with(bytes, Tag::context(number)) && is_default => Some(number),
+        None => None,
+    }
 }
 
 /// The length of a field as it is written. `Value` exactly if the value has no encoding, else `Overflow` exactly if
@@ -66,6 +66,6 @@ pub fn prepend_field<T: Encode>(tag_number: TagNumber, value: &T, writer: &mut B
     ContextSpecificRef { tag_number, value }.prepend(writer);
 }
 
-/// What `read_explicit` reads is a tag with one encoding inside, what `read_context_specific` reads is that, or nothing
-/// where the octet of the tag isn't next. In place of nothing, `read_field` gives the default.
+/// What `read_context_specific` reads is a tag with one encoding inside, or nothing where the octet of the tag isn't next.
+/// In place of nothing, `read_field` gives the default.
 pub fn lemma_fields_are_read<T: Encoding>() {}

@@ -5,8 +5,8 @@ use crate::proved::spki_core::object_identifier::{
     AssociatedOid, ObjectIdentifier, ObjectIdentifierTag, is_identifier,
 };
 use crate::proved::der_core::{
-    BackWriter, Contents, DecodeValue, EncodeValue, Error, ErrorKind, Header, Length, Memory,
-    Reader, Result, Tag, TaggedBy, Writer, quick_short,
+    BackWriter, Contents, DecodeValue, EncodeValue, Error, ErrorKind, Length, Memory, Result,
+    TaggedBy, Writer,
 };
 
 /// An object identifier over its contents octets (X.690 8.19). Only `to_object_identifier` copies them.
@@ -91,26 +91,8 @@ impl TaggedBy for IdentifierView<'_> {
 
 impl<'a, M: Memory> DecodeValue<&'a [u8], M> for IdentifierView<'a> {
     #[inline(always)]
-    fn decode_value<R: Reader<&'a [u8]>>(
-        _memory: M,
-        reader: &mut R,
-        header: Header,
-    ) -> Result<IdentifierView<'a>> {
-        let contents = reader.read_slice(header.length)?;
-        match IdentifierView::from_bytes(contents) {
-            Ok(oid) => Ok(oid),
-            Err(e) => Err(reader.error(e.kind())),
-        }
-    }
-
-    #[inline(always)]
-    fn quick_split(bytes: &'a [u8], tag: Tag) -> Option<(&'a [u8], &'a [u8])> {
-        quick_short(bytes, tag)
-    }
-
-    #[inline(always)]
-    fn quick_value(_memory: M, contents: &'a [u8]) -> Option<IdentifierView<'a>> {
-        IdentifierView::from_bytes(contents).ok()
+    fn read_value(_memory: M, contents: &'a [u8]) -> Result<IdentifierView<'a>> {
+        IdentifierView::from_bytes(contents)
     }
 }
 

@@ -10,7 +10,6 @@ mod identifier_view;
 mod in_records;
 mod object_identifier;
 mod owned_any;
-mod strict;
 mod wide_tag;
 
 pub use algorithm_identifier::{
@@ -19,14 +18,11 @@ pub use algorithm_identifier::{
 };
 pub use any::{AnyParams, AnyRef, AnyValue};
 pub use as_algorithm::AsAlgorithmIdentifierRef;
-pub use context_specific::{
-    ContextSpecificRef, is_field_next, read_context_specific, read_explicit,
-};
+pub use context_specific::{ContextSpecificRef, read_context_specific};
 pub use field::{
-    encode_field, field_len, lemma_fields_are_read, prepend_field, quick_field, quick_field_len,
+    encode_field, field_len, lemma_fields_are_read, note, prepend_field, quick_field_len,
     read_field,
 };
 pub use identifier_view::{IdentifierValue, IdentifierView};
 pub use object_identifier::{AssociatedOid, ObjectIdentifier, ObjectIdentifierTag};
 pub use owned_any::Any;
-pub use strict::written_default;

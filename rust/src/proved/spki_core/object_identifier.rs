@@ -3,8 +3,8 @@
 
 use crate::proved::spki_core::identifier_view::IdentifierView;
 use crate::proved::der_core::{
-    BackWriter, Contents, DecodeValue, EncodeValue, EqualByValue, ErrorKind, Header, Length,
-    Memory, Reader, Result, Tag, TagMarker, TaggedBy, Writer, quick_short,
+    BackWriter, Contents, DecodeValue, EncodeValue, EqualByValue, ErrorKind, Length, Memory,
+    Result, Tag, TagMarker, TaggedBy, Writer,
 };
 use crate::rattle_std::hash::{Hash, Hasher};
 
@@ -143,26 +143,9 @@ impl TaggedBy for ObjectIdentifier {
 impl EqualByValue for ObjectIdentifier {}
 
 impl<'a, M: Memory> DecodeValue<&'a [u8], M> for ObjectIdentifier {
-    fn decode_value<R: Reader<&'a [u8]>>(
-        _memory: M,
-        reader: &mut R,
-        header: Header,
-    ) -> Result<ObjectIdentifier> {
-        let contents = reader.read_slice(header.length)?;
-        match ObjectIdentifier::from_bytes(contents) {
-            Ok(oid) => Ok(oid),
-            Err(e) => Err(reader.error(e.kind())),
-        }
-    }
-
     #[inline(always)]
-    fn quick_split(bytes: &'a [u8], tag: Tag) -> Option<(&'a [u8], &'a [u8])> {
-        quick_short(bytes, tag)
-    }
-
-    #[inline(always)]
-    fn quick_value(_memory: M, contents: &'a [u8]) -> Option<ObjectIdentifier> {
-        ObjectIdentifier::from_bytes(contents).ok()
+    fn read_value(_memory: M, contents: &'a [u8]) -> Result<ObjectIdentifier> {
+        ObjectIdentifier::from_bytes(contents)
     }
 }
 

@@ -48,17 +48,18 @@ impl Encoding for Any {
 }
 
 impl<'a> Decode<&'a [u8], Global> for Any {
+    fn read_one(memory: Global, bytes: &'a [u8]) -> Result<(Any, &'a [u8])> {
+        let (any, rest) = AnyRef::read_one(NoMemory, bytes)?;
+        let copy = Any::copy_of(memory, any.tag(), any.value())?;
+        Ok((copy, rest))
+    }
+
     fn decode<R: Reader<&'a [u8]>>(memory: Global, reader: &mut R) -> Result<Any> {
         let any = AnyRef::decode(NoMemory, reader)?;
         match Any::copy_of(memory, any.tag(), any.value()) {
             Ok(any) => Ok(any),
             Err(e) => Err(reader.error(e.kind())),
         }
-    }
-
-    fn from_der(memory: Global, bytes: &'a [u8]) -> Result<Any> {
-        let any = AnyRef::from_der(NoMemory, bytes)?;
-        Any::copy_of(memory, any.tag(), any.value())
     }
 }
 

@@ -14,7 +14,10 @@ returns-in_err-value-clause-read g c =
     let p = err_from_is_err_and c.from_residual-in_err-value.result c.from_residual-in_err-value.ensures.1 in
     rw (p.1, p.2)
     (⊎_elim
-    (λ w. inl (w.0, asks_inside c.args.tag g.T.DecodeValue.may_allocate _ _ _
-    (are_bytes _ (λ i. omega (arith, c.type_inv.bytes i))) c.in_ok-contents.ensures.ok w.1))
+    (λ w. inl (
+      w.0,
+      asks_inside c.args.tag g.T.DecodeValue.may_allocate _ _ _
+          (are_bytes _ (λ i. omega (arith, c.type_inv.bytes i))) c.in_ok-contents.ensures.ok w.1,
+    ))
     (λ f. inr (fault_inside c.args.tag g.T.Contents.read _ _ _ _ c.in_ok-contents.ensures.ok f))
     c.in_err-value.ensures)

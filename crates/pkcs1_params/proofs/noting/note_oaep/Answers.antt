@@ -76,8 +76,8 @@ returns c =
     let noted =
     field_noted source_kind c.new-number-3.ensures source third c.is_default_source.ensures _ c.note-noted-3.ensures
     ∙ ap (noted_on 2 true (default_is_there source_kind (value_if_next source_kind source third)))
-      (field_noted mask_kind c.new-number-2.ensures mask second c.is_default.ensures _ c.note-noted-2.ensures
-      ∙ ap (noted_on 1 true (default_is_there mask_kind (value_if_next mask_kind mask second)))
-        (field_noted hash_kind c.new-number.ensures hash first c.is_default_hash.ensures None c.note-noted.ensures))
+    (field_noted mask_kind c.new-number-2.ensures mask second c.is_default.ensures _ c.note-noted-2.ensures
+    ∙ ap (noted_on 1 true (default_is_there mask_kind (value_if_next mask_kind mask second)))
+    (field_noted hash_kind c.new-number.ensures hash first c.is_default_hash.ensures None c.note-noted.ensures))
     ∙ noted_first oaep_kinds found in
     read ∙ λ i. Ok (of_oaep_fields (hash_is i, (mask_is i, (source_is i, tt))), sym noted i)

@@ -93,10 +93,10 @@ returns c =
     let noted =
     field_noted trailer_kind c.new-number-4.ensures 1 fourth refl _ c.note-noted-4.ensures
     ∙ ap (noted_on 3 true (default_is_there trailer_kind (value_if_next trailer_kind 1 fourth)))
-      (field_noted salt_kind c.new-number-3.ensures salt third refl _ c.note-noted-3.ensures
-      ∙ ap (noted_on 2 true (default_is_there salt_kind (value_if_next salt_kind salt third)))
-        (field_noted mask_kind c.new-number-2.ensures mask second c.is_default.ensures _ c.note-noted-2.ensures
-        ∙ ap (noted_on 1 true (default_is_there mask_kind (value_if_next mask_kind mask second)))
-          (field_noted hash_kind c.new-number.ensures hash first c.is_default_hash.ensures None c.note-noted.ensures)))
+    (field_noted salt_kind c.new-number-3.ensures salt third refl _ c.note-noted-3.ensures
+    ∙ ap (noted_on 2 true (default_is_there salt_kind (value_if_next salt_kind salt third)))
+    (field_noted mask_kind c.new-number-2.ensures mask second c.is_default.ensures _ c.note-noted-2.ensures
+    ∙ ap (noted_on 1 true (default_is_there mask_kind (value_if_next mask_kind mask second)))
+    (field_noted hash_kind c.new-number.ensures hash first c.is_default_hash.ensures None c.note-noted.ensures)))
     ∙ noted_first pss_kinds found in
     read ∙ λ i. Ok (of_pss_fields (hash_is i, (mask_is i, (salt_is i, (one i, tt)))), sym noted i)

@@ -5,8 +5,8 @@ use crate::calls::pkcs1_c::bytes::Bytes;
 use crate::calls::pkcs1_c::given_key::GivenKey;
 use crate::calls::pkcs1_c::status::{OK, OTHER_PRIMES, status};
 use crate::calls::pkcs1_c::written::write_encoding;
-use crate::proved::der_core::{Contents, Decode, NoMemory, Result, SliceReader};
-use crate::proved::pkcs1::{OtherPrimeInfo, RsaPrivateKeyView, UintRef};
+use crate::proved::der_core::Length;
+use crate::proved::pkcs1::{OtherPrimeInfo, RsaPrivateKeyView, UintRef, first_other_prime};
 
 /// The numbers of a private key, most significant byte first.
 #[repr(C)]
@@ -97,25 +97,22 @@ pub extern "C" fn pkcs1_c_private_key_decode<'a>(
     }
 }
 
-/// Decodes the prime at the front of what is left.
-#[inline(always)]
-fn read_prime<'a>(reader: &mut SliceReader<'a>) -> Result<OtherPrimeInfo<UintRef<'a>>> {
-    let prime = OtherPrimeInfo::decode(NoMemory, reader)?;
-    Ok(prime)
-}
-
 /// Puts the primes whose encodings are `listed`, one behind the other, into `others`, as many as fit. The rest of it is
 /// as it was. Nothing is promised of other octets, at which it stops, or of more octets than the limit.
 #[unsafe(no_mangle)]
 pub extern "C" fn pkcs1_c_other_primes<'a>(listed: *const u8, listed_len: usize, others: *mut OtherPrime<'a>, others_len: usize) {
     let listed = unsafe { core::slice::from_raw_parts(listed, listed_len) };
     let others = unsafe { core::slice::from_raw_parts_mut(others, others_len) };
-    let Ok(mut reader) = SliceReader::new(listed) else {
+    if listed.len() > Length::MAX.to_usize() {
         return;
-    };
+    }
+    let mut rest = listed;
     for i in 0..others.len() {
-        match read_prime(&mut reader) {
-            Ok(prime) => others[i] = to_c_other_prime(&prime),
+        match first_other_prime(rest) {
+            Ok((prime, behind)) => {
+                others[i] = to_c_other_prime(&prime);
+                rest = behind;
+            }
             Err(_) => return,
         }
     }

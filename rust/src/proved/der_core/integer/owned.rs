@@ -8,10 +8,8 @@ use crate::proved::der_core::decode::DecodeValue;
 use crate::proved::der_core::encode::EncodeValue;
 use crate::proved::der_core::error::{ErrorKind, Result};
 use crate::proved::der_core::grammar::{Contents, EqualByValue, IntegerTag, TaggedBy};
-use crate::proved::der_core::header::Header;
 use crate::proved::der_core::length::Length;
 use crate::proved::der_core::memory::copy_of;
-use crate::proved::der_core::reader::Reader;
 use crate::proved::der_core::try_clone::TryClone;
 use crate::proved::der_core::writer::Writer;
 use crate::rattle_std::alloc::Global;
@@ -71,16 +69,9 @@ impl TaggedBy for Uint {
 impl EqualByValue for Uint {}
 
 impl<'a> DecodeValue<&'a [u8], Global> for Uint {
-    fn decode_value<R: Reader<&'a [u8]>>(
-        memory: Global,
-        reader: &mut R,
-        header: Header,
-    ) -> Result<Uint> {
-        let number = UintRef::decode_value(memory, reader, header)?;
-        match Uint::copy(memory, number) {
-            Ok(copy) => Ok(copy),
-            Err(e) => Err(reader.error(e.kind())),
-        }
+    fn read_value(memory: Global, contents: &'a [u8]) -> Result<Uint> {
+        let number = UintRef::read_value(memory, contents)?;
+        Uint::copy(memory, number)
     }
 }
 

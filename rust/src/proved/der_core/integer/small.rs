@@ -6,12 +6,9 @@ use crate::proved::der_core::decode::DecodeValue;
 use crate::proved::der_core::encode::EncodeValue;
 use crate::proved::der_core::error::{Error, ErrorKind, Result};
 use crate::proved::der_core::grammar::{Contents, EqualByValue, IntegerTag, TaggedBy};
-use crate::proved::der_core::header::Header;
 use crate::proved::der_core::integer::uint::integer;
 use crate::proved::der_core::length::Length;
 use crate::proved::der_core::memory::Memory;
-use crate::proved::der_core::quick::quick_short;
-use crate::proved::der_core::reader::Reader;
 use crate::proved::der_core::tag::Tag;
 use crate::proved::der_core::writer::Writer;
 
@@ -35,25 +32,10 @@ impl EqualByValue for u8 {}
 
 impl<'a, M: Memory> DecodeValue<&'a [u8], M> for u8 {
     #[inline(always)]
-    fn decode_value<R: Reader<&'a [u8]>>(_memory: M, reader: &mut R, header: Header) -> Result<u8> {
-        let contents = reader.read_slice(header.length)?;
-        match small(contents) {
-            Ok(value) => Ok(value),
-            Err(e) => Err(reader.error(e.kind())),
-        }
-    }
-
-    #[inline(always)]
-    fn quick_split(bytes: &'a [u8], tag: Tag) -> Option<(&'a [u8], &'a [u8])> {
-        quick_short(bytes, tag)
-    }
-
-    #[inline(always)]
-    fn quick_value(_memory: M, contents: &'a [u8]) -> Option<u8> {
+    fn read_value(_memory: M, contents: &'a [u8]) -> Result<u8> {
         match contents {
-            [value] if *value < 0x80 => Some(*value),
-            [0, value] if *value >= 0x80 => Some(*value),
-            _ => None,
+            [number] if *number < 0x80 => Ok(*number),
+            _ => small(contents),
         }
     }
 }

@@ -6,11 +6,8 @@ use crate::proved::der_core::decode::DecodeValue;
 use crate::proved::der_core::encode::EncodeValue;
 use crate::proved::der_core::error::{Error, ErrorKind, Result};
 use crate::proved::der_core::grammar::{Contents, Encoding, EqualByValue, IntegerTag, TaggedBy};
-use crate::proved::der_core::header::Header;
 use crate::proved::der_core::length::Length;
 use crate::proved::der_core::memory::Memory;
-use crate::proved::der_core::quick::quick_contents;
-use crate::proved::der_core::reader::Reader;
 use crate::proved::der_core::tag::Tag;
 use crate::proved::der_core::try_clone::TryClone;
 use crate::proved::der_core::writer::Writer;
@@ -97,19 +94,18 @@ impl<'a> UintRef<'a> {
 }
 
 /// The number with these contents octets.
+#[inline(always)]
 pub(crate) fn integer(contents: &[u8]) -> Result<UintRef<'_>> {
-    if contents.is_empty() {
-        return Err(Error::new(ErrorKind::Length { tag: Tag::INTEGER }));
-    }
+    let tag = Tag::INTEGER;
     match contents {
-        [first, ..] if *first >= 0x80 => Err(Error::new(ErrorKind::Value { tag: Tag::INTEGER })),
-        [0, second, ..] if *second < 0x80 => Err(Error::new(ErrorKind::Noncanonical {
-            tag: Tag::INTEGER,
-        })),
-        [0, _, ..] => Ok(UintRef {
-            bytes: &contents[1..],
-        }),
-        _ => Ok(UintRef { bytes: contents }),
+        [0, rest @ ..] => match rest {
+            [] => Ok(UintRef { bytes: contents }),
+            [second, ..] if *second >= 0x80 => Ok(UintRef { bytes: rest }),
+            [_, ..] => Err(Error::new(ErrorKind::Noncanonical { tag })),
+        },
+        [first, ..] if *first < 0x80 => Ok(UintRef { bytes: contents }),
+        [] => Err(Error::new(ErrorKind::Length { tag })),
+        [_, ..] => Err(Error::new(ErrorKind::Value { tag })),
     }
 }
 
@@ -129,34 +125,9 @@ impl<'a> TaggedBy for UintRef<'a> {
 impl EqualByValue for UintRef<'_> {}
 
 impl<'a, M: Memory> DecodeValue<&'a [u8], M> for UintRef<'a> {
-    fn decode_value<R: Reader<&'a [u8]>>(
-        _memory: M,
-        reader: &mut R,
-        header: Header,
-    ) -> Result<UintRef<'a>> {
-        let contents = reader.read_slice(header.length)?;
-        match integer(contents) {
-            Ok(value) => Ok(value),
-            Err(e) => Err(reader.error(e.kind())),
-        }
-    }
-
     #[inline(always)]
-    fn quick_split(bytes: &'a [u8], tag: Tag) -> Option<(&'a [u8], &'a [u8])> {
-        quick_contents(bytes, tag)
-    }
-
-    #[inline(always)]
-    fn quick_value(_memory: M, contents: &'a [u8]) -> Option<UintRef<'a>> {
-        match contents {
-            [0, rest @ ..] => match rest {
-                [] => Some(UintRef { bytes: contents }),
-                [second, ..] if *second >= 0x80 => Some(UintRef { bytes: rest }),
-                _ => None,
-            },
-            [first, ..] if *first < 0x80 => Some(UintRef { bytes: contents }),
-            _ => None,
-        }
+    fn read_value(_memory: M, contents: &'a [u8]) -> Result<UintRef<'a>> {
+        integer(contents)
     }
 }
 

@@ -4,9 +4,8 @@
 use crate::rattle_std::prelude::Vec;
 use crate::proved::pkcs1::version::Version;
 use crate::proved::der_core::{
-    BackWriter, Borrowed, Decode, Encode, EncodeInParts, EncodeValue, Encoding, ErrorKind, Length,
-    Reader, Record, Result, SequenceTag, Tag, TaggedBy, TryClone, Writer, begins_with,
-    decode_optional, quick_alone,
+    BackWriter, Borrowed, Decode, Encode, EncodeInParts, EncodeValue, Encoding, Error, ErrorKind,
+    Length, Record, Result, SequenceTag, Tag, TaggedBy, TryClone, Writer, read_optional,
 };
 use crate::rattle_std::alloc::{AllocError, Global};
 
@@ -113,52 +112,68 @@ pub(crate) fn lists_none<U>(others: &Option<OtherPrimeInfos<U>>) -> bool {
     }
 }
 
-/// Decodes the rest of a key: its other primes, which must agree with the version.
-pub(crate) fn read_other_primes<'a, U: Decode<&'a [u8], Global>, R: Reader<&'a [u8]>>(
+/// How many are listed, if there is a list.
+fn count_listed<U>(others: &Option<OtherPrimeInfos<U>>) -> Option<usize> {
+    match others {
+        Some(infos) => Some(infos.len()),
+        None => None,
+    }
+}
+
+/// Rejects other primes that don't agree with the version, of which so many are listed, and bytes behind them: `Value`
+/// of INTEGER if there is a list exactly for two primes, `Value` of SEQUENCE if it is empty, else `TrailingData`.
+pub(crate) fn require_agreed(version: Version, listed: Option<usize>, rest: &[u8]) -> Result<()> {
+    match listed {
+        None => {
+            if version.is_multi() {
+                return Err(Error::new(ErrorKind::Value { tag: Tag::INTEGER }));
+            }
+            require_end(rest)
+        }
+        Some(count) => {
+            if !version.is_multi() {
+                return Err(Error::new(ErrorKind::Value { tag: Tag::INTEGER }));
+            }
+            if count == 0 {
+                return Err(Error::new(ErrorKind::Value { tag: Tag::SEQUENCE }));
+            }
+            require_end(rest)
+        }
+    }
+}
+
+/// `TrailingData` if bytes are left.
+#[inline(always)]
+fn require_end(rest: &[u8]) -> Result<()> {
+    if !rest.is_empty() {
+        return Err(Error::new(ErrorKind::TrailingData));
+    }
+    Ok(())
+}
+
+/// Reads the rest of a key: its other primes, which must agree with the version.
+#[inline(always)]
+pub(crate) fn read_other_primes<'a, U: Decode<&'a [u8], Global>>(
     memory: Global,
-    reader: &mut R,
+    bytes: &'a [u8],
     version: Version,
 ) -> Result<Option<OtherPrimeInfos<U>>> {
-    let others: Option<OtherPrimeInfos<U>> = decode_optional(memory, reader)?;
-    if version.is_multi() != others.is_some() {
-        return Err(reader.error(ErrorKind::Value { tag: Tag::INTEGER }));
+    if bytes.is_empty() && !version.is_multi() {
+        return Ok(None);
     }
-    if lists_none(&others) {
-        return Err(reader.error(ErrorKind::Value { tag: Tag::SEQUENCE }));
-    }
-    reader.finish()?;
-    Ok(others)
+    read_list(memory, bytes, version)
 }
 
-/// What `read_other_primes` gives of all of the bytes, if that is quickly told.
-#[inline(always)]
-pub(crate) fn quick_other_primes<'a, U: Decode<&'a [u8], Global>>(
+/// The same of any bytes.
+#[inline(never)]
+fn read_list<'a, U: Decode<&'a [u8], Global>>(
     memory: Global,
     bytes: &'a [u8],
     version: Version,
-) -> Option<Option<OtherPrimeInfos<U>>> {
-    match version {
-        Version::Multi => Some(Some(quick_list(memory, bytes)?)),
-        Version::TwoPrime if bytes.is_empty() => Some(None),
-        Version::TwoPrime => None,
-    }
-}
-
-/// The other primes of a key of several that all of the bytes encode, if that is quickly told.
-#[inline(never)]
-fn quick_list<'a, U: Decode<&'a [u8], Global>>(
-    memory: Global,
-    bytes: &'a [u8],
-) -> Option<OtherPrimeInfos<U>> {
-    if !begins_with(bytes, Tag::SEQUENCE) {
-        return None;
-    }
-    let infos: OtherPrimeInfos<U> = quick_alone(memory, bytes)?;
-    if infos.as_slice().is_empty() {
-        None
-    } else {
-        Some(infos)
-    }
+) -> Result<Option<OtherPrimeInfos<U>>> {
+    let (others, rest) = read_optional::<OtherPrimeInfos<U>, Global>(memory, bytes)?;
+    require_agreed(version, count_listed(&others), rest)?;
+    Ok(others)
 }
 
 /// Copies the other primes.

@@ -3,7 +3,7 @@ use Rattle.std.proofs.Common.{ap, refl, sym, ◌∙◌, Err}
 use Rattle.der_core.specs.declared.error.Error.{Error}
 use Rattle.der_core.specs.declared.error.ErrorKind.TheVariants as kind
 use Rattle.der_core.specs.Words.{same_tag, integer_tag, sequence_tag}
-use Rattle.pkcs1.proofs.OtherPrimeReads.{multi_unlisted, none_listed, two_listed}
+use Rattle.pkcs1.proofs.OtherPrimeReads.{multi_unlisted, empty_listed, two_listed}
 use Rattle.pkcs1.proofs.private_key.other_prime_info.require_agreed.Goals as goal
 
 pub returns-then-is_multi : goal.returns-then-is_multi
@@ -23,5 +23,5 @@ pub returns-then-count-eq0 : goal.returns-then-count-eq0
 returns-then-count-eq0 c =
     let told =
     ap (λ (e : Error). e.kind) c.new-then-count-eq0.ensures ∙ ap kind.Value (same_tag _ sequence_tag refl) in
-    rw c.in-Some.is (none_listed c.args.version c.is_multi-in-Some.ensures c.args.rest.now c.in-Some.count
+    rw c.in-Some.is (empty_listed c.args.version c.is_multi-in-Some.ensures c.args.rest.now c.in-Some.count
     c.if-not-is_multi.false c.if-count-eq0.true ∙ ap (λ k. Err k) (sym told))

@@ -1,8 +1,8 @@
--- `read_contents`: what is noted of the contents is what they are read as, strictly or not.
+-- `read_fields`: what is noted of the contents is what they are read as, strictly or not.
 use Rattle.std.proofs.Common.{◌∙◌, ap}
 use Rattle.der_core.specs.Words.{◌>>=◌, err_from_is_err_and}
 use Rattle.spki_core.proofs.Noting.{contents_noted, unless_strict, value_accepted, value_rejected}
-use Rattle.pkcs1_params.proofs.reading.read_contents.Goals as goal
+use Rattle.pkcs1_params.proofs.reading.read_fields.Goals as goal
 
 -- At the `?` behind `read_noting`.
 pub returns-in_err-params : goal.returns-in_err-params
