@@ -113,7 +113,7 @@ planted() {
 preconditions() {
     rust/preconditions.py
     planted lib.rs 's/^mod proved/pub mod proved/' 'proved can be reached'
-    planted lib.rs '$a pub use proved::spki_core::written_default;' 'written_default has a'
+    planted lib.rs '$a pub use proved::spki_core::read_field;' 'read_field has a'
     planted lib.rs '$a pub use proved::der_core::{EncodeValue, Uint as U};' 'append_value has a'
     planted lib.rs '$a pub use proved::der_core::*;' 'names all of a module'
     planted lib.rs '$a pub trait Reached: proved::der_core::EncodeValue {}' 'a trait is below'
@@ -123,7 +123,7 @@ preconditions() {
     planted idioms.rs '$a fn more() -> Length { Length::of(1 << 40) }' 'calls of,'
     planted idioms.rs '$a type Count = Length; const MORE: fn(usize) -> Count = Count::of;' 'calls of,'
     planted idioms.rs '$a impl From<u8> for Length { fn from(it: u8) -> Length { Self::of(1 << it) } }' 'calls of,'
-    planted idioms.rs '$a use crate::proved::spki_core::written_default as default;' 'calls written_default,'
+    planted idioms.rs '$a use crate::proved::spki_core::read_field as field;' 'calls read_field,'
     planted values.rs '$a fn more(it: impl der_core::EncodeValue) { it.append_value(todo!()) }' 'calls append_value,'
     planted identifier.rs '$a fn more() { proved::ObjectIdentifier::new(&[]); }' 'calls new,'
     planted conversions.rs 's/Length::of(self.as_bytes().len())/self.len()/' 'is 0 calls'

@@ -1,5 +1,5 @@
--- Quick reading: what it takes is what the functions of reading give. For `src/quick.rt`, and the quick functions of
--- numbers, of `AnyRef` and of fields.
+-- Where an encoding ends: what is split off is what the functions of reading give, and so is what is read of it. For
+-- `src/split.rt`, for `read_tagged`, and for encodings of any tag.
 use Rattle.std.proofs.Common.{ℕ, suc, true, false, List, [], ◌∷◌, ◌≡◌, ◌≤◌, ◌<◌, ◌-◌, ◌+◌, ◌*◌, length, take, drop, refl, sym, ap, ◌∙◌, arith, Ok, Option, Some, None, slice_index_or, take_all, ⊎_elim, nat_lt, ◌==◌, MatchOption, IfSome}
 use Rattle.der_core.specs.Words.{number_from_digits, Tag, front_of, header_at, length_at, HoldsNumber, ok_pair, cond_cases, length_at-complete, bind_ok, unexpected_not, IsBase256, IsLength, short, long, Reading, ◌>>=◌, by_tag, contents_behind, inside, octets_of_all, tagged, is_allowed}
 use Rattle.std.specs.List.{IsSplitAt}

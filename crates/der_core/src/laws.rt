@@ -97,8 +97,8 @@ pub fn lemma_encodings_are_read<T: Encoding>()
         → standard.IsShortest (Spells T.valid T.printed T.means) v encoding }
 {}
 
-/// What `decode_last` reads is one encoding or none, what `decode_optional` reads is an encoding, or nothing where the
-/// octet of the tag isn't next.
+/// What `Last` reads is one encoding or none, what `read_optional` and `decode_optional` read is an encoding, or
+/// nothing where the octet of the tag isn't next.
 pub fn lemma_optional_parts_are_read<T: Contents + FixedTag>()
     ensures last { let at = tagged T.TAG T.read_spelling in
         ReadsPrinted (standard.IfPresent T.valid) (standard.optional ⟦<T as Encoding>⟧.printed) (last at) }
