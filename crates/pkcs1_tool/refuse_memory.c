@@ -1,5 +1,5 @@
-// Makes the allocation of the number REFUSED fail, and those behind it up to the number REFUSED_TO, if that is set. It
-// reports each on descriptor 9. No file is synced, and if UNSYNCED is set, none can be. Preloaded by refuse_memory.sh.
+// Makes the allocation of the number REFUSED fail, and reports it on descriptor 9. No file is synced, and if UNSYNCED is
+// set, none can be. Preloaded by refuse_memory.sh.
 #include <errno.h>
 #include <stdlib.h>
 #include <unistd.h>
@@ -9,8 +9,8 @@ extern void *__libc_realloc(void *old, size_t size);
 
 static int is_refused(void) {
     static long requests;
-    const char *number = getenv("REFUSED"), *last = getenv("REFUSED_TO");
-    if (number == NULL || ++requests < atol(number) || requests > atol(last == NULL ? number : last)) {
+    const char *number = getenv("REFUSED");
+    if (number == NULL || ++requests != atol(number)) {
         return 0;
     }
     errno = ENOMEM;

@@ -1,8 +1,7 @@
 #!/usr/bin/env bash
 # Runs the built program on one row at a time, with each of the row's allocations failing in turn, one in each run, until
 # a run makes no more. One way of reading or writing then reports out of memory, and every other answers as the row says;
-# or the row itself ends by it, where its own output was to be allocated. Nothing else may come of a failed allocation,
-# but that a list that is read quickly is asked for again, when it is read exactly: there both requests fail.
+# or the row itself ends by it, where its own output was to be allocated. Nothing else may come of a failed allocation.
 # Left out are the rows that stand for many encodings.
 # Called by .ci/run behind rt ci; it needs gcc. By hand: refuse_memory.sh [WORD], the rows of that word alone. It prints
 # what differs, and ends with 1 then; the last line counts. Where the variable SAMPLE is set, tools/verdicts.py draws the
@@ -21,12 +20,6 @@ grep "^${1:-[a-z0-9-]*} " stdin | grep -vE '^(changed|types|joined|priv-rooms|pu
     if [ -n "${SAMPLE-}" ]; then ../../tools/verdicts.py drawn 20; else cat; fi > "$room/rows"
 lanes=$(nproc)
 
-# refuses LANE FIRST LAST: the lane's row, with these allocations failing.
-refuses() {
-    : > "$room/$1/refused"
-    LD_PRELOAD=$room/refuse.so REFUSED=$2 REFUSED_TO=$3 out/pkcs1_vectors < "$room/$1/row" > "$room/$1/answer" 2>&1 9> "$room/$1/refused"
-    echo "status $?" >> "$room/$1/answer"
-}
 # lane NUMBER: each row of the lane, with the program's output where its first allocation fails, its second, and so on.
 lane() {
     local row number
@@ -35,12 +28,10 @@ lane() {
         echo "$row" > "$room/$1/row"
         echo "row $row"
         for ((number = 1; number < 10000; number++)); do
-            refuses "$1" $number $number
-            if [ -s "$room/$1/refused" ] && grep -q '^1 rows held, 0 differ' "$room/$1/answer"; then
-                refuses "$1" $number $((number + 1))
-            fi
+            : > "$room/$1/refused"
             echo "request $number"
-            cat "$room/$1/answer"
+            LD_PRELOAD=$room/refuse.so REFUSED=$number out/pkcs1_vectors < "$room/$1/row" 2>&1 9> "$room/$1/refused"
+            echo "status $?"
             [ -s "$room/$1/refused" ] || break
         done
     done > "$room/$1/output"

@@ -11,7 +11,7 @@ fn read_length(bytes: &[u8]) -> Result<(Length, usize)> {
 }
 
 /// How many bytes are left.
-fn left(to: &mut Told, bytes: usize) {
+pub fn left(to: &mut Told, bytes: usize) {
     to.text(", ");
     to.number(bytes);
     to.text(" left");
