@@ -52,6 +52,13 @@ module _ (oid : List ℕ) where
   wrapped_one p q few is =
       (wrapped_front p q [] few (omega (arith, ap length is)) (append-nil (wrapped p) ∙ is)).0
 
+  -- What the identifier holds encodes its parameters.
+  pub wrapped_inner_encodes : {V : Type 0} (E : V → List ℕ → Type 0) (v : V) (bytes p : List ℕ)
+      → AlgorithmEncoding oid E v bytes
+      → bytes ≡ wrapped p → E v p
+  wrapped_inner_encodes E v bytes p (few, q, holds, is) given =
+      subst (E v) (wrapped_one q p (omega (arith, few, ap length is)) (sym is ∙ given)) holds
+
   -- The shortest encoding of the identifier holds the shortest of the parameters.
   module _ {V : Type 0} (E : V → List ℕ → Type 0) (v : V) (p : List ℕ) (few : length (wrapped p) ≤ limit) where
     pub shortest_outside : IsShortest E v p → IsShortest (AlgorithmEncoding oid E) v (wrapped p)

@@ -48,6 +48,6 @@ pub fn lemma_contents_are_read<T: Contents>() {}
 /// - `shortest`: what is written is shorter than each other encoding of the value.
 pub fn lemma_encodings_are_read<T: Encoding>() {}
 
-/// What `decode_last` reads is one encoding or none, what `decode_optional` reads is an encoding, or nothing where the
-/// octet of the tag isn't next.
+/// What `Last` reads is one encoding or none, what `read_optional` and `decode_optional` read is an encoding, or
+/// nothing where the octet of the tag isn't next.
 pub fn lemma_optional_parts_are_read<T: Contents + FixedTag>() {}
