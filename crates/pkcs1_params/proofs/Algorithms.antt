@@ -4,11 +4,11 @@ use Rattle.std.proofs.Common.{ℕ, Bool, true, List, ◌++◌, ◌≡◌, ◌≤
 use Rattle.der_core.specs.Words.{nat_tests, AreBytes, back_bytes, front_bytes, cond_cases, tlv_fit, whole_decodes, whole_takes, bind_err, bind_ok, ok_injective, unexpected_not, limit, tagged_shortest, Spells, WritesShortest, value_in, Reading, whole, ◌>>=◌}
 use Rattle.std.proofs.lemmas.Slice.Eq.{bytes_eq-Decides}
 use Rattle.der_core.specs.declared.error.ErrorKind.{ErrorKind}
-use Rattle.spki_core.specs.Words.{is_identifier, is_identifier-sound, algorithm_contents, algorithm_map, AreSpelled, FieldRecord, Spelling, record_means, record_read, record_strictly, spelling_printed, record_under, spelling_read, strict_value, strict_whole, upto, record_alike, record_front_law, record_law, record_reads, record_shortest, spelled_from, spelled_to, under_valid, algorithm_writes_shortest, any_as}
+use Rattle.spki_core.specs.Words.{is_identifier, is_identifier-sound, algorithm_contents, algorithm_map, AreSpelled, FieldRecord, Spelling, record_means, record_read, record_strictly, spelling_printed, record_under, spelling_read, strict_value, strict_whole, upto, record_alike, record_front_law, record_law, record_reads, record_shortest, spelled_from, spelled_to, under_valid, algorithm_writes_shortest}
 use Rattle.spki_core.proofs.RecordEncodings.{default_count, default_count_only, encoding_under, encodings_are_all, encodings_within_longest}
 use Rattle.spki_core.proofs.StrictFields.{contents_bytes, strict_decodes}
 use Rattle.pkcs1_params.specs.Words.{Identifies, PlainEncoding, identified, parameters_as, whole_algorithm, plain_law, plain_front, with_parameters}
-use Rattle.pkcs1_params.proofs.Wrapped.{are_all_in, wrapped, wrapped_fit, wrapped_inner_encodes, wrapped_one, wrapped_shortest_decodes}
+use Rattle.pkcs1_params.proofs.Wrapped.{are_all_in, wrapped, wrapped_fit, wrapped_one, wrapped_shortest_decodes}
 use Rattle.standard.specs.Statement.{Algorithm, AlgorithmEncoding, AreAll, Decodes, Field, Fields, IfPresent, IsAlgorithm, IsAny, IsIdentifier, IsShortest, SequenceOf, TagAndContents, optional, TwoToTheDefaultsIn, algorithm, any, longest, sequence, tlv}
 use Rattle.der_core.specs.Tags as tags
 

@@ -1,6 +1,6 @@
 -- SEQUENCEs of an identifier and parameters: each encoding of the parameters stands in one. For algorithm identifiers:
 -- `src/algorithm.rt`, `src/known.rt` and their laws.
-use Rattle.std.proofs.Common.{ℕ, List, [], ◌++◌, ◌≡◌, ◌<◌, ◌≤◌, ◌^◌, length, drop, map, refl, sym, subst, ap, ◌∙◌, arith, inl, inr, length-append, append-nil, true, ◌+◌, nat_lt, slice_index_or, Option, Some, None}
+use Rattle.std.proofs.Common.{ℕ, List, [], ◌++◌, ◌≡◌, ◌<◌, ◌≤◌, ◌^◌, length, drop, map, refl, sym, subst, ap, ◌∙◌, arith, inl, inr, length-append, append-nil, ◌+◌, slice_index_or, Option, Some, None}
 use Rattle.std.proofs.Math.Seq.{drop-append_seam}
 use Rattle.std.proofs.lemmas.Bool.{cases_lt}
 use Rattle.std.proofs.lemmas.List.{get_or-map, length-map}
