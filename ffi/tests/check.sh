@@ -207,6 +207,7 @@ interrupted() {
     # shellcheck disable=SC2086 # words
     $CC -shared -fPIC -O1 -Wall -Wextra -Werror ffi/tests/interrupt.c -ldl -o "$tests/interrupt.so"
     key=$PWD/ffi/tests/keys/pub3.der
+    rm -f "$tests/copied"
     : > "$tests/copied"
     chmod 664 "$tests/copied" # which fchmod gives to the new file
     preloaded copy pub "$key" copied ||
@@ -234,6 +235,7 @@ watched() {
     sed 's/^.* => //' "$tests/rows" > "$tests/answers"
     watch < "$tests/lines" > "$tests/printed"
     cmp "$tests/answers" "$tests/printed"
+    rm -f "$tests/copied" # which may be read only, as the key is
     watch copy priv ffi/tests/keys/priv3.der "$tests/copied"
     cmp ffi/tests/keys/priv3.der "$tests/copied"
     say "valgrind finds nothing in the tool"
