@@ -68,7 +68,7 @@ windows_by_cmake() {
     ! grep pkcs1_c_ "$room/cmake.ON/prefix/lib/libpkcs1.dll.a" || stop "CMake's DLL exports proved calls"
 }
 wasi_by_cmake() {
-    by_cmake OFF "-DCMAKE_TOOLCHAIN_FILE=$room/wasi.cmake" -DCMAKE_BUILD_TYPE=Release # as the test of lengths is slow
+    by_cmake OFF "-DCMAKE_TOOLCHAIN_FILE=$room/wasi.cmake" -DCMAKE_C_FLAGS_DEBUG=-O2 # for 64 KiB of stack
 }
 # Here also as a part of the program's own build.
 linux_by_cmake() {
