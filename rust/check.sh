@@ -272,7 +272,7 @@ on_wasm() {
     cargo build --manifest-path $crate --no-default-features --target wasm32-unknown-unknown
 }
 on_wasi() {
-    local run=(node --no-warnings tools/wasi.mjs) made=$OUT/wasm_target/wasm32-wasip1/debug told=$OUT/tool_rows
+    local run=(node --single-threaded --no-warnings tools/wasi.mjs) made=$OUT/wasm_target/wasm32-wasip1/debug told=$OUT/tool_rows
     cargo build --manifest-path $crate --bin pkcs1_tool --target wasm32-wasip1
     vectors --target wasm32-wasip1
     rows_of_32_bits | "${run[@]}" "$made/vectors.wasm" | grep '^[0-9]* rows held, 0 differ' ||

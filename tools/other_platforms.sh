@@ -16,7 +16,7 @@ trap leave EXIT
 rows=$PWD/crates/pkcs1_vectors/stdin
 tests=(-Iffi/lib/include ffi/tests/{test,rows,large,fuzz/{reference,elements,compare}}.c)
 wasi=(clang --target=wasm32-wasi --sysroot=/usr -I/usr/include/wasm32-wasi)
-node=(node --no-warnings "$PWD/tools/wasi.mjs")
+node=(node --single-threaded --no-warnings "$PWD/tools/wasi.mjs")
 
 . tools/shell.sh
 . tools/platforms.sh
@@ -142,7 +142,7 @@ set(CMAKE_C_COMPILER_TARGET wasm32-wasi)
 set(CMAKE_C_FLAGS_INIT "${wasi[*]:2}")
 set(CMAKE_AR llvm-ar)
 set(CMAKE_RANLIB llvm-ranlib)
-set(CMAKE_CROSSCOMPILING_EMULATOR "${node[0]};${node[1]};${node[2]}")
+set(CMAKE_CROSSCOMPILING_EMULATOR "${node[0]};${node[1]};${node[2]};${node[3]}")
 END
 
 platform "Linux" "aarch64" "assembly, by make and gcc" "tested under qemu" aarch64-linux-gnu-gcc qemu-aarch64 -- \
