@@ -98,7 +98,7 @@ on_arm() {
 on_wasm() {
     without_library --target=wasm32-unknown-unknown
     wasm-ld --no-entry --export=tested "$room"/{program,free}.o -o "$room/on.wasm"
-    node -e 'WebAssembly.instantiate(require("fs").readFileSync(process.argv[1])).then(
+    node --single-threaded -e 'WebAssembly.instantiate(require("fs").readFileSync(process.argv[1])).then(
         (it) => { process.exitCode = it.instance.exports.tested() === 0 ? 0 : 1; })' "$room/on.wasm"
 }
 # alone TARGET: compiled without a warning, and no more.
