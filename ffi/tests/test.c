@@ -36,6 +36,16 @@ static void public_keys(void) {
     CHECK(pkcs1_public_key_decode(NULL, 0, &key) == PKCS1_INCOMPLETE);
 }
 
+/* One octet after this key, or after the last part of it, is refused. */
+static void octet_after(const uint8_t *whole, size_t len) {
+    uint8_t der[sizeof three + 1] = {0};
+    struct pkcs1_private_key key;
+    memcpy(der, whole, len);
+    CHECK(pkcs1_private_key_decode(der, len + 1, &key, NULL, 0) == PKCS1_TRAILING_DATA);
+    der[1]++;
+    CHECK(pkcs1_private_key_decode(der, len + 1, &key, NULL, 0) == PKCS1_TRAILING_DATA);
+}
+
 /* How many other primes there are is compared before the numbers are looked at. */
 static void another_count(void) {
     struct pkcs1_private_key key;
@@ -451,6 +461,7 @@ int main(int argc, char **argv) {
         return puts(pkcs1_version()) == EOF;
     bit_lengths();
     public_keys();
+    octet_after(two, sizeof two), octet_after(three, sizeof three);
     another_count();
     other_primes();
     many_other_primes();

@@ -91,12 +91,6 @@ impl<P: Held, O: Identifier> AlgorithmIdentifier<P, O> {
         self.lent(|parameters| parameters.as_any().0)
     }
 
-    /// Whether the parameters are NULL.
-    #[inline]
-    pub(crate) fn has_null(&self) -> bool {
-        self.parameters.as_ref().is_some_and(|parameters| parameters.as_any().is_null())
-    }
-
     /// Whether this is the hash function D: its identifier, with NULL or without parameters. Both mean the same
     /// function (RFC 4055 2.1), though `==` tells them apart.
     #[must_use]

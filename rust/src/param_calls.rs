@@ -2,7 +2,7 @@
 
 use crate::algorithm::AlgorithmIdentifier;
 use crate::der::asn1::{Any, AnyRef, ObjectIdentifierRef};
-use crate::der::{self, Encode, Tag, decoded, from_slices};
+use crate::der::{self, Tag, decoded, encoded, from_slices};
 use crate::identifier::{AssociatedOid, Identifier, OfIdentifier};
 use crate::keys::asn1;
 use crate::named::{RsaesOaep, RsassaPss};
@@ -14,14 +14,10 @@ use crate::rattle_std::{alloc::Global, prelude::Vec};
 use crate::values::Held;
 use crate::{Error, Result};
 
-/// How many octets an encoding has at most that is written as known octets: a header, and fewer than 128 octets.
-#[cfg(feature = "alloc")]
-const LONGEST_KNOWN: usize = 2 + 127;
-
 macro_rules! parameters {
     ($(
-        $name:ident, $view:ident, $reference:ident, $owned:ident, $algorithm:ident, $number:ident,
-        [$($sub:ident)?], [$($plain:ident)*];
+        $name:ident, $view:ident, $reference:ident, $owned:ident, $algorithm:ident, [$($sub:ident)?],
+        [$($plain:ident)*];
     )*) => { $(
         #[doc = concat!("`", stringify!($name), "` whose algorithms have borrowed parameters.")]
         pub type $reference<'a> = $name<AnyRef<'a>>;
@@ -160,10 +156,7 @@ macro_rules! parameters {
             /// # Errors
             /// `Overflow`, or `NoRoom` if the slice is too short.
             pub fn encode_algorithm<'o>(&self, out: &'o mut [u8]) -> Result<&'o [u8]> {
-                let length = match self.write_known(Some(proved::$number), out) {
-                    Some(known) => known.or(Err(der::Error::new(der::ErrorKind::NoRoom)))?,
-                    None => self.view().encode_algorithm(out)?,
-                };
+                let length = self.view().encode_algorithm(out)?;
                 Ok(&out[..length])
             }
 
@@ -172,11 +165,7 @@ macro_rules! parameters {
             /// `Overflow` or `OutOfMemory`.
             #[cfg(feature = "alloc")]
             pub fn to_algorithm_der(&self) -> Result<alloc::vec::Vec<u8>> {
-                let mut room = [0; LONGEST_KNOWN];
-                Ok(match self.write_known(Some(proved::$number), &mut room) {
-                    Some(Ok(length)) => der::copied(&room[..length])?,
-                    _ => der::to_der(&self.view().to_algorithm())?,
-                })
+                Ok(der::to_der(&self.view().to_algorithm())?)
             }
         }
 
@@ -228,37 +217,10 @@ macro_rules! parameters {
             {} $name<Any>, bytes => $reference::from_der(bytes)?.try_into();
         }
         from_slices! { $name<Any>; }
-
-        impl<P: Held, O: Identifier> Encode for $name<P, O> {
-            fn encoded_len(&self) -> der::Result<der::Length> {
-                match self.write_known(None, &mut []) {
-                    Some(Ok(length) | Err(length)) => der::Length::try_from(length),
-                    None => crate::proved::der_core::Encode::encoded_len(&self.view()),
-                }
-            }
-
-            #[inline]
-            fn encode_to_slice<'o>(&self, out: &'o mut [u8]) -> der::Result<&'o [u8]> {
-                let length = match self.write_known(None, out) {
-                    Some(known) => known.or(Err(der::Error::new(der::ErrorKind::NoRoom)))?,
-                    None => asn1((&self.view()).encode_params(out))?,
-                };
-                Ok(&out[..length])
-            }
-
-            #[cfg(feature = "alloc")]
-            fn to_der(&self) -> der::Result<alloc::vec::Vec<u8>> {
-                let mut room = [0; LONGEST_KNOWN];
-                match self.write_known(None, &mut room) {
-                    Some(Ok(length)) => der::copied(&room[..length]),
-                    _ => der::to_der(&self.view()),
-                }
-            }
-        }
+        encoded! { {P: Held, O: Identifier} $name<P, O>, params => params.view(); }
     )* };
 }
 parameters! {
-    RsaPssParams, RsaPssParamsView, RsaPssParamsRef, RsaPssParamsOwned, RsassaPss, RSASSA_PSS, [],
-    [salt_len trailer_field];
-    RsaOaepParams, RsaOaepParamsView, RsaOaepParamsRef, RsaOaepParamsOwned, RsaesOaep, RSAES_OAEP, [p_source], [];
+    RsaPssParams, RsaPssParamsView, RsaPssParamsRef, RsaPssParamsOwned, RsassaPss, [], [salt_len trailer_field];
+    RsaOaepParams, RsaOaepParamsView, RsaOaepParamsRef, RsaOaepParamsOwned, RsaesOaep, [p_source], [];
 }

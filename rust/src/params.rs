@@ -106,19 +106,6 @@ const fn mgf1<'a, D: AssociatedOid>() -> MaskGen<AnyRef<'a>> {
     AlgorithmIdentifier { oid: Mgf1::OID, parameters: Some(plain::<D>()) }
 }
 
-/// The octets of the identifiers of a hash function, a mask generation function and the hash function under it, if both
-/// hash functions have NULL, or if `null` is false, none has parameters.
-#[inline]
-fn identifiers<'p, P: Held, O: Identifier>(
-    null: bool,
-    hash: &'p AlgorithmIdentifier<P, O>,
-    mask_gen: &'p MaskGen<P, O>,
-) -> Option<[&'p [u8]; 3]> {
-    let under = mask_gen.parameters.as_ref()?;
-    let fits = |it: &AlgorithmIdentifier<P, O>| if null { it.has_null() } else { it.parameters.is_none() };
-    (fits(hash) && fits(under)).then(|| [hash.octets(), mask_gen.octets(), under.octets()])
-}
-
 /// Whether the hash function is D, and the mask generation function is MGF1 with D. No view is made of the other fields.
 pub(crate) fn uses_hash<D: AssociatedOid, P: Held, O: Identifier>(
     hash: &AlgorithmIdentifier<P, O>,
@@ -126,27 +113,6 @@ pub(crate) fn uses_hash<D: AssociatedOid, P: Held, O: Identifier>(
 ) -> bool {
     let is_mgf1 = proved::is_mgf1(mask_gen.octets());
     is_mgf1 && hash.is_hash::<D>() && mask_gen.parameters.as_ref().is_some_and(AlgorithmIdentifier::is_hash::<D>)
-}
-
-impl<P: Held, O: Identifier> RsaPssParams<P, O> {
-    /// Writes the encoding, alone or in an algorithm identifier, if it is known.
-    #[inline]
-    pub(crate) fn write_known(&self, place: proved::Place, out: &mut [u8]) -> Option<proved::Written> {
-        if self.hash.parameters.is_some() { self.write_with(true, place, out) } else { self.write_bare(place, out) }
-    }
-
-    /// The same, if both hash functions have NULL, or if `null` is false, none has parameters.
-    #[inline(always)]
-    fn write_with(&self, null: bool, place: proved::Place, out: &mut [u8]) -> Option<proved::Written> {
-        let [hash, mask_gen, under] = identifiers(null, &self.hash, &self.mask_gen)?;
-        proved::encode_known_pss(null, hash, mask_gen, under, self.salt_len, place, out)
-    }
-
-    /// The same, out of line, if none has parameters.
-    #[inline(never)]
-    fn write_bare(&self, place: proved::Place, out: &mut [u8]) -> Option<proved::Written> {
-        self.write_with(false, place, out)
-    }
 }
 
 impl<P: Held, O: Identifier> RsaOaepParams<P, O> {
@@ -158,28 +124,5 @@ impl<P: Held, O: Identifier> RsaOaepParams<P, O> {
         let p_source = self.p_source.as_view();
         let mask_gen = AlgorithmView { oid: p_source.oid, parameters: None };
         proved::RsaOaepParamsView { hash: p_source, mask_gen, p_source }.label()
-    }
-
-    /// Writes the encoding, alone or in an algorithm identifier, if it is known.
-    #[inline]
-    pub(crate) fn write_known(&self, place: proved::Place, out: &mut [u8]) -> Option<proved::Written> {
-        if self.hash.parameters.is_some() { self.write_with(true, place, out) } else { self.write_bare(place, out) }
-    }
-
-    /// The same, out of line, if no hash function has parameters.
-    #[inline(never)]
-    fn write_bare(&self, place: proved::Place, out: &mut [u8]) -> Option<proved::Written> {
-        self.write_with(false, place, out)
-    }
-
-    /// The same, if both hash functions have NULL, or if `null` is false, none has parameters.
-    #[inline(always)]
-    fn write_with(&self, null: bool, place: proved::Place, out: &mut [u8]) -> Option<proved::Written> {
-        let [hash, mask_gen, under] = identifiers(null, &self.hash, &self.mask_gen)?;
-        let source = self.p_source.parameters.as_ref()?.as_any();
-        if source.tag() != Tag::OCTET_STRING {
-            return None;
-        }
-        proved::encode_known_oaep(null, hash, mask_gen, under, self.p_source.octets(), source.value(), place, out)
     }
 }

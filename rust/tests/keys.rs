@@ -78,6 +78,18 @@ fn attributes_are_replaced() {
 }
 
 #[test]
+fn octets_after_the_last_part_are_refused() {
+    for (others, more) in [(0, 1), (0, 2), (1, 1), (1, 2)] {
+        let parts = &made::private_key(others)[4..];
+        let der = made::tlv(0x30, &[parts, &[5, 0][..more]].concat());
+        assert_eq!(made::kind(RsaPrivateKeyView::try_from(&der[..])), ErrorKind::TrailingData);
+        if cfg!(feature = "alloc") || others == 0 {
+            assert_eq!(made::kind(RsaPrivateKeyRef::try_from(&der[..])), ErrorKind::TrailingData);
+        }
+    }
+}
+
+#[test]
 fn errors_say_what_is_wrong() {
     let mut der = made::public_key();
     der.push(0);

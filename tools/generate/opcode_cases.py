@@ -11,6 +11,7 @@ DECLARED = [
     *(f"declare i{it} @llvm.{name}.i{it}(i{it}, i{it})" for name in ("umin", "umax", "usub.sat") for it in IN_C),
     *(f"declare i{it} @llvm.ctlz.i{it}(i{it}, i1)" for it in IN_C[:4]),
     *(f"declare i{it} @llvm.bswap.i{it}(i{it})" for it in IN_C[1:4]),
+    *(f"declare i{it} @llvm.uadd.sat.i{it}(i{it}, i{it})" for it in IN_C[2:4]),
     *(f"declare {{ i{it}, i1 }} @llvm.uadd.with.overflow.i{it}(i{it}, i{it})" for it in IN_C[2:4]),
 ]
 FUNCTION = re.compile(r"(?:^;[^\n]*\n)*^define i64 @\w+\(i64 %a, i64 %b\) \{\n(.*?)^\}\n", re.M | re.S)
@@ -59,6 +60,7 @@ def of_width(width):
     if width in (16, 32, 64):
         yield [*begin, f"%z = call {t} @llvm.bswap.{t}({t} %x)", *end]
     if width in (32, 64):
+        yield [*begin, f"%z = call {t} @llvm.uadd.sat.{t}({t} %x, {t} %y)", *end]
         yield [*begin, f"%p = call {{ {t}, i1 }} @llvm.uadd.with.overflow.{t}({t} %x, {t} %y)",
                f"%s = extractvalue {{ {t}, i1 }} %p, 0", f"%o = extractvalue {{ {t}, i1 }} %p, 1",
                f"%z = select i1 %o, {t} 7, {t} %s", *end]

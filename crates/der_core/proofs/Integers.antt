@@ -1,6 +1,7 @@
 -- INTEGER: faults of its contents, worked examples, its length, bit lengths, numbers above 255. For `src/integer`.
-use Rattle.std.proofs.Common.{take_all, ℕ, suc, List, [], ◌∷◌, ◌≡◌, ◌<◌, ◌≤◌, ◌-◌, length, get_or, take, drop, arith, sym, ap, ◌∙◌, Err, true, false, nat_lt, ◌==◌, map, refl, Ok, ◌+◌, Result, IfOk, IfErr, slice_index, zero, ◌*◌, ◌^◌, inl, inr, lit<, mul-le-mul_right, zero-le, pow-add}
-use Rattle.der_core.specs.Words.{HoldsNumber, Tag, ErrorKind, integer_of, integer_tag, same_tag, limit, number_from_digits, integer_contents, Counts, Error, IsBitLength, are_bytes, after_ge, base256_ge, small_of}
+use Rattle.std.proofs.Common.{take_all, ℕ, suc, List, [], ◌∷◌, ◌≡◌, ◌<◌, ◌≤◌, ◌-◌, length, get_or, take, drop, arith, sym, ap, ◌∙◌, Err, true, false, nat_lt, ◌==◌, map, refl, Ok, ◌+◌, Result, IfOk, IfErr, slice_index, zero, ◌*◌, ◌^◌, ◌⊎◌, inl, inr, lit<, mul-le-mul_right, zero-le, pow-add}
+use Rattle.der_core.specs.Words.{HoldsNumber, nat_tests, number_contents, number_contents_as, written_large, Tag, ErrorKind, integer_of, integer_tag, same_tag, limit, number_from_digits, integer_contents, Counts, Error, IsBitLength, are_bytes, after_ge, base256_ge, small_of}
+use Rattle.der_core.specs.Integer.{IsCanonical}
 use Rattle.der_core.specs.declared.error.ErrorKind.TheVariants as kind
 use Rattle.der_core.specs.declared.error.ErrorKind.TheVariants.{Length, Noncanonical, Value, Overflow}
 use Rattle.std.proofs.Math.Nat.{pow-suc, pow-le-pow_right}
@@ -10,7 +11,6 @@ use Rattle.std.proofs.lemmas.Nat.{leading_top}
 use Rattle.std.specs.Int.Count.{count_leading_zeros, leading_of_zero}
 use Rattle.std.proofs.lemmas.Int.Digits.{number_after_lt}
 
--- What is left behind a padding zero.
 -- The faults of the contents of an INTEGER, as its reader meets them.
 pub integer_of_empty : (xs : List ℕ) (k : ErrorKind) (t : Tag) → length xs < 1 → k ≡ kind.Length t → t.octet ≡ 2
     → integer_of xs ≡ Err k
@@ -42,6 +42,19 @@ integer_of_padded (x ∷ xs) k t n z some h e o =
         let zero : (x == 0) ≡ true = grind arith in
         let low : nat_lt y 128 ≡ true = grind arith in
         rw (less, zero, low) (ap (λ x. Err x) (sym (e ∙ ap kind.Noncanonical (same_tag t integer_tag o))))
+
+-- == The contents of a number, by its bytes: these if the first is below 128, else with 0 in front ==
+module _ (x : List ℕ) (canonical : IsCanonical x) where
+  pub contents_large : 128 ≤ slice_index x 0 → number_contents (number_from_digits 256 x) ≡ 0 ∷ x
+  contents_large h = number_contents_as x canonical ∙ written_large x h
+
+  pub contents_small : slice_index x 0 < 128 → number_contents (number_from_digits 256 x) ≡ x
+  contents_small h =
+      let e : nat_lt (slice_index x 0) 128 ≡ true = grind (arith, nat_tests) in number_contents_as x canonical ∙ rw e refl
+
+  pub contents_sign : (number_contents (number_from_digits 256 x) ≡ x)
+      ⊎ (number_contents (number_from_digits 256 x) ≡ 0 ∷ x)
+  contents_sign = elim (cases_lt (slice_index x 0) 128) [ inl h ↦ inl (contents_small h) | inr h ↦ inr (contents_large h) ]
 
 -- == Worked rows: contents octets, with the octets of the number or the kind of the fault ==
 

@@ -1,7 +1,7 @@
 -- Why values aren't written, what writing one part after another leaves, and lengths. For each call that writes or
 -- counts, also of the crates above.
-use Rattle.std.proofs.Common.{ℕ, Bool, List, ◌<◌, ◌≤◌, length, subst, ap, ◌∙◌, arith, inl, inr, Result, Ok, Err, IfErr, ◌≡◌, ◌++◌, drop, refl, IfOk, OnErr, OnOk, ◌+◌, length-append, [], Option, Some, None, sym, append_assoc, append-nil, true, false, if◌then◌else◌, nat_le}
-use Rattle.der_core.specs.Words.{limit, WhyNotCounted, WhyNotWritten, EncodeError, no_encoding, too_long, no_room, another, written_is_shortest, Prints, WritesShortest, WhyOctetsNotCounted, Counts, WhyOctetsNotWritten, encode_error, Error, ErrorKind, RefusedAs, Tells, Receives, ReceivesNothing, TakesRoom, LacksRoom, WhyNotAppended, Tag, written_encodes, Spells, ok_of, Unwritten, IsLength, length_octets, IsExactly, Tlv, length_octets-only, Appends, tlv, sum_of_lengths, is_no_encoding}
+use Rattle.std.proofs.Common.{ℕ, List, ◌<◌, ◌≤◌, length, subst, ap, ◌∙◌, arith, inl, inr, Result, Ok, Err, IfErr, ◌≡◌, ◌++◌, drop, refl, IfOk, OnErr, OnOk, ◌+◌, length-append, [], Option, Some, None, sym, append_assoc, append-nil}
+use Rattle.der_core.specs.Words.{limit, WhyNotCounted, WhyNotWritten, EncodeError, no_encoding, too_long, no_room, another, written_is_shortest, Prints, WritesShortest, WhyOctetsNotCounted, Counts, WhyOctetsNotWritten, encode_error, Error, ErrorKind, RefusedAs, Receives, ReceivesNothing, TakesRoom, LacksRoom, WhyNotAppended, Tag, written_encodes, Spells, ok_of, Unwritten, IsLength, length_octets, IsExactly, Tlv, length_octets-only, Appends, tlv}
 use Rattle.standard.specs.Statement.{Encodes, IsShortest}
 use Rattle.der_core.specs.declared.error.ErrorKind.TheVariants.{NoRoom, Overflow}
 use Rattle.der_core.specs.declared.error.ErrorKind.TheVariants as kind
@@ -95,14 +95,6 @@ module _ {S V : Type 0} {valid : S → Type 0} {printed : S → List ℕ} {means
       → IfErr r (λ e. Unwritten (λ u. valid (written u)) (Spells valid printed means) v room (encode_error e.kind))
   encode_into_unwritten room (Ok x) h = tt
   encode_into_unwritten room (Err e) h = encode_into_unwritten_by room (encode_error e.kind) h
-
--- The sum of two lengths that were told quickly.
-pub tells_joined : {A B : Type 0} (x y : List ℕ) (m n total : ℕ) → Tells A x m → Tells B y n
-    → (total ≤ limit → total ≡ m + n) → Tells (A × B) (x ++ y) total
-tells_joined x y m n total p q sum few =
-    let first = p (omega arith) in
-    let second = q (omega arith) in
-    ((first.0, second.0), omega (arith, length-append x y), few)
 
 -- The length of an encoding, by that of its contents.
 pub tlv_length : (n t : ℕ) (c encoding : List ℕ) → length c ≡ n → Tlv t (IsExactly c) encoding
@@ -248,56 +240,6 @@ pub appends_at_once : {W A has : Type 0} {Room : W → Option ℕ} {Written : W 
 appends_at_once (Ok x) h l w n full same = record { has = (h, l); written = w; room = n; left = tt }
 appends_at_once (Err e) h l w n full same = appends_nothing h l full.0 full.1 same.0
 
--- The length of two parts.
-module _ {P Q R : Type 0} (xs ys : List ℕ) (there : P → Q → R) (back : R → P × Q) where
-  -- one of them isn't counted, and the other has octets
-  second_uncounted : (k : EncodeError) → P → WhyOctetsNotCounted Q ys k → WhyOctetsNotCounted R (xs ++ ys) k
-  second_uncounted no_encoding p u = λ r. u (back r).1
-  second_uncounted too_long p u = (there p u.0, omega (arith, length-append xs ys))
-  second_uncounted no_room p u = absurd u
-  second_uncounted another p u = absurd u
-
-  first_uncounted : (k : EncodeError) → Q → WhyOctetsNotCounted P xs k → WhyOctetsNotCounted R (xs ++ ys) k
-  first_uncounted no_encoding q u = λ r. u (back r).0
-  first_uncounted too_long q u = (there u.0 q, omega (arith, length-append xs ys))
-  first_uncounted no_room q u = absurd u
-  first_uncounted another q u = absurd u
-
-  -- the first has no encoding, so both together have none
-  none_uncounted : (k : EncodeError) → is_no_encoding k ≡ true → WhyOctetsNotCounted P xs k
-      → WhyOctetsNotCounted R (xs ++ ys) k
-  none_uncounted no_encoding e u = λ r. u (back r).0
-  none_uncounted too_long e u = cc
-  none_uncounted no_room e u = absurd u
-  none_uncounted another e u = absurd u
-
-  -- the first is too long, and the second isn't counted: the second's reason is that of both
-  other_uncounted : (k j : EncodeError) → is_no_encoding k ≡ false → WhyOctetsNotCounted P xs k
-      → WhyOctetsNotCounted Q ys j → WhyOctetsNotCounted R (xs ++ ys) j
-  other_uncounted no_encoding j e u v = cc
-  other_uncounted too_long j e u v = second_uncounted j u.0 v
-  other_uncounted no_room j e u v = absurd u
-  other_uncounted another j e u v = absurd u
-
-  -- the sum of what was counted of each
-  pub counts_joined : (a b : Result ℕ Error) → Counts P xs a → Counts Q ys b → Counts R (xs ++ ys) (sum_of_lengths a b)
-  counts_joined (Ok m) (Ok n) p q =
-      elim (nat_le (m + n) limit) as (λ t. nat_le (m + n) limit ≡ t
-      → Counts R (xs ++ ys) (if t then Ok (m + n) else Err (record { kind = kind.Overflow }))) [
-        | true ↦ λ e. let le : m + n ≤ limit =
-            grind arith in (there p.0 q.0, omega (arith, length-append xs ys), le)
-        | false ↦ λ e. let gt : limit < m + n =
-            grind arith in (there p.0 q.0, omega (arith, length-append xs ys))
-      ] refl
-  counts_joined (Ok m) (Err f) p q = second_uncounted (encode_error f.kind) p.0 q
-  counts_joined (Err e) (Ok n) p q = first_uncounted (encode_error e.kind) q.0 p
-  counts_joined (Err e) (Err f) p q =
-      elim (is_no_encoding (encode_error e.kind))
-      as (λ t. is_no_encoding (encode_error e.kind) ≡ t → Counts R (xs ++ ys) (if t then Err e else Err f)) [
-        | true ↦ λ h. none_uncounted (encode_error e.kind) h p
-        | false ↦ λ h. other_uncounted (encode_error e.kind) (encode_error f.kind) h p q
-      ] refl
-
 -- What a call counts of an encoding, by the length of its contents.
 pub counts_encoding : {P : Type 0} (tag : ℕ) (contents : List ℕ) (n : ℕ) (r : Result ℕ Error) → P → n ≡ length contents
     → IfOk r (λ total. (total ≡ 1 + length (length_octets n) + n) × (total ≤ limit))
@@ -318,22 +260,6 @@ counts_encoding tag contents n (Err x) p e ok err =
 abbrev kind_in : {A : Type 0} → Result A Error → ErrorKind
 kind_in (Ok x) = NoRoom
 kind_in (Err e) = e.kind
-
--- A sum of two lengths is refused with the tag of one of them.
-pub joined_refused : {P : Tag → Type 0} (a b : Result ℕ Error) → RefusedAs P a → RefusedAs P b
-    → RefusedAs P (sum_of_lengths a b)
-joined_refused {P = P} (Ok m) (Ok n) p q = sum_refused (nat_le (m + n) limit)
-  where
-    sum_refused : (fits : Bool) → RefusedAs {A = ℕ} P (if fits then Ok (m + n) else Err (record { kind = Overflow }))
-    sum_refused true tag e = cc
-    sum_refused false tag e = let clash : ◌≡◌ {A = ErrorKind} Overflow (kind.Value tag) = ap kind_in e in cc
-joined_refused (Ok m) (Err f) p q = q
-joined_refused (Err e) (Ok n) p q = p
-joined_refused {P = P} (Err e) (Err f) p q = either (is_no_encoding (encode_error e.kind))
-  where
-    either : (first : Bool) → RefusedAs {A = ℕ} P (if first then Err e else Err f)
-    either true = p
-    either false = q
 
 -- A value that has octets isn't refused.
 pub not_refused : {W A Has : Type 0} {octets : List ℕ} {Room : W → Option ℕ} {Written : W → List ℕ → Type 0} {old new : W}

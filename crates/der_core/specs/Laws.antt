@@ -7,6 +7,7 @@ pub mod BitString
 pub mod Encodings
 pub mod LengthReading
 pub mod Numbers
+pub mod Prepending
 pub mod OptionalReadings
 pub mod Printed
 pub mod Appended

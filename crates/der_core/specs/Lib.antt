@@ -20,6 +20,7 @@ pub mod UintRefValue
 pub mod UintValue
 pub mod DocumentValue
 pub mod Slices
+pub mod Counting
 pub mod EncodeToSlice
 pub mod SourcesSinks
 pub mod Transfer

@@ -1,5 +1,6 @@
 -- The words that contracts and proofs cite, from all files of specs, and three of std that most proofs cite.
-pub use Rattle.der_core.specs.Slices.{Prepends, free_of, left_of}
+pub use Rattle.der_core.specs.Slices.{HasRoom, Prepends, filled_of, free_of, left_of}
+pub use Rattle.der_core.specs.Counting.{Counted, sum_of}
 pub use Rattle.der_core.specs.BitString.{AllocatesBehindZero, behind_zero, no_unused_bits, whole_octets}
 pub use Rattle.der_core.specs.Boolean.{boolean_contents, boolean_of}
 pub use Rattle.der_core.specs.Document.{EncodeError, Excludes, IsDocument, WhyNotCounted, WhyNotWritten, WithinLimit, another, no_encoding, no_room, too_long}
@@ -27,7 +28,7 @@ pub use Rattle.der_core.specs.Transfer.{GivesNone, WhyDocumentNotRead, WhyReadin
 pub use Rattle.der_core.specs.UintRefValue.{bytes_of}
 pub use Rattle.der_core.specs.UintValue.{own_bytes_of}
 pub use Rattle.der_core.specs.Writers.{LacksRoom, Receives, ReceivesNothing, TakesRoom}
-pub use Rattle.der_core.specs.Writing.{Appends, Counts, IsOutOfMemory, RefusedAs, Tells, Unwritten, WhyNotAppended, WhyOctetsNotCounted, WhyOctetsNotWritten, encode_error, is_no_encoding, sum_of_lengths}
+pub use Rattle.der_core.specs.Writing.{Appends, Checks, Counts, IsOutOfMemory, RefusedAs, Unwritten, WhyNotAppended, WhyNotChecked, WhyOctetsNotCounted, WhyOctetsNotWritten, encode_error}
 pub use Rattle.der_core.specs.declared.error.Error.{Error}
 pub use Rattle.der_core.specs.declared.error.ErrorKind.{ErrorKind}
 pub use Rattle.der_core.specs.declared.tag.Tag.{Tag}

@@ -1,14 +1,14 @@
 //! BIT STRINGs of whole octets (X.690 8.6).
 ghost use Rattle.der_core.specs.Words.{AllocatesBehindZero, Answers, behind_zero, behind_zero_alike, behind_zero_asks_as_contents, behind_zero_law, behind_zero_shortest, bit_string_tag, no_unused_bits, whole_octets};
 
-use crate::back_writer::BackWriter;
 use crate::decode::DecodeValue;
-use crate::encode::{EncodeValue, joined_len};
+use crate::encode::EncodeValue;
 use crate::error::{Error, ErrorKind, Result};
 use crate::grammar::{Contents, TagMarker, TaggedBy};
 use crate::length::Length;
 use crate::memory::Memory;
 use crate::octet_string::OctetStringRef;
+use crate::prepend::Prepend;
 use crate::tag::Tag;
 use crate::writer::Writer;
 
@@ -88,17 +88,19 @@ impl<'a, M: Memory, C: DecodeValue<&'a [u8], M>> DecodeValue<&'a [u8], M> for Bi
 impl<C: EncodeValue> EncodeValue for BitString<C> {
     ghost refused = { C.EncodeValue.refused };
 
-    fn value_len(&self) -> Result<Length> {
-        joined_len(Ok(Length::ONE), self.0.value_len())
+    #[inline(always)]
+    fn check_value(&self) -> Result<()> {
+        self.0.check_value()
+    }
+
+    #[inline(always)]
+    fn prepend_value<W: Prepend>(&self, writer: &mut W) {
+        self.0.prepend_value(writer);
+        writer.prepend(&[0]);
     }
 
     fn append_value<W: Writer>(&self, writer: &mut W) -> Result<()> {
         writer.write(&[0])?;
         self.0.append_value(writer)
-    }
-
-    fn prepend_value(&self, writer: &mut BackWriter<'_>) {
-        self.0.prepend_value(writer);
-        writer.prepend(&[0]);
     }
 }

@@ -2,13 +2,13 @@
 ghost use Rattle.std.specs.Prelude.{◌≡◌, Bool};
 ghost use Rattle.der_core.specs.Words.{Answers, boolean_contents, boolean_law, boolean_of, boolean_tag, nothing_asked, one_spelling_shortest, reading_alike};
 
-use crate::back_writer::BackWriter;
 use crate::decode::DecodeValue;
 use crate::encode::EncodeValue;
 use crate::error::{Error, ErrorKind, Result};
 use crate::grammar::{Contents, TagMarker, TaggedBy};
 use crate::length::Length;
 use crate::memory::Memory;
+use crate::prepend::Prepend;
 use crate::tag::Tag;
 use crate::writer::Writer;
 
@@ -84,15 +84,17 @@ impl<'a, M: Memory> DecodeValue<&'a [u8], M> for bool {
 impl EncodeValue for bool {
     ghost refused = { λ _. ⊥ };
 
-    fn value_len(&self) -> Result<Length> {
-        Ok(Length::ONE)
+    #[inline(always)]
+    fn check_value(&self) -> Result<()> {
+        Ok(())
+    }
+
+    #[inline(always)]
+    fn prepend_value<W: Prepend>(&self, writer: &mut W) {
+        writer.prepend(&[if *self { 0xff } else { 0x00 }]);
     }
 
     fn append_value<W: Writer>(&self, writer: &mut W) -> Result<()> {
         writer.write(&[if *self { 0xff } else { 0x00 }])
-    }
-
-    fn prepend_value(&self, writer: &mut BackWriter<'_>) {
-        writer.prepend(&[if *self { 0xff } else { 0x00 }]);
     }
 }

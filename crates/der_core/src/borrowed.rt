@@ -1,10 +1,9 @@
 //! Borrowed values.
 
-use crate::back_writer::BackWriter;
 use crate::encode::Encode;
 use crate::error::Result;
 use crate::grammar::Encoding;
-use crate::length::Length;
+use crate::prepend::Prepend;
 use crate::tag::Tag;
 use crate::writer::Writer;
 
@@ -51,21 +50,16 @@ impl<'b, T: Encode> Encode for Borrowed<'b, T> {
     ghost refused = { T.Encode.refused };
 
     #[inline(always)]
-    fn encoded_len(&self) -> Result<Length> {
-        self.0.encoded_len()
+    fn check(&self) -> Result<()> {
+        self.0.check()
     }
 
     #[inline(always)]
-    fn quick_len(&self) -> u64 {
-        self.0.quick_len()
-    }
-
-    fn encode<W: Writer>(&self, writer: &mut W) -> Result<()> {
-        self.0.encode(writer)
-    }
-
-    #[inline(always)]
-    fn prepend(&self, writer: &mut BackWriter<'_>) {
+    fn prepend<W: Prepend>(&self, writer: &mut W) {
         self.0.prepend(writer);
+    }
+
+    fn append<W: Writer>(&self, writer: &mut W) -> Result<()> {
+        self.0.append(writer)
     }
 }

@@ -1,13 +1,12 @@
 //! Contents octets that are one encoding.
 ghost use Rattle.der_core.specs.Words.{AllocatesAtFront, alone, alone_alike, alone_law};
 
-use crate::back_writer::BackWriter;
 use crate::decode::{Decode, DecodeValue};
 use crate::encode::{Encode, EncodeValue};
 use crate::error::Result;
 use crate::grammar::{Contents, Encoding};
-use crate::length::Length;
 use crate::memory::Memory;
+use crate::prepend::Prepend;
 use crate::writer::Writer;
 
 /// Contents octets that are one encoding of a `T`, as those of `BIT STRING (CONTAINING T)`. `TrailingData` if octets
@@ -56,20 +55,17 @@ impl<'a, M: Memory, T: Decode<&'a [u8], M>> DecodeValue<&'a [u8], M> for Contain
 impl<T: Encode> EncodeValue for Containing<T> {
     ghost refused = { T.Encode.refused };
 
-    fn value_len(&self) -> Result<Length> {
-        self.0.encoded_len()
+    #[inline(always)]
+    fn check_value(&self) -> Result<()> {
+        self.0.check()
     }
 
     #[inline(always)]
-    fn quick_value_len(&self) -> u64 {
-        self.0.quick_len()
+    fn prepend_value<W: Prepend>(&self, writer: &mut W) {
+        self.0.prepend(writer);
     }
 
     fn append_value<W: Writer>(&self, writer: &mut W) -> Result<()> {
-        self.0.encode(writer)
-    }
-
-    fn prepend_value(&self, writer: &mut BackWriter<'_>) {
-        self.0.prepend(writer);
+        self.0.append(writer)
     }
 }

@@ -1,15 +1,17 @@
 //! Writing of values.
 ghost use Rattle.std.specs.Prelude.{◌≡◌, ◌≤◌, ◌++◌, length, drop, OnOk, OnErr, IfOk, IfErr};
-ghost use Rattle.der_core.specs.Words.{limit, length_octets, tlv, RefusedAs, Tells, WhyNotAppended, WhyNotCounted, WhyNotWritten, free_of, Prepends, Prints, Spells, IsFront, LeavesRest, Counts, Appends, encode_error, sum_of_lengths};
+ghost use Rattle.der_core.specs.Words.{limit, RefusedAs, Checks, WhyNotAppended, WhyNotCounted, WhyNotWritten, Prints, Spells, IsFront, LeavesRest, Counts, Appends, encode_error};
 ghost use Rattle.standard.specs.Statement.{IsShortest};
 ghost use Rattle.std.specs.Borrow.{sem};
 ghost use Rattle.der_core.specs.declared.tag.Tag.{Tag as TheTag};
 
 use crate::back_writer::BackWriter;
+use crate::counter::Counter;
 use crate::error::{Error, ErrorKind, Result};
 use crate::grammar::{Contents, Encoding, FixedTag};
 use crate::header::Header;
-use crate::length::{Length, UNTOLD, with_header};
+use crate::length::Length;
+use crate::prepend::Prepend;
 use crate::writer::Writer;
 
 /// A type whose values are written as contents octets.
@@ -17,19 +19,16 @@ pub trait EncodeValue: Contents {
     /// The tags that an error `Value` may have. A type that doesn't say it leaves them open.
     ghost refused: { TheTag → Type 0 } = { λ _. Unit {0} };
 
-    /// The length of the contents that are written. `Value` exactly if the value has none, else `Overflow` exactly if
-    /// they are longer than `Length::MAX`.
-    fn value_len(&self) -> Result<Length>
-        ensures counts { let s = Self.written (Self.value self.now) in Counts (Self.valid s) (Self.printed s) result }
+    /// Whether the value has contents: `Value` exactly if it has none.
+    fn check_value(&self) -> Result<()>
+        ensures checks { Checks (Self.valid (Self.written (Self.value self.now))) result }
         ensures tag { RefusedAs refused result };
 
-    /// The length of the contents that are written, told quickly. More than `Length::MAX` says nothing of them.
-    #[inline(always)]
-    fn quick_value_len(&self) -> u64
-        ensures { let s = Self.written (Self.value self.now) in Tells (Self.valid s) (Self.printed s) result }
-    {
-        UNTOLD
-    }
+    /// Writes the contents in front of what was received, or counts them. There have to be some, and room for them.
+    fn prepend_value<W: Prepend>(&self, writer: &mut W)
+        requires has { Self.valid (Self.written (Self.value self.now)) }
+        requires room { W.has_room writer.old (length (Self.printed (Self.written (Self.value self.now)))) }
+        ensures { W.prepended (Self.printed (Self.written (Self.value self.now))) writer.old writer.new };
 
     /// Appends the contents. There have to be some, within `Length::MAX`. The only error is `NoRoom`, exactly if the
     /// writer has too little room, after a beginning of them.
@@ -39,6 +38,19 @@ pub trait EncodeValue: Contents {
         ensures appends { let s = Self.written (Self.value self.now) in
             Appends (Self.valid s) (Self.printed s) W.room W.written writer.old writer.new result }
         ensures kept { W.keeps writer.old writer.new };
+
+    /// The length of the contents that are written. `Value` exactly if the value has none, else `Overflow` exactly if
+    /// they are longer than `Length::MAX`.
+    #[inline(always)]
+    fn value_len(&self) -> Result<Length>
+        ensures counts { let s = Self.written (Self.value self.now) in Counts (Self.valid s) (Self.printed s) result }
+        ensures tag { RefusedAs refused result }
+    {
+        self.check_value()?;
+        let mut counter = Counter::new();
+        self.prepend_value(&mut counter);
+        counter.length()
+    }
 
     /// Appends the contents: `Value` and `Overflow`, as of `value_len`, before any octet, `NoRoom` after a beginning.
     fn encode_value<W: Writer>(&self, writer: &mut W) -> Result<()>
@@ -50,13 +62,6 @@ pub trait EncodeValue: Contents {
         self.value_len()?;
         self.append_value(writer)
     }
-
-    /// Writes the contents in front of what is filled. There have to be some, within `Length::MAX`, and room for them.
-    fn prepend_value(&self, writer: &mut BackWriter<'_>)
-        requires has { Self.valid (Self.written (Self.value self.now)) }
-        requires fits { length (Self.printed (Self.written (Self.value self.now))) ≤ limit }
-        requires room { length (Self.printed (Self.written (Self.value self.now))) ≤ free_of writer.old }
-        ensures { Prepends (Self.printed (Self.written (Self.value self.now))) writer.old writer.new };
 }
 
 /// A type whose values are written as encodings. Its calls return these errors exactly in these cases:
@@ -67,38 +72,54 @@ pub trait Encode: Encoding {
     /// The tags that an error `Value` may have. A type that doesn't say it leaves them open.
     ghost refused: { TheTag → Type 0 } = { λ _. Unit {0} };
 
+    /// Whether the value has an encoding: `Value` exactly if it has none.
+    fn check(&self) -> Result<()>
+        ensures checks { Checks (Self.valid (Self.written (Self.value self.now))) result }
+        ensures tag { RefusedAs refused result };
+
+    /// Writes the shortest encoding in front of what was received, or counts it. There has to be one, and room for it.
+    fn prepend<W: Prepend>(&self, writer: &mut W)
+        requires has { Self.valid (Self.written (Self.value self.now)) }
+        requires room { W.has_room writer.old (length (Self.printed (Self.written (Self.value self.now)))) }
+        ensures { W.prepended (Self.printed (Self.written (Self.value self.now))) writer.old writer.new };
+
+    /// Appends the shortest encoding. There has to be one within `Length::MAX`. The only error is `NoRoom`, exactly if
+    /// the writer has too little room, after a beginning of it.
+    fn append<W: Writer>(&self, writer: &mut W) -> Result<()>
+        requires has { Self.valid (Self.written (Self.value self.now)) }
+        requires fits { length (Self.printed (Self.written (Self.value self.now))) ≤ limit }
+        ensures appends { let s = Self.written (Self.value self.now) in
+            Appends (Self.valid s) (Self.printed s) W.room W.written writer.old writer.new result }
+        ensures kept { W.keeps writer.old writer.new };
+
     /// The length of the shortest encoding; `Value` and `Overflow` exactly if they say so.
-    fn encoded_len(&self) -> Result<Length>
+    #[inline(always)]
+    final fn encoded_len(&self) -> Result<Length>
+    where
+        Self: Sized,
         ensures counted { let s = Self.written (Self.value self.now) in Counts (Self.valid s) (Self.printed s) result }
         ensures err { let v = Self.value self.now in let encodings = Prints Self.valid Self.printed Self.means in
             IfErr result (λ e. WhyNotCounted (Self.valid (Self.written v)) encodings v (encode_error e.kind)) }
-        ensures tag { RefusedAs refused result };
-
-    /// The length of the shortest encoding, told quickly. More than `Length::MAX` says nothing of it.
-    #[inline(always)]
-    fn quick_len(&self) -> u64
-        ensures { let s = Self.written (Self.value self.now) in Tells (Self.valid s) (Self.printed s) result }
+        ensures tag { RefusedAs Self.Encode.refused result }
     {
-        UNTOLD
+        counted_len(self)
     }
 
     /// Appends the shortest encoding. `Value` and `Overflow` come before any octet is written, `NoRoom` after a
     /// beginning of them. A writer without a limit gives no `NoRoom`.
-    fn encode<W: Writer>(&self, writer: &mut W) -> Result<()>
+    final fn encode<W: Writer>(&self, writer: &mut W) -> Result<()>
+    where
+        Self: Sized,
         ensures appends { let s = Self.written (Self.value self.now) in
             Appends (Self.valid s) (Self.printed s) W.room W.written writer.old writer.new result }
         ensures err { let v = Self.value self.now in let encodings = Prints Self.valid Self.printed Self.means in
             IfErr result (λ e. WhyNotAppended (Self.valid (Self.written v)) encodings v (W.room writer.old)
             (encode_error e.kind)) }
-        ensures tag { RefusedAs refused result }
-        ensures kept { W.keeps writer.old writer.new };
-
-    /// Writes the encoding in front of what is filled. There has to be one within `Length::MAX`, and room for it.
-    fn prepend(&self, writer: &mut BackWriter<'_>)
-        requires has { Self.valid (Self.written (Self.value self.now)) }
-        requires fits { length (Self.printed (Self.written (Self.value self.now))) ≤ limit }
-        requires room { length (Self.printed (Self.written (Self.value self.now))) ≤ free_of writer.old }
-        ensures { Prepends (Self.printed (Self.written (Self.value self.now))) writer.old writer.new };
+        ensures tag { RefusedAs Self.Encode.refused result }
+        ensures kept { W.keeps writer.old writer.new }
+    {
+        append_counted(self, writer)
+    }
 
     /// Writes the shortest encoding of the value to the front of a slice. Ok(n): the first n bytes are the encoding,
     /// and those behind them are as they were. Err: the slice is as it was, and the error says exactly why.
@@ -157,74 +178,52 @@ fn front<'b>(out: &'b [u8], written: Result<usize>) -> Result<&'b [u8]>
     }
 }
 
-/// The length of the encoding with these contents.
-fn encoding_len<T: EncodeValue + FixedTag>(value: &T) -> Result<Length>
-    ensures counts { let v = T.value value.now in
-        Counts (T.valid (T.written v)) (tlv T.TAG.octet (T.printed (T.written v))) result }
-    ensures tag { RefusedAs T.refused result }
+/// The length of the shortest encoding.
+#[inline(always)]
+fn counted_len<T: Encode>(value: &T) -> Result<Length>
+    ensures counted { let s = T.written (T.value value.now) in Counts (T.valid s) (T.printed s) result }
+    ensures tag { RefusedAs T.Encode.refused result }
 {
-    value.value_len()?.for_tlv(T::TAG)
+    value.check()?;
+    let mut counter = Counter::new();
+    value.prepend(&mut counter);
+    counter.length()
 }
 
-/// Appends a header and the contents.
-fn encode_tlv<T: EncodeValue + FixedTag, W: Writer>(value: &T, writer: &mut W) -> Result<()>
-    ensures appends { let v = T.value value.now in
-        let octets = tlv T.TAG.octet (T.printed (T.written v)) in
-        Appends (T.valid (T.written v)) octets W.room W.written writer.old writer.new result }
-    ensures tag { RefusedAs T.refused result }
+/// Appends the shortest encoding, where it is within `Length::MAX`.
+fn append_counted<T: Encode, W: Writer>(value: &T, writer: &mut W) -> Result<()>
+    ensures appends { let s = T.written (T.value value.now) in
+        Appends (T.valid s) (T.printed s) W.room W.written writer.old writer.new result }
+    ensures tag { RefusedAs T.Encode.refused result }
     ensures kept { W.keeps writer.old writer.new }
 {
-    let length = value.value_len()?;
-    length.for_tlv(T::TAG)?;
-    let header = Header {
-        tag: T::TAG,
-        length,
-    };
-    writer.write(&header.to_bytes())?;
-    value.append_value(writer)
+    counted_len(value)?;
+    value.append(writer)
 }
 
 impl<T: EncodeValue + FixedTag> Encode for T {
     ghost refused = { T.EncodeValue.refused };
 
     #[inline(always)]
-    fn encoded_len(&self) -> Result<Length> {
-        match Length::told(self.quick_len()) {
-            Some(length) => Ok(length),
-            None => encoding_len(self),
-        }
+    fn check(&self) -> Result<()> {
+        self.check_value()
     }
 
     #[inline(always)]
-    fn quick_len(&self) -> u64 {
-        with_header(self.quick_value_len())
-    }
-
-    fn encode<W: Writer>(&self, writer: &mut W) -> Result<()> {
-        encode_tlv(self, writer)
-    }
-
-    #[inline(always)]
-    fn prepend(&self, writer: &mut BackWriter<'_>) {
+    fn prepend<W: Prepend>(&self, writer: &mut W) {
         let before = writer.filled_len();
         self.prepend_value(writer);
-        let length = Length::of(writer.filled_len() - before);
-        writer.prepend_header(Header {
-            tag: T::TAG,
-            length,
-        });
+        writer.prepend_header(T::TAG, before);
     }
-}
 
-/// The sum of two lengths. `Value` is reported before `Overflow`.
-pub fn joined_len(a: Result<Length>, b: Result<Length>) -> Result<Length>
-    ensures { result ≡ sum_of_lengths a b }
-{
-    match a {
-        Ok(a) => a.checked_add(b?),
-        Err(error) => match b {
-            Err(other) if !error.is_value() => Err(other),
-            _ => Err(error),
-        },
+    fn append<W: Writer>(&self, writer: &mut W) -> Result<()> {
+        let mut counter = Counter::new();
+        self.prepend_value(&mut counter);
+        let header = Header {
+            tag: T::TAG,
+            length: Length::of(counter.filled_len() as usize),
+        };
+        writer.write(&header.to_bytes())?;
+        self.append_value(writer)
     }
 }

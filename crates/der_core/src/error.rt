@@ -1,6 +1,5 @@
 //! Errors.
 ghost use Rattle.std.specs.Prelude.{◌≡◌, Some};
-ghost use Rattle.der_core.specs.Words.{encode_error, is_no_encoding};
 
 use crate::tag::{PrintedOctet, Tag};
 use std::alloc::{AllocError, AllocFailed};
@@ -109,13 +108,6 @@ impl Error {
         ensures { result ≡ self.now.kind }
     {
         self.kind
-    }
-
-    /// Whether the error says that a value has no encoding.
-    pub(crate) fn is_value(self) -> bool
-        ensures { result ≡ is_no_encoding (encode_error self.kind) }
-    {
-        matches!(self.kind, ErrorKind::Value { .. })
     }
 }
 

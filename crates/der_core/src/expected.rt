@@ -2,13 +2,12 @@
 ghost use Rattle.std.specs.Prelude.{◌<◌};
 ghost use Rattle.der_core.specs.Words.{expected, expected_law, nothing_asked, number_contents, one_spelling_shortest, reading_alike};
 
-use crate::back_writer::BackWriter;
 use crate::decode::DecodeValue;
 use crate::encode::EncodeValue;
 use crate::error::{Error, ErrorKind, Result};
 use crate::grammar::{Contents, IntegerTag, TaggedBy};
-use crate::length::Length;
 use crate::memory::Memory;
+use crate::prepend::Prepend;
 use crate::tag::Tag;
 use crate::writer::Writer;
 
@@ -63,20 +62,17 @@ impl<'a, M: Memory, const N: u8> DecodeValue<&'a [u8], M> for Expected<N> {
 impl<const N: u8> EncodeValue for Expected<N> {
     ghost refused = { λ _. ⊥ };
 
-    fn value_len(&self) -> Result<Length> {
-        N.value_len()
+    #[inline(always)]
+    fn check_value(&self) -> Result<()> {
+        Ok(())
     }
 
     #[inline(always)]
-    fn quick_value_len(&self) -> u64 {
-        N.quick_value_len()
+    fn prepend_value<W: Prepend>(&self, writer: &mut W) {
+        N.prepend_value(writer);
     }
 
     fn append_value<W: Writer>(&self, writer: &mut W) -> Result<()> {
         N.append_value(writer)
-    }
-
-    fn prepend_value(&self, writer: &mut BackWriter<'_>) {
-        N.prepend_value(writer);
     }
 }

@@ -2,13 +2,12 @@
 ghost use Rattle.std.specs.Prelude.{◌≡◌, ℕ};
 ghost use Rattle.der_core.specs.Words.{IsInRange, in_range, integer_tag, nothing_asked, number_contents, one_spelling_shortest, ranged, ranged_law, reading_alike};
 
-use crate::back_writer::BackWriter;
 use crate::decode::DecodeValue;
 use crate::encode::EncodeValue;
 use crate::error::{Error, ErrorKind, Result};
 use crate::grammar::{Contents, IntegerTag, TaggedBy};
-use crate::length::Length;
 use crate::memory::Memory;
+use crate::prepend::Prepend;
 use crate::tag::Tag;
 use crate::writer::Writer;
 
@@ -74,18 +73,21 @@ impl<'a, M: Memory, const MIN: u8, const MAX: u8> DecodeValue<&'a [u8], M> for I
 impl<const MIN: u8, const MAX: u8> EncodeValue for InRange<MIN, MAX> {
     ghost refused = { λ tag. tag ≡ integer_tag };
 
-    fn value_len(&self) -> Result<Length> {
-        if !self.is_within() {
-            return Err(Error::new(ErrorKind::Value { tag: Tag::INTEGER }));
+    #[inline(always)]
+    fn check_value(&self) -> Result<()> {
+        if self.is_within() {
+            Ok(())
+        } else {
+            Err(Error::new(ErrorKind::Value { tag: Tag::INTEGER }))
         }
-        self.0.value_len()
+    }
+
+    #[inline(always)]
+    fn prepend_value<W: Prepend>(&self, writer: &mut W) {
+        self.0.prepend_value(writer);
     }
 
     fn append_value<W: Writer>(&self, writer: &mut W) -> Result<()> {
         self.0.append_value(writer)
-    }
-
-    fn prepend_value(&self, writer: &mut BackWriter<'_>) {
-        self.0.prepend_value(writer);
     }
 }

@@ -1,40 +1,55 @@
 //! The last part of some contents: one encoding, or an OPTIONAL one.
-ghost use Rattle.std.specs.Prelude.{◌≡◌, Option, option_map};
+ghost use Rattle.std.specs.Prelude.{◌≤◌, Option, length, option_map};
 ghost use Rattle.standard.specs.Statement as standard;
-ghost use Rattle.der_core.specs.Words.{AllocatesAtFront, AllocatesLast, Tlv, alone, alone_alike, last, last_alike, last_by_tag_law, last_law, last_part_asks_as_it, last_shortest, optional_alike, optional_front, tagged, tagged_alike, tagged_shortest};
+ghost use Rattle.der_core.specs.Words.{AllocatesAtFront, AllocatesLast, Appends, Checks, RefusedAs, Tlv, alone, alone_alike, last, last_alike, last_by_tag_law, last_law, last_part_asks_as_it, last_shortest, limit, optional_alike, optional_front, tagged, tagged_alike, tagged_shortest};
 
-use crate::back_writer::BackWriter;
-use crate::borrowed::Borrowed;
 use crate::decode::{Decode, DecodeValue, read_optional};
 use crate::encode::{Encode, EncodeValue};
 use crate::error::{Error, ErrorKind, Result};
 use crate::grammar::{Contents, Encoding, FixedTag};
-use crate::length::Length;
 use crate::memory::Memory;
 use crate::parts::DecodeParts;
+use crate::prepend::Prepend;
 use crate::writer::Writer;
 
 /// An OPTIONAL last part: one encoding, or nothing. Whatever is left is read as the part.
 #[derive(Drop)]
 pub struct Last<T>(pub Option<T>);
 
-impl<'b, T: Encoding> Last<Borrowed<'b, T>> {
-    /// A last part to be written.
-    #[inline(always)]
-    pub fn borrowed(part: &'b Option<T>) -> Last<Borrowed<'b, T>>
-        ensures { option_map (λ b. T.value b.0.now) result.0 ≡ option_map T.value part.now }
-    {
-        match part {
-            Some(value) => Last(Some(Borrowed(value))),
-            None => Last(None),
-        }
-    }
-}
+/// A borrowed OPTIONAL last part, which is written as the part itself.
+#[derive(Drop)]
+pub struct BorrowedLast<'b, T>(pub &'b Option<T>);
 
 impl<T: Encoding> Contents for Last<T> {
     ghost Value = { Option T.Value };
 
     ghost value = { λ last. option_map T.value last.0 };
+
+    ghost Spelling = { Option T.Spelling };
+
+    ghost means = { option_map T.means };
+
+    ghost written = { option_map T.written };
+
+    ghost valid = { standard.IfPresent T.valid };
+
+    ghost printed = { standard.optional T.printed };
+
+    ghost read_spelling = { last T.read_spelling };
+
+    ghost read = { last T.read_front };
+
+    ghost law = { last_law T.law T.some };
+
+    ghost shortest = { last_shortest T.shortest };
+
+    ghost reads_alike = { last_alike T.reads_alike };
+}
+
+impl<T: Encoding> Contents for BorrowedLast<'_, T> {
+    ghost Value = { Option T.Value };
+
+    ghost value = { λ last. option_map T.value last.0.now };
 
     ghost Spelling = { Option T.Spelling };
 
@@ -72,38 +87,82 @@ impl<'a, M: Memory, T: Decode<&'a [u8], M>> DecodeParts<&'a [u8], M> for Last<T>
     }
 }
 
+/// Whether the part has an encoding, if it is there.
+#[inline(always)]
+fn check_optional<T: Encode>(part: &Option<T>) -> Result<()>
+    ensures checks { let s = option_map T.written (option_map T.value part.now) in
+        Checks (standard.IfPresent T.valid s) result }
+    ensures tag { RefusedAs T.Encode.refused result }
+{
+    match part {
+        Some(part) => part.check(),
+        None => Ok(()),
+    }
+}
+
+/// Writes the part in front of what was received, or counts it, if it is there.
+#[inline(always)]
+fn prepend_optional<T: Encode, W: Prepend>(part: &Option<T>, writer: &mut W)
+    requires has { standard.IfPresent T.valid (option_map T.written (option_map T.value part.now)) }
+    requires room { let octets = standard.optional T.printed (option_map T.written (option_map T.value part.now)) in
+        W.has_room writer.old (length octets) }
+    ensures { let octets = standard.optional T.printed (option_map T.written (option_map T.value part.now)) in
+        W.prepended octets writer.old writer.new }
+{
+    if let Some(part) = part {
+        part.prepend(writer);
+    }
+}
+
+/// Appends the part, if it is there.
+fn append_optional<T: Encode, W: Writer>(part: &Option<T>, writer: &mut W) -> Result<()>
+    requires has { standard.IfPresent T.valid (option_map T.written (option_map T.value part.now)) }
+    requires fits { let octets = standard.optional T.printed (option_map T.written (option_map T.value part.now)) in
+        length octets ≤ limit }
+    ensures appends { let s = option_map T.written (option_map T.value part.now) in
+        let octets = standard.optional T.printed s in
+        Appends (standard.IfPresent T.valid s) octets W.room W.written writer.old writer.new result }
+    ensures kept { W.keeps writer.old writer.new }
+{
+    match part {
+        Some(part) => part.append(writer),
+        None => Ok(()),
+    }
+}
+
 impl<T: Encode> EncodeValue for Last<T> {
     ghost refused = { T.Encode.refused };
 
     #[inline(always)]
-    fn value_len(&self) -> Result<Length> {
-        match &self.0 {
-            Some(part) => part.encoded_len(),
-            None => Ok(Length::ZERO),
-        }
+    fn check_value(&self) -> Result<()> {
+        check_optional(&self.0)
     }
 
     #[inline(always)]
-    fn quick_value_len(&self) -> u64 {
-        match &self.0 {
-            Some(part) => part.quick_len(),
-            None => 0,
-        }
+    fn prepend_value<W: Prepend>(&self, writer: &mut W) {
+        prepend_optional(&self.0, writer);
     }
 
-    #[inline(always)]
     fn append_value<W: Writer>(&self, writer: &mut W) -> Result<()> {
-        match &self.0 {
-            Some(part) => part.encode(writer),
-            None => Ok(()),
-        }
+        append_optional(&self.0, writer)
+    }
+}
+
+impl<T: Encode> EncodeValue for BorrowedLast<'_, T> {
+    ghost refused = { T.Encode.refused };
+
+    #[inline(always)]
+    fn check_value(&self) -> Result<()> {
+        check_optional(self.0)
     }
 
     #[inline(always)]
-    fn prepend_value(&self, writer: &mut BackWriter<'_>) {
-        if let Some(part) = &self.0 {
-            part.prepend(writer);
-        }
+    fn prepend_value<W: Prepend>(&self, writer: &mut W) {
+        prepend_optional(self.0, writer);
+    }
+
+    fn append_value<W: Writer>(&self, writer: &mut W) -> Result<()> {
+        append_optional(self.0, writer)
     }
 }
 
@@ -157,22 +216,16 @@ impl<T: EncodeValue + FixedTag> EncodeValue for LastByTag<T> {
     ghost refused = { T.EncodeValue.refused };
 
     #[inline(always)]
-    fn value_len(&self) -> Result<Length> {
-        self.0.value_len()
+    fn check_value(&self) -> Result<()> {
+        self.0.check_value()
     }
 
     #[inline(always)]
-    fn quick_value_len(&self) -> u64 {
-        self.0.quick_value_len()
+    fn prepend_value<W: Prepend>(&self, writer: &mut W) {
+        self.0.prepend_value(writer);
     }
 
-    #[inline(always)]
     fn append_value<W: Writer>(&self, writer: &mut W) -> Result<()> {
         self.0.append_value(writer)
-    }
-
-    #[inline(always)]
-    fn prepend_value(&self, writer: &mut BackWriter<'_>) {
-        self.0.prepend_value(writer);
     }
 }

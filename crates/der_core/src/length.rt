@@ -1,5 +1,5 @@
 //! Lengths.
-ghost use Rattle.std.specs.Prelude.{◌≡◌, ℕ, List, ◌+◌, ◌≤◌, ◌<◌, length, IfOk, IfErr, IfSome, MatchResult, None};
+ghost use Rattle.std.specs.Prelude.{◌≡◌, ℕ, List, ◌+◌, ◌≤◌, ◌<◌, length, IfOk, IfErr, MatchResult};
 ghost use Rattle.der_core.specs.declared.error.ErrorKind.TheVariants.{Overflow};
 ghost use Rattle.std.specs.Int.Digits.{number_from_digits};
 ghost use Rattle.der_core.specs.Words.{limit, IsLength, length_octets, tlv_len, ReadsOrFails, length_at, ReadsEncoding, LengthEncoding, IsExactly, Tlv};
@@ -29,9 +29,6 @@ impl Model for Length {
 
     ghost inverse = { λ n. record { value = n } };
 }
-
-/// What a call returns that tells no length: more than `Length::MAX`.
-pub const UNTOLD: u64 = 4294967296;
 
 /// How many octets a tag, a length and contents of so many octets are. More than `Length::MAX` if the contents are.
 #[inline(always)]
@@ -124,13 +121,7 @@ impl TryFrom<usize> for Length {
         ensures ok { IfOk result (λ n. (n ≡ value) × (value ≤ limit)) }
         ensures err { IfErr result (λ e. (e.kind ≡ ErrorKind.Overflow) × (limit < value)) }
     {
-        if value <= Length::MAX.to_usize() {
-            Ok(Length {
-                value: value as u32,
-            })
-        } else {
-            Err(Error::new(ErrorKind::Overflow))
-        }
+        Length::counted(value as u64)
     }
 }
 
@@ -154,18 +145,18 @@ impl Length {
         }
     }
 
-    /// The length that was told quickly, or `None`.
+    /// The length that was counted. `Overflow` exactly if it exceeds `MAX`.
     #[inline(always)]
-    pub(crate) fn told(number: u64) -> Option<Length>
-        ensures some { IfSome result (λ length. (length ≡ number) × (number ≤ limit)) }
-        ensures none { result ≡ None → limit < number }
+    pub(crate) fn counted(number: u64) -> Result<Length>
+        ensures ok { IfOk result (λ n. (n ≡ number) × (number ≤ limit)) }
+        ensures err { IfErr result (λ e. (e.kind ≡ ErrorKind.Overflow) × (limit < number)) }
     {
-        if number < UNTOLD {
-            Some(Length {
+        if number <= Length::MAX.value as u64 {
+            Ok(Length {
                 value: number as u32,
             })
         } else {
-            None
+            Err(Error::new(ErrorKind::Overflow))
         }
     }
 
@@ -195,10 +186,7 @@ impl Length {
         ensures encoding { (octet : ℕ) (contents encoding : List ℕ)
             → length contents ≡ self → Tlv octet (IsExactly contents) encoding → length encoding ≡ tlv_len self }
     {
-        match Length::told(with_header(self.value as u64)) {
-            Some(total) => Ok(total),
-            None => Err(Error::new(ErrorKind::Overflow)),
-        }
+        Length::counted(with_header(self.value as u64))
     }
 
     /// The length octets (X.690 8.1.3), as few as possible, at most 5.

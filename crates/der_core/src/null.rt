@@ -1,14 +1,9 @@
 //! NULL (X.690 8.8).
 ghost use Rattle.der_core.specs.Words.{null_tag};
 
-use crate::back_writer::BackWriter;
-use crate::encode::EncodeValue;
-use crate::error::Result;
 use crate::grammar::{TagMarker, TaggedBy};
-use crate::length::Length;
-use crate::record::{EncodeInParts, Record};
+use crate::record::{EncodeInParts, Record, RowOperation};
 use crate::tag::Tag;
-use crate::writer::Writer;
 
 /// The tag of NULL.
 #[derive(Drop)]
@@ -41,15 +36,8 @@ impl Record for Null {
 impl EncodeInParts for Null {
     ghost refused = { λ _. ⊥ };
 
-    fn parts_len(&self) -> Result<Length> {
-        ().value_len()
-    }
-
-    fn append_parts<W: Writer>(&self, writer: &mut W) -> Result<()> {
-        ().append_value(writer)
-    }
-
-    fn prepend_parts(&self, writer: &mut BackWriter<'_>) {
-        ().prepend_value(writer);
+    #[inline(always)]
+    fn with_row<O: RowOperation>(&self, operation: &mut O) -> O::Output {
+        operation.apply(&())
     }
 }

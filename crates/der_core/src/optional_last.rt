@@ -4,16 +4,15 @@ ghost use Rattle.standard.specs.Statement as standard;
 ghost use Rattle.der_core.specs.declared.error.ErrorKind.TheVariants as kinds;
 ghost use Rattle.der_core.specs.Words.{AllocatesInParts, AllocatesLast, Optional, Prints, Returns, Tlv, last, last_alike, last_part_asks_as_it, last_shortest, limit, optional_alike, optional_front, optional_last_law, parts, parts_ask_as_each, row, row_alike, row_shortest, tagged, tagged_alike, tagged_shortest, unless, unless_alike, unless_shortest};
 
-use crate::back_writer::BackWriter;
 use crate::decode::{Decode, DecodeValue, read_optional};
-use crate::encode::{Encode, EncodeValue, joined_len};
+use crate::encode::{Encode, EncodeValue};
 use crate::error::{Error, ErrorKind, Result};
 use crate::grammar::{Contents, Encoding, FixedTag};
 use crate::last_part::Last;
-use crate::length::Length;
 use crate::memory::Memory;
 use crate::optional_part::OptionalThen;
 use crate::parts::DecodeParts;
+use crate::prepend::Prepend;
 use crate::tag::Tag;
 use crate::writer::Writer;
 
@@ -93,33 +92,31 @@ impl<T: EncodeValue + FixedTag, A: Encode> EncodeValue for OptionalThen<T, Last<
     ghost refused = { λ t. (t ≡ T.TAG) ⊎ T.EncodeValue.refused t ⊎ A.Encode.refused t };
 
     #[inline(always)]
-    fn value_len(&self) -> Result<Length> {
+    fn check_value(&self) -> Result<()> {
         if A::may_start_with(T::TAG) {
             return Err(Error::new(ErrorKind::Value { tag: T::TAG }));
         }
-        let rest = self.1.value_len();
-        match &self.0 {
-            Some(part) => joined_len(part.encoded_len(), rest),
-            None => rest,
+        if let Some(part) = &self.0 {
+            part.check()?;
         }
+        self.1.check_value()
     }
 
     #[inline(always)]
-    fn append_value<W: Writer>(&self, writer: &mut W) -> Result<()> {
-        match &self.0 {
-            Some(part) => {
-                part.encode(writer)?;
-                self.1.append_value(writer)
-            }
-            None => self.1.append_value(writer),
-        }
-    }
-
-    #[inline(always)]
-    fn prepend_value(&self, writer: &mut BackWriter<'_>) {
+    fn prepend_value<W: Prepend>(&self, writer: &mut W) {
         self.1.prepend_value(writer);
         if let Some(part) = &self.0 {
             part.prepend(writer);
+        }
+    }
+
+    fn append_value<W: Writer>(&self, writer: &mut W) -> Result<()> {
+        match &self.0 {
+            Some(part) => {
+                part.append(writer)?;
+                self.1.append_value(writer)
+            }
+            None => self.1.append_value(writer),
         }
     }
 }

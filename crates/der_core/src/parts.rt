@@ -3,13 +3,12 @@
 ghost use Rattle.std.specs.Prelude.{◌≤◌, ◌⊎◌, List, [], ℕ, length};
 ghost use Rattle.der_core.specs.Words.{AllocatesInParts, Prints, Returns, end_law, limit, no_parts, nothing_asked, one_spelling_shortest, parts, parts_ask_as_each, reading_alike, row, row_alike, row_law, row_shortest};
 
-use crate::back_writer::BackWriter;
 use crate::decode::Decode;
-use crate::encode::{Encode, EncodeValue, joined_len};
+use crate::encode::{Encode, EncodeValue};
 use crate::error::{Error, ErrorKind, Result};
 use crate::grammar::{Contents, Encoding};
-use crate::length::Length;
 use crate::memory::Memory;
+use crate::prepend::Prepend;
 use crate::reader::Octets;
 use crate::writer::Writer;
 
@@ -115,48 +114,37 @@ impl EncodeValue for () {
     ghost refused = { λ _. ⊥ };
 
     #[inline(always)]
-    fn value_len(&self) -> Result<Length> {
-        Ok(Length::ZERO)
+    fn check_value(&self) -> Result<()> {
+        Ok(())
     }
 
     #[inline(always)]
-    fn quick_value_len(&self) -> u64 {
-        0
-    }
+    fn prepend_value<W: Prepend>(&self, _writer: &mut W) {}
 
     #[inline(always)]
     fn append_value<W: Writer>(&self, _writer: &mut W) -> Result<()> {
         Ok(())
     }
-
-    #[inline(always)]
-    fn prepend_value(&self, _writer: &mut BackWriter<'_>) {}
 }
 
 impl<A: Encode, B: EncodeValue> EncodeValue for (A, B) {
     ghost refused = { λ tag. A.Encode.refused tag ⊎ B.EncodeValue.refused tag };
 
     #[inline(always)]
-    fn value_len(&self) -> Result<Length> {
-        let rest = self.1.value_len(); // counted first, so that one sum is kept and not each part's length
-        joined_len(self.0.encoded_len(), rest)
+    fn check_value(&self) -> Result<()> {
+        self.0.check()?;
+        self.1.check_value()
     }
 
     #[inline(always)]
-    fn quick_value_len(&self) -> u64 {
-        let rest = self.1.quick_value_len(); // first, as in `value_len`
-        rest.saturating_add(self.0.quick_len())
+    fn prepend_value<W: Prepend>(&self, writer: &mut W) {
+        self.1.prepend_value(writer);
+        self.0.prepend(writer);
     }
 
     #[inline(always)]
     fn append_value<W: Writer>(&self, writer: &mut W) -> Result<()> {
-        self.0.encode(writer)?;
+        self.0.append(writer)?;
         self.1.append_value(writer)
-    }
-
-    #[inline(always)]
-    fn prepend_value(&self, writer: &mut BackWriter<'_>) {
-        self.1.prepend_value(writer);
-        self.0.prepend(writer);
     }
 }

@@ -1,17 +1,16 @@
 //! Records of parts, mostly SEQUENCEs: a type that names its parts is read and written with no proof of its own.
-ghost use Rattle.std.specs.Prelude.{◌≡◌, ◌≤◌, Err, List, Ok, ℕ, length, refl};
+ghost use Rattle.std.specs.Prelude.{◌≡◌, ◌≤◌, Err, List, Ok, ℕ, length};
 ghost use Rattle.der_core.specs.declared.error.ErrorKind.{ErrorKind};
 ghost use Rattle.der_core.specs.declared.tag.Tag.{Tag as TheTag};
-ghost use Rattle.der_core.specs.Words.{Appends, AreSpelledOnce, Counts, Prepends, RefusedAs, Tells, free_of, limit};
+ghost use Rattle.der_core.specs.Words.{Appends, AreSpelledOnce, Checks, RefusedAs, limit};
 
-use crate::back_writer::BackWriter;
 use crate::decode::DecodeValue;
 use crate::encode::EncodeValue;
 use crate::error::Result;
 use crate::grammar::Contents;
-use crate::length::{Length, UNTOLD};
 use crate::memory::Memory;
 use crate::parts::DecodeParts;
+use crate::prepend::Prepend;
 use crate::tag::Tag;
 use crate::writer::Writer;
 
@@ -47,63 +46,113 @@ where
     }
 }
 
+/// What is done to a row of parts that are written.
+pub trait RowOperation: Sized {
+    /// What it returns.
+    type Output;
+
+    /// What it needs of contents: whether there are some, and which.
+    ghost needs: { Self → Type 0 → List ℕ → Type 0 };
+
+    /// What it returns of contents, and what it becomes. The tags are those of an error `Value`.
+    ghost gives: { Self → Self → Type 0 → List ℕ → (TheTag → Type 0) → Self.Output → Type 0 };
+
+    /// Does it.
+    fn apply<R: EncodeValue>(&mut self, row: &R) -> Self::Output
+        requires { let s = R.written (R.value row.now) in needs self.old (R.valid s) (R.printed s) }
+        ensures { let s = R.written (R.value row.now) in
+            gives self.old self.new (R.valid s) (R.printed s) R.EncodeValue.refused result };
+}
+
+/// Finds out whether the row has contents.
+#[derive(Drop)]
+struct CheckRow;
+
+impl RowOperation for CheckRow {
+    type Output = Result<()>;
+
+    ghost needs = { λ _ _ _. Unit {0} };
+
+    ghost gives = { λ _ _ valid printed refused r. Checks valid r × RefusedAs refused r };
+
+    #[inline(always)]
+    fn apply<R: EncodeValue>(&mut self, row: &R) -> Result<()> {
+        row.check_value()
+    }
+}
+
+/// Writes the row in front of what was received, or counts it.
+#[derive(Drop)]
+struct PrependRow<'w, W> {
+    writer: &'w mut W,
+}
+
+impl<'w, W: Prepend> RowOperation for PrependRow<'w, W> {
+    type Output = ();
+
+    ghost needs = { λ op valid printed. valid × W.has_room op.writer.now (length printed) };
+
+    ghost gives = { λ old new valid printed refused r.
+        (new.writer.ghost_name ≡ old.writer.ghost_name) × W.prepended printed old.writer.now new.writer.now };
+
+    #[inline(always)]
+    fn apply<R: EncodeValue>(&mut self, row: &R) {
+        row.prepend_value(self.writer);
+    }
+}
+
+/// Appends the row.
+#[derive(Drop)]
+struct AppendRow<'w, W> {
+    writer: &'w mut W,
+}
+
+impl<'w, W: Writer> RowOperation for AppendRow<'w, W> {
+    type Output = Result<()>;
+
+    ghost needs = { λ op valid printed. valid × (length printed ≤ limit) };
+
+    ghost gives = { λ old new valid printed refused r.
+        (new.writer.ghost_name ≡ old.writer.ghost_name) × W.keeps old.writer.now new.writer.now
+        × Appends valid printed W.room W.written old.writer.now new.writer.now r };
+
+    #[inline(always)]
+    fn apply<R: EncodeValue>(&mut self, row: &R) -> Result<()> {
+        row.append_value(self.writer)
+    }
+}
+
 /// A type whose contents are written as a row of parts.
 pub trait EncodeInParts: InParts {
-    /// The tags that an error `Value` may have. A type that doesn't say it leaves them open.
-    ghost refused: { TheTag → Type 0 } = { λ _. Unit {0} };
+    /// The tags that an error `Value` may have: those of the row.
+    ghost refused: { TheTag → Type 0 };
 
-    /// The length of the parts that are written. `Value` exactly if the value has none, else `Overflow` exactly if
-    /// they are longer than `Length::MAX`.
-    fn parts_len(&self) -> Result<Length>
-        ensures counts { let s = Self.written (Self.value self.now) in Counts (Self.valid s) (Self.printed s) result }
-        ensures tag { RefusedAs refused result };
-
-    /// The length of the parts that are written, told quickly. More than `Length::MAX` says nothing of them.
-    #[inline(always)]
-    fn quick_parts_len(&self) -> u64
-        ensures { let s = Self.written (Self.value self.now) in Tells (Self.valid s) (Self.printed s) result }
-    {
-        UNTOLD
-    }
-
-    /// Appends the parts. There have to be some, within `Length::MAX`. The only error is `NoRoom`, exactly if the
-    /// writer has too little room, after a beginning of them.
-    fn append_parts<W: Writer>(&self, writer: &mut W) -> Result<()>
-        requires has { Self.valid (Self.written (Self.value self.now)) }
-        requires fits { length (Self.printed (Self.written (Self.value self.now))) ≤ limit }
-        ensures appends { let s = Self.written (Self.value self.now) in
-            Appends (Self.valid s) (Self.printed s) W.room W.written writer.old writer.new result }
-        ensures kept { W.keeps writer.old writer.new };
-
-    /// Writes the parts in front of what is filled. There have to be some, within `Length::MAX`, and room for them.
-    fn prepend_parts(&self, writer: &mut BackWriter<'_>)
-        requires has { Self.valid (Self.written (Self.value self.now)) }
-        requires fits { length (Self.printed (Self.written (Self.value self.now))) ≤ limit }
-        requires room { length (Self.printed (Self.written (Self.value self.now))) ≤ free_of writer.old }
-        ensures { Prepends (Self.printed (Self.written (Self.value self.now))) writer.old writer.new };
+    /// Does this to the row of what is written, whose parts are borrowed. It has at most seven parts: of eight the last
+    /// four are one, whose type is written in parts too.
+    fn with_row<O: RowOperation>(&self, operation: &mut O) -> O::Output
+        requires { let s = Self.written (Self.value self.now) in
+            O.needs operation.old (Self.valid s) (Self.printed s) }
+        ensures { let s = Self.written (Self.value self.now) in
+            O.gives operation.old operation.new (Self.valid s) (Self.printed s) refused result };
 }
 
 impl<T: EncodeInParts> EncodeValue for T {
     ghost refused = { T.EncodeInParts.refused };
 
     #[inline(always)]
-    fn value_len(&self) -> Result<Length> {
-        self.parts_len()
+    fn check_value(&self) -> Result<()> {
+        self.with_row(&mut CheckRow)
     }
 
     #[inline(always)]
-    fn quick_value_len(&self) -> u64 {
-        self.quick_parts_len()
+    fn prepend_value<W: Prepend>(&self, writer: &mut W) {
+        let mut operation = PrependRow { writer };
+        self.with_row(&mut operation);
     }
 
-    #[inline(always)]
     fn append_value<W: Writer>(&self, writer: &mut W) -> Result<()> {
-        self.append_parts(writer)
-    }
-
-    #[inline(always)]
-    fn prepend_value(&self, writer: &mut BackWriter<'_>) {
-        self.prepend_parts(writer);
+        let mut operation = AppendRow { writer };
+        self.with_row(&mut operation)
     }
 }
 

@@ -1,14 +1,13 @@
 //! SEQUENCE OF (X.690 8.10), as a `Vec` of its items.
 ghost use Rattle.std.specs.Prelude.{◌≤◌, List, length, map};
 ghost use Rattle.std.specs.List.{AllByRecursion, concat};
-ghost use Rattle.der_core.specs.Words.{limit, free_of, Prepends, RefusedAs, Tells, AllocatesForItems, AllHave, all_encodings, items, Counts, Appends, Prints, items_alike, items_law, list_shortest};
+ghost use Rattle.der_core.specs.Words.{limit, RefusedAs, AllocatesForItems, AllHave, all_encodings, items, Checks, Appends, Prints, items_alike, items_law, list_shortest};
 
-use crate::back_writer::BackWriter;
 use crate::decode::{Decode, DecodeValue};
-use crate::encode::{Encode, EncodeValue, joined_len};
+use crate::encode::{Encode, EncodeValue};
 use crate::error::{Error, ErrorKind, Result};
 use crate::grammar::{Contents, Encoding, SequenceTag, TaggedBy};
-use crate::length::{Length, UNTOLD};
+use crate::prepend::Prepend;
 use crate::tag::Tag;
 use crate::writer::Writer;
 use std::alloc::Global;
@@ -62,52 +61,23 @@ impl<'a, T: Decode<&'a [u8], Global>> DecodeValue<&'a [u8], Global> for Vec<T> {
     }
 }
 
-/// The total length of the encodings of the items.
-pub(crate) fn items_len<T: Encode>(items: &[T]) -> Result<Length>
-    ensures counts { let have = AllHave (λ x. T.valid (T.written (T.value x))) items.now in
-        Counts have (all_encodings (λ x. T.printed (T.written (T.value x))) items.now) result }
+/// Whether each item has an encoding.
+pub(crate) fn check_items<T: Encode>(items: &[T]) -> Result<()>
+    ensures checks { Checks (AllHave (λ x. T.valid (T.written (T.value x))) items.now) result }
     ensures tag { RefusedAs T.Encode.refused result }
 {
-    let mut total = Ok(Length::ZERO);
     for item in items {
-        total = joined_len(total, item.encoded_len());
-    }
-    total
-}
-
-/// The total length of the encodings of the items, told quickly. More than `Length::MAX` says nothing of them.
-pub(crate) fn quick_items_len<T: Encode>(items: &[T]) -> u64
-    ensures { let have = AllHave (λ x. T.valid (T.written (T.value x))) items.now in
-        Tells have (all_encodings (λ x. T.printed (T.written (T.value x))) items.now) result }
-{
-    let mut total: u64 = 0;
-    for item in items {
-        total = total.saturating_add(item.quick_len());
-    }
-    total.min(UNTOLD)
-}
-
-/// Appends the encodings of the items.
-pub(crate) fn encode_items<T: Encode, W: Writer>(items: &[T], writer: &mut W) -> Result<()>
-    requires has { AllHave (λ x. T.valid (T.written (T.value x))) items.now }
-    requires fits { length (all_encodings (λ x. T.printed (T.written (T.value x))) items.now) ≤ limit }
-    ensures appends { let have = AllHave (λ x. T.valid (T.written (T.value x))) items.now in
-        let octets = all_encodings (λ x. T.printed (T.written (T.value x))) items.now in
-        Appends have octets W.room W.written writer.old writer.new result }
-    ensures kept { W.keeps writer.old writer.new }
-{
-    for item in items {
-        item.encode(writer)?;
+        item.check()?;
     }
     Ok(())
 }
 
-/// Writes the encodings of the items in front of what is filled, the last item first.
-pub(crate) fn prepend_items<T: Encode>(items: &[T], writer: &mut BackWriter<'_>)
+/// Writes the encodings of the items in front of what was received, the last item first.
+pub(crate) fn prepend_items<T: Encode, W: Prepend>(items: &[T], writer: &mut W)
     requires has { AllHave (λ x. T.valid (T.written (T.value x))) items.now }
-    requires fits { length (all_encodings (λ x. T.printed (T.written (T.value x))) items.now) ≤ limit }
-    requires room { length (all_encodings (λ x. T.printed (T.written (T.value x))) items.now) ≤ free_of writer.old }
-    ensures { Prepends (all_encodings (λ x. T.printed (T.written (T.value x))) items.now) writer.old writer.new }
+    requires room { let octets = all_encodings (λ x. T.printed (T.written (T.value x))) items.now in
+        W.has_room writer.old (length octets) }
+    ensures { W.prepended (all_encodings (λ x. T.printed (T.written (T.value x))) items.now) writer.old writer.new }
 {
     let mut left = items.len();
     while left > 0 {
@@ -116,22 +86,33 @@ pub(crate) fn prepend_items<T: Encode>(items: &[T], writer: &mut BackWriter<'_>)
     }
 }
 
+/// Appends the encodings of the items.
+pub(crate) fn append_items<T: Encode, W: Writer>(items: &[T], writer: &mut W) -> Result<()>
+    requires has { AllHave (λ x. T.valid (T.written (T.value x))) items.now }
+    requires fits { length (all_encodings (λ x. T.printed (T.written (T.value x))) items.now) ≤ limit }
+    ensures appends { let have = AllHave (λ x. T.valid (T.written (T.value x))) items.now in
+        let octets = all_encodings (λ x. T.printed (T.written (T.value x))) items.now in
+        Appends have octets W.room W.written writer.old writer.new result }
+    ensures kept { W.keeps writer.old writer.new }
+{
+    for item in items {
+        item.append(writer)?;
+    }
+    Ok(())
+}
+
 impl<T: Encode> EncodeValue for Vec<T> {
     ghost refused = { T.Encode.refused };
 
-    fn value_len(&self) -> Result<Length> {
-        items_len(self.as_slice())
+    fn check_value(&self) -> Result<()> {
+        check_items(self.as_slice())
     }
 
-    fn quick_value_len(&self) -> u64 {
-        quick_items_len(self.as_slice())
+    fn prepend_value<W: Prepend>(&self, writer: &mut W) {
+        prepend_items(self.as_slice(), writer);
     }
 
     fn append_value<W: Writer>(&self, writer: &mut W) -> Result<()> {
-        encode_items(self.as_slice(), writer)
-    }
-
-    fn prepend_value(&self, writer: &mut BackWriter<'_>) {
-        prepend_items(self.as_slice(), writer);
+        append_items(self.as_slice(), writer)
     }
 }

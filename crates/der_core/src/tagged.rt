@@ -1,14 +1,13 @@
 //! Values under a tag of one's own (X.690 8.14).
 ghost use Rattle.std.specs.Prelude.{◌≡◌};
 
-use crate::back_writer::BackWriter;
 use crate::containing::Containing;
 use crate::decode::DecodeValue;
 use crate::encode::EncodeValue;
 use crate::error::Result;
 use crate::grammar::{Contents, TagMarker, TaggedBy};
-use crate::length::Length;
 use crate::memory::Memory;
+use crate::prepend::Prepend;
 use crate::tag::Tag;
 use crate::writer::Writer;
 use std::marker::PhantomData;
@@ -83,20 +82,17 @@ impl<'a, K: TagMarker + Drop, M: Memory, C: DecodeValue<&'a [u8], M>> DecodeValu
 impl<M: TagMarker, C: EncodeValue> EncodeValue for Tagged<M, C> {
     ghost refused = { C.EncodeValue.refused };
 
-    fn value_len(&self) -> Result<Length> {
-        self.contents.value_len()
+    #[inline(always)]
+    fn check_value(&self) -> Result<()> {
+        self.contents.check_value()
     }
 
     #[inline(always)]
-    fn quick_value_len(&self) -> u64 {
-        self.contents.quick_value_len()
+    fn prepend_value<W: Prepend>(&self, writer: &mut W) {
+        self.contents.prepend_value(writer);
     }
 
     fn append_value<W: Writer>(&self, writer: &mut W) -> Result<()> {
         self.contents.append_value(writer)
-    }
-
-    fn prepend_value(&self, writer: &mut BackWriter<'_>) {
-        self.contents.prepend_value(writer);
     }
 }

@@ -4,8 +4,8 @@ ghost use Rattle.standard.specs.Statement as standard;
 ghost use Rattle.der_core.specs.Words.{Answers, Spells, Unwritten, encode_error, ok_of, whole};
 
 use der_core::{
-    BackWriter, Borrowed, Encode, EncodeInParts, EncodeValue, Encoding, Length, OctetStringRef,
-    Record, Result, SequenceTag, TaggedBy, Writer, read_borrowed, write_only,
+    Borrowed, Encode, EncodeInParts, Encoding, OctetStringRef, Record, Result, RowOperation,
+    SequenceTag, TaggedBy, read_borrowed, write_only,
 };
 use spki_core::{AlgorithmView, AnyRef};
 
@@ -43,16 +43,9 @@ impl<A: Encoding, D: Encoding> Record for DigestInfo<A, D> {
 impl<A: Encode, D: Encode> EncodeInParts for DigestInfo<A, D> {
     ghost refused = { λ tag. A.Encode.refused tag ⊎ (D.Encode.refused tag ⊎ ⊥) };
 
-    fn parts_len(&self) -> Result<Length> {
-        (Borrowed(&self.algorithm), (Borrowed(&self.digest), ())).value_len()
-    }
-
-    fn append_parts<W: Writer>(&self, writer: &mut W) -> Result<()> {
-        (Borrowed(&self.algorithm), (Borrowed(&self.digest), ())).append_value(writer)
-    }
-
-    fn prepend_parts(&self, writer: &mut BackWriter<'_>) {
-        (Borrowed(&self.algorithm), (Borrowed(&self.digest), ())).prepend_value(writer);
+    #[inline(always)]
+    fn with_row<O: RowOperation>(&self, operation: &mut O) -> O::Output {
+        operation.apply(&(Borrowed(&self.algorithm), (Borrowed(&self.digest), ())))
     }
 }
 

@@ -4,8 +4,8 @@ ghost use Rattle.standard.specs.Statement as standard;
 ghost use Rattle.der_core.specs.Words.{Answers, Spells, Unwritten, encode_error, ok_of, whole};
 
 use der_core::{
-    BackWriter, Borrowed, Encode, EncodeInParts, EncodeValue, Encoding, Length, Record, Result,
-    SequenceTag, TaggedBy, UintRef, Writer, read_borrowed, write_only,
+    Borrowed, Encode, EncodeInParts, Encoding, Record, Result, RowOperation, SequenceTag, TaggedBy,
+    UintRef, read_borrowed, write_only,
 };
 use spki_core::AlgorithmView;
 
@@ -48,19 +48,10 @@ impl<U: Encoding> Record for DsaParams<U> {
 impl<U: Encode> EncodeInParts for DsaParams<U> {
     ghost refused = { λ tag. U.Encode.refused tag ⊎ (U.Encode.refused tag ⊎ (U.Encode.refused tag ⊎ ⊥)) };
 
-    fn parts_len(&self) -> Result<Length> {
+    #[inline(always)]
+    fn with_row<O: RowOperation>(&self, operation: &mut O) -> O::Output {
         let later = (Borrowed(&self.q), (Borrowed(&self.g), ()));
-        (Borrowed(&self.p), later).value_len()
-    }
-
-    fn append_parts<W: Writer>(&self, writer: &mut W) -> Result<()> {
-        let later = (Borrowed(&self.q), (Borrowed(&self.g), ()));
-        (Borrowed(&self.p), later).append_value(writer)
-    }
-
-    fn prepend_parts(&self, writer: &mut BackWriter<'_>) {
-        let later = (Borrowed(&self.q), (Borrowed(&self.g), ()));
-        (Borrowed(&self.p), later).prepend_value(writer);
+        operation.apply(&(Borrowed(&self.p), later))
     }
 }
 

@@ -1,12 +1,12 @@
 //! A record of two numbers: the value of a DSA or ECDSA signature (RFC 3279 2.2.3).
 
-ghost use Rattle.std.specs.Prelude.{IfErr, length};
+ghost use Rattle.std.specs.Prelude.{◌⊎◌, IfErr, length};
 ghost use Rattle.standard.specs.Statement as standard;
 ghost use Rattle.der_core.specs.Words.{Answers, Spells, Unwritten, encode_error, ok_of, whole};
 
 use der_core::{
-    BackWriter, Borrowed, Encode, EncodeInParts, EncodeValue, Encoding, Length, Record, Result,
-    SequenceTag, TaggedBy, UintRef, Writer, read_borrowed, write_only,
+    Borrowed, Encode, EncodeInParts, Encoding, Record, Result, RowOperation, SequenceTag, TaggedBy,
+    UintRef, read_borrowed, write_only,
 };
 
 /// The value of a DSA or ECDSA signature.
@@ -41,16 +41,11 @@ impl<U: Encoding> Record for DssSigValue<U> {
 }
 
 impl<U: Encode> EncodeInParts for DssSigValue<U> {
-    fn parts_len(&self) -> Result<Length> {
-        (Borrowed(&self.r), (Borrowed(&self.s), ())).value_len()
-    }
+    ghost refused = { λ tag. U.Encode.refused tag ⊎ (U.Encode.refused tag ⊎ ⊥) };
 
-    fn append_parts<W: Writer>(&self, writer: &mut W) -> Result<()> {
-        (Borrowed(&self.r), (Borrowed(&self.s), ())).append_value(writer)
-    }
-
-    fn prepend_parts(&self, writer: &mut BackWriter<'_>) {
-        (Borrowed(&self.r), (Borrowed(&self.s), ())).prepend_value(writer);
+    #[inline(always)]
+    fn with_row<O: RowOperation>(&self, operation: &mut O) -> O::Output {
+        operation.apply(&(Borrowed(&self.r), (Borrowed(&self.s), ())))
     }
 }
 

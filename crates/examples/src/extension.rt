@@ -5,9 +5,9 @@ ghost use Rattle.der_core.specs.Words.{Answers, Spells, Unwritten, boolean_tag, 
 ghost use Rattle.examples.specs.Extension.{IsTrueOctet, critical_part, true_law, true_octets, true_read};
 
 use der_core::{
-    BackWriter, BooleanTag, Borrowed, Contents, DecodeValue, Encode, EncodeInParts, EncodeValue,
-    Encoding, Error, ErrorKind, Length, Memory, OctetStringRef, OneContents, OptionalThen, Record,
-    Result, SequenceTag, Tag, TaggedBy, Writer, read_borrowed, write_only,
+    BooleanTag, Borrowed, Contents, DecodeValue, Encode, EncodeInParts, EncodeValue, Encoding,
+    Error, ErrorKind, Memory, OctetStringRef, OneContents, OptionalThen, Prepend, Record, Result,
+    RowOperation, SequenceTag, Tag, TaggedBy, Writer, read_borrowed, write_only,
 };
 use spki_core::ObjectIdentifier;
 
@@ -77,16 +77,16 @@ impl<'a, M: Memory> DecodeValue<&'a [u8], M> for True {
 impl EncodeValue for True {
     ghost refused = { λ _. ⊥ };
 
-    fn value_len(&self) -> Result<Length> {
-        Length::try_from(1)
+    fn check_value(&self) -> Result<()> {
+        Ok(())
+    }
+
+    fn prepend_value<W: Prepend>(&self, writer: &mut W) {
+        writer.prepend(&[0xff]);
     }
 
     fn append_value<W: Writer>(&self, writer: &mut W) -> Result<()> {
         writer.write(&[0xff])
-    }
-
-    fn prepend_value(&self, writer: &mut BackWriter<'_>) {
-        writer.prepend(&[0xff]);
     }
 }
 
@@ -135,31 +135,17 @@ impl<V: Encoding> Record for Extension<V> {
     }
 }
 
-impl<V: Encode> Extension<V> {
-    /// The part for `critical`.
-    fn critical_part(&self) -> Option<True>
-        ensures { result ≡ critical_part self.now.critical }
-    {
-        if self.critical { Some(True) } else { None }
-    }
-}
-
 impl<V: Encode> EncodeInParts for Extension<V> {
-    ghost refused = { λ tag. (tag ≡ boolean_tag) ⊎ V.Encode.refused tag };
+    ghost refused = { λ tag. ⊥ ⊎ ((tag ≡ boolean_tag) ⊎ ⊥ ⊎ V.Encode.refused tag ⊎ ⊥) };
 
-    fn parts_len(&self) -> Result<Length> {
-        let later = OptionalThen(self.critical_part(), (Borrowed(&self.value), ()));
-        (Borrowed(&self.id), later).value_len()
-    }
-
-    fn append_parts<W: Writer>(&self, writer: &mut W) -> Result<()> {
-        let later = OptionalThen(self.critical_part(), (Borrowed(&self.value), ()));
-        (Borrowed(&self.id), later).append_value(writer)
-    }
-
-    fn prepend_parts(&self, writer: &mut BackWriter<'_>) {
-        let later = OptionalThen(self.critical_part(), (Borrowed(&self.value), ()));
-        (Borrowed(&self.id), later).prepend_value(writer);
+    #[inline(always)]
+    fn with_row<O: RowOperation>(&self, operation: &mut O) -> O::Output {
+        let value = (Borrowed(&self.value), ());
+        if self.critical {
+            operation.apply(&(Borrowed(&self.id), OptionalThen(Some(True), value)))
+        } else {
+            operation.apply(&(Borrowed(&self.id), OptionalThen(None::<True>, value)))
+        }
     }
 }
 

@@ -5,8 +5,8 @@ ghost use Rattle.der_core.specs.Words.{Answers, Spells, Unwritten, encode_error,
 ghost use Rattle.examples.specs.ImplicitPair.{implicit_tag};
 
 use der_core::{
-    BackWriter, Borrowed, Encode, EncodeInParts, EncodeValue, Encoding, Length, Record, Result,
-    Tag, TagMarker, TaggedBy, UintRef, Writer, read_borrowed, write_only,
+    Borrowed, Encode, EncodeInParts, Encoding, Record, Result, RowOperation, Tag, TagMarker,
+    TaggedBy, UintRef, read_borrowed, write_only,
 };
 
 /// The tag `[0]`.
@@ -52,16 +52,9 @@ impl<U: Encoding> Record for ImplicitPair<U> {
 impl<U: Encode> EncodeInParts for ImplicitPair<U> {
     ghost refused = { λ tag. U.Encode.refused tag ⊎ (U.Encode.refused tag ⊎ ⊥) };
 
-    fn parts_len(&self) -> Result<Length> {
-        (Borrowed(&self.first), (Borrowed(&self.second), ())).value_len()
-    }
-
-    fn append_parts<W: Writer>(&self, writer: &mut W) -> Result<()> {
-        (Borrowed(&self.first), (Borrowed(&self.second), ())).append_value(writer)
-    }
-
-    fn prepend_parts(&self, writer: &mut BackWriter<'_>) {
-        (Borrowed(&self.first), (Borrowed(&self.second), ())).prepend_value(writer);
+    #[inline(always)]
+    fn with_row<O: RowOperation>(&self, operation: &mut O) -> O::Output {
+        operation.apply(&(Borrowed(&self.first), (Borrowed(&self.second), ())))
     }
 }
 

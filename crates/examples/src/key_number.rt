@@ -6,8 +6,8 @@ ghost use Rattle.der_core.specs.Words.{bytes_of, nothing_asked, number_contents,
 ghost use Rattle.pkcs1.specs.Words.{held_public_key};
 
 use der_core::{
-    AsUintRef, BackWriter, Contents, DecodeValue, EncodeValue, IntegerTag, Length, Memory, Result,
-    TaggedBy, UintEncoding, UintRef, Writer,
+    AsUintRef, Contents, DecodeValue, EncodeValue, IntegerTag, Memory, Prepend, Result, TaggedBy,
+    UintEncoding, UintRef, Writer,
 };
 use pkcs1::RsaPublicKey;
 
@@ -74,16 +74,16 @@ impl<'a, M: Memory> DecodeValue<&'a [u8], M> for KeyNumber<'a> {
 impl EncodeValue for KeyNumber<'_> {
     ghost refused = { λ _. ⊥ };
 
-    fn value_len(&self) -> Result<Length> {
-        self.number.value_len()
+    fn check_value(&self) -> Result<()> {
+        self.number.check_value()
+    }
+
+    fn prepend_value<W: Prepend>(&self, writer: &mut W) {
+        self.number.prepend_value(writer);
     }
 
     fn append_value<W: Writer>(&self, writer: &mut W) -> Result<()> {
         self.number.append_value(writer)
-    }
-
-    fn prepend_value(&self, writer: &mut BackWriter<'_>) {
-        self.number.prepend_value(writer);
     }
 }
 

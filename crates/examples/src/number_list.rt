@@ -5,8 +5,8 @@ ghost use Rattle.der_core.specs.Words.{DecodesOrMemory, Returns, Unwritten, enco
 ghost use Rattle.examples.specs.NumberList.{IsNumberList, MayAskMemory, NumberListEncoding, number_list_read, numbers_of};
 
 use der_core::{
-    BackWriter, Borrowed, Encode, EncodeInParts, EncodeValue, Encoding, InRange, Length, Record,
-    Result, SequenceTag, TaggedBy, UintRef, Writer, read_owned, write_only,
+    Borrowed, Encode, EncodeInParts, Encoding, InRange, Record, Result, RowOperation, SequenceTag,
+    TaggedBy, UintRef, read_owned, write_only,
 };
 use std::alloc::Global;
 
@@ -44,16 +44,9 @@ impl<U: Encoding> Record for NumberList<U> {
 impl<U: Encode> EncodeInParts for NumberList<U> {
     ghost refused = { λ tag. (tag ≡ integer_tag) ⊎ (U.Encode.refused tag ⊎ ⊥) };
 
-    fn parts_len(&self) -> Result<Length> {
-        (Borrowed(&self.version), (Borrowed(&self.numbers), ())).value_len()
-    }
-
-    fn append_parts<W: Writer>(&self, writer: &mut W) -> Result<()> {
-        (Borrowed(&self.version), (Borrowed(&self.numbers), ())).append_value(writer)
-    }
-
-    fn prepend_parts(&self, writer: &mut BackWriter<'_>) {
-        (Borrowed(&self.version), (Borrowed(&self.numbers), ())).prepend_value(writer);
+    #[inline(always)]
+    fn with_row<O: RowOperation>(&self, operation: &mut O) -> O::Output {
+        operation.apply(&(Borrowed(&self.version), (Borrowed(&self.numbers), ())))
     }
 }
 

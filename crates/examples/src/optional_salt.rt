@@ -5,9 +5,8 @@ ghost use Rattle.der_core.specs.Words.{Answers, Unwritten, encode_error, ok_of};
 ghost use Rattle.examples.specs.Salt.{IsSalt, SaltEncoding, salt_of, salt_read};
 
 use der_core::{
-    BackWriter, Borrowed, Encode, EncodeInParts, EncodeValue, Encoding, Last, Length,
-    OctetStringRef, Record, Result, SequenceTag, TaggedBy, UintRef, Writer, read_borrowed,
-    write_only,
+    Borrowed, BorrowedLast, Encode, EncodeInParts, Encoding, Last, OctetStringRef, Record, Result,
+    RowOperation, SequenceTag, TaggedBy, UintRef, read_borrowed, write_only,
 };
 
 /// A number of iterations, and a salt that is there or not.
@@ -44,16 +43,9 @@ impl<U: Encoding, S: Encoding> Record for OptionalSalt<U, S> {
 impl<U: Encode, S: Encode> EncodeInParts for OptionalSalt<U, S> {
     ghost refused = { λ tag. U.Encode.refused tag ⊎ S.Encode.refused tag };
 
-    fn parts_len(&self) -> Result<Length> {
-        (Borrowed(&self.iterations), Last::borrowed(&self.salt)).value_len()
-    }
-
-    fn append_parts<W: Writer>(&self, writer: &mut W) -> Result<()> {
-        (Borrowed(&self.iterations), Last::borrowed(&self.salt)).append_value(writer)
-    }
-
-    fn prepend_parts(&self, writer: &mut BackWriter<'_>) {
-        (Borrowed(&self.iterations), Last::borrowed(&self.salt)).prepend_value(writer);
+    #[inline(always)]
+    fn with_row<O: RowOperation>(&self, operation: &mut O) -> O::Output {
+        operation.apply(&(Borrowed(&self.iterations), BorrowedLast(&self.salt)))
     }
 }
 

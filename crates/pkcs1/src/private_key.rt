@@ -1,6 +1,6 @@
 //! RSA private keys.
 ghost use Rattle.std.specs.Prelude.{◌≡◌, ◌↔◌, ◌⊎◌, ⊤, IsSome, IsErrAnd};
-ghost use Rattle.der_core.specs.Words.{Appends, Counts, RefusedAs, bytes_of, sequence_tag};
+ghost use Rattle.der_core.specs.Words.{Appends, Checks, Counts, RefusedAs, bytes_of, sequence_tag};
 ghost use Rattle.pkcs1.specs.Words.{AllocatesForKey, ListsNone, PrivateIsValid, PrivateRow, held_private_key, held_public_key, private_alike, private_as, private_key_read, private_key_with, private_law, private_printed, private_shortest, public_part};
 
 mod der;
@@ -11,11 +11,10 @@ use crate::key_numbers::{KeyFront, key_of};
 use crate::public_key::{RsaPublicKey, RsaPublicKeyRef};
 use crate::version::Version;
 use der_core::{
-    BackWriter, Contents, Decode, DecodeFront, DecodeValue, Encode, EncodeValue, Encoding,
-    ErrorKind, Length, Result, SequenceTag, Tag, TaggedBy, UNTOLD, Uint, UintEncoding, UintRef,
-    Writer,
+    Contents, Counter, Decode, DecodeFront, DecodeValue, Encode, EncodeValue, Encoding, ErrorKind,
+    Length, Prepend, Result, SequenceTag, TaggedBy, Uint, UintEncoding, UintRef, Writer,
 };
-use other_prime_info::{OtherPrimeInfos, lists_none, read_other_primes};
+use other_prime_info::{OtherPrimeInfos, read_other_primes, require_listed};
 use std::alloc::{AllocError, Global};
 use std::fmt;
 
@@ -161,6 +160,28 @@ impl<U: Encode> EncodeValue for RsaPrivateKey<U> {
 
     /// As of `EncodeValue`. An empty list of other primes is `Value` of SEQUENCE. Any other tag of `Value` is one that
     /// the type of the numbers names; `UintRef` and `Uint` name none.
+    #[inline(always)]
+    fn check_value(&self) -> Result<()>
+        ensures checks { let s = private_as U.written (private_key_with U.value self.now) in
+            Checks (PrivateIsValid U.valid s) result }
+        ensures tag { RefusedAs (λ tag. (tag ≡ sequence_tag) ⊎ U.Encode.refused tag) result }
+        ensures no_primes { ListsNone self.now.other_prime_infos
+            → IsErrAnd result (λ e. e.kind ≡ ErrorKind.Value sequence_tag) }
+    {
+        require_listed(&self.other_prime_infos)?;
+        self.row().check_value()
+    }
+
+    #[inline(always)]
+    fn prepend_value<W: Prepend>(&self, writer: &mut W) {
+        self.row().prepend_value(writer);
+    }
+
+    fn append_value<W: Writer>(&self, writer: &mut W) -> Result<()> {
+        self.row().append_value(writer)
+    }
+
+    /// As of `EncodeValue`. `Value` is as of `check_value`.
     fn value_len(&self) -> Result<Length>
         ensures counts { let s = private_as U.written (private_key_with U.value self.now) in
             Counts (PrivateIsValid U.valid s) (private_printed U.printed s) result }
@@ -168,27 +189,13 @@ impl<U: Encode> EncodeValue for RsaPrivateKey<U> {
         ensures no_primes { ListsNone self.now.other_prime_infos
             → IsErrAnd result (λ e. e.kind ≡ ErrorKind.Value sequence_tag) }
     {
-        if lists_none(&self.other_prime_infos) {
-            return Err(der_core::Error::new(ErrorKind::Value { tag: Tag::SEQUENCE }));
-        }
-        self.row_len()
+        self.check_value()?;
+        let mut counter = Counter::new();
+        self.prepend_value(&mut counter);
+        counter.length()
     }
 
-    #[inline(always)]
-    fn quick_value_len(&self) -> u64 {
-        let none_listed = lists_none(&self.other_prime_infos);
-        if none_listed {
-            UNTOLD
-        } else {
-            self.quick_row_len()
-        }
-    }
-
-    fn append_value<W: Writer>(&self, writer: &mut W) -> Result<()> {
-        self.append_row(writer)
-    }
-
-    /// As of `EncodeValue`. `Value` is as of `value_len`.
+    /// As of `EncodeValue`. `Value` is as of `check_value`.
     fn encode_value<W: Writer>(&self, writer: &mut W) -> Result<()>
         ensures appends { let s = private_as U.written (private_key_with U.value self.now) in
             let octets = private_printed U.printed s in
@@ -200,10 +207,6 @@ impl<U: Encode> EncodeValue for RsaPrivateKey<U> {
     {
         self.value_len()?;
         self.append_value(writer)
-    }
-
-    fn prepend_value(&self, writer: &mut BackWriter<'_>) {
-        self.prepend_row(writer);
     }
 }
 

@@ -3,9 +3,8 @@
 ghost use Rattle.pkcs1.specs.Words.{public_row};
 
 use der_core::{
-    AsUintRef, BackWriter, Borrowed, Decode, Encode, EncodeInParts, EncodeValue, Encoding,
-    EqualByValue, Length, NoMemory, Record, SequenceTag, TaggedBy, TryClone, Uint, UintEncoding,
-    UintRef, Writer, write_only,
+    AsUintRef, Borrowed, Decode, Encode, EncodeInParts, Encoding, EqualByValue, NoMemory, Record,
+    RowOperation, SequenceTag, TaggedBy, TryClone, Uint, UintEncoding, UintRef, write_only,
 };
 use pkcs1_params::{Error, Result};
 use std::alloc::Global;
@@ -51,39 +50,14 @@ impl<U: Encoding> Record for RsaPublicKey<U> {
 }
 
 impl<U: Encode> EncodeInParts for RsaPublicKey<U> {
-    ghost refused = { U.Encode.refused };
+    ghost use Rattle.std.specs.Prelude.{◌⊎◌};
 
-    fn parts_len(&self) -> der_core::Result<Length> {
-        (
-            Borrowed(&self.modulus),
-            (Borrowed(&self.public_exponent), ()),
-        )
-            .value_len()
-    }
+    ghost refused = { λ tag. U.Encode.refused tag ⊎ (U.Encode.refused tag ⊎ ⊥) };
 
     #[inline(always)]
-    fn quick_parts_len(&self) -> u64 {
-        (
-            Borrowed(&self.modulus),
-            (Borrowed(&self.public_exponent), ()),
-        )
-            .quick_value_len()
-    }
-
-    fn append_parts<W: Writer>(&self, writer: &mut W) -> der_core::Result<()> {
-        (
-            Borrowed(&self.modulus),
-            (Borrowed(&self.public_exponent), ()),
-        )
-            .append_value(writer)
-    }
-
-    fn prepend_parts(&self, writer: &mut BackWriter<'_>) {
-        (
-            Borrowed(&self.modulus),
-            (Borrowed(&self.public_exponent), ()),
-        )
-            .prepend_value(writer);
+    fn with_row<O: RowOperation>(&self, operation: &mut O) -> O::Output {
+        let exponent = (Borrowed(&self.public_exponent), ());
+        operation.apply(&(Borrowed(&self.modulus), exponent))
     }
 }
 

@@ -8,10 +8,10 @@ ghost use Rattle.standard.specs.Statement.{Decodes, IsShortest, PrivateKeyEncodi
 ghost use Rattle.pkcs1_params.specs.declared.error.Error.{Error};
 
 use crate::private_key::RsaPrivateKey;
-use crate::private_key::other_prime_info::lists_none;
+use crate::private_key::other_prime_info::require_listed;
 use crate::public_key::RsaPublicKey;
 use der_core::{
-    Decode, Document, Encode, ErrorKind, FileSystem, SecretDocument, Tag, Uint, UintEncoding,
+    Decode, Document, Encode, ErrorKind, FileSystem, SecretDocument, Uint, UintEncoding,
 };
 use pkcs1_params::Result;
 use std::alloc::Global;
@@ -225,10 +225,7 @@ impl<U: Encode + UintEncoding> EncodeRsaPrivateKey for RsaPrivateKey<U> {
         ensures no_primes { ListsNone self.now.other_prime_infos
             → IsErrAnd result (IsAsn1 (λ e. e.kind ≡ ErrorKind.Value sequence_tag)) }
     {
-        if lists_none(&self.other_prime_infos) {
-            let rejected = der_core::Error::new(ErrorKind::Value { tag: Tag::SEQUENCE });
-            return Err(pkcs1_params::Error::Asn1(rejected));
-        }
+        require_listed(&self.other_prime_infos)?;
         Ok(SecretDocument::encode_msg(alloc, self)?)
     }
 }

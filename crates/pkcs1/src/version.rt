@@ -8,8 +8,8 @@ ghost use Rattle.der_core.specs.Words.{nothing_asked, number_contents, reading_a
 ghost use Rattle.pkcs1.specs.Words.{IsVersionOf, version_law, version_number, version_read, version_shortest};
 
 use der_core::{
-    BackWriter, Contents, DecodeValue, EncodeValue, ErrorKind, IntegerTag, Length, Memory, Result,
-    Tag, TaggedBy, Writer,
+    Contents, DecodeValue, EncodeValue, ErrorKind, IntegerTag, Memory, Prepend, Result, Tag,
+    TaggedBy, Writer,
 };
 use pkcs1_params::Error;
 use std::cmp::Ordering;
@@ -151,15 +151,17 @@ impl<'a, M: Memory> DecodeValue<&'a [u8], M> for Version {
 impl EncodeValue for Version {
     ghost refused = { λ _. ⊥ };
 
-    fn value_len(&self) -> Result<Length> {
-        u8::from(*self).value_len()
+    #[inline(always)]
+    fn check_value(&self) -> Result<()> {
+        Ok(())
+    }
+
+    #[inline(always)]
+    fn prepend_value<W: Prepend>(&self, writer: &mut W) {
+        u8::from(*self).prepend_value(writer);
     }
 
     fn append_value<W: Writer>(&self, writer: &mut W) -> Result<()> {
         u8::from(*self).append_value(writer)
-    }
-
-    fn prepend_value(&self, writer: &mut BackWriter<'_>) {
-        u8::from(*self).prepend_value(writer);
     }
 }

@@ -2,7 +2,7 @@
 use Rattle.std.proofs.Common.{ℕ, List, [], ◌∷◌, ◌++◌, ◌≡◌, ◌≤◌, length, length-append, refl, sym, subst, ap, arith, rules, ◌+◌, true, inl, inr, Option, Some, None}
 use Rattle.der_core.proofs.Lengths.{length_octets-4}
 use Rattle.der_core.specs.Words.{length_octets, octets_grow, tlv_fit, is_allowed}
-use Rattle.pkcs1_params.specs.Words.{InPlace, mgf1_identifier, pss_lawful, source_identifier}
+use Rattle.pkcs1_params.specs.Words.{mgf1_identifier, pss_lawful, source_identifier}
 use Rattle.spki_core.specs.Words.{field}
 use Rattle.standard.specs.Statement.{Algorithm, Field, Fields, IfPresent, IsAlgorithm, IsAny, IsIdentifier, OaepEncoding, OaepParameters, PssEncoding, PssParameters, TagAndContents, algorithm, any, empty_label, integer, limit, mgf1_sha1, optional, sha1, tlv}
 use Rattle.pkcs1_c.specs.Words.{NoStatus, AlgorithmError, AnyError, HashFieldsThen, MaskError, OaepFieldError, OidError, OptionError, PlainError, PssFieldError}
@@ -54,13 +54,6 @@ mgf1_fits = algorithm_parts_fit PlainError mgf1_sha1 mgf1_identifier sha1_fits
 
 empty_label_fits : NoStatus (PlainError empty_label)
 empty_label_fits = algorithm_parts_fit AnyError empty_label source_identifier (empty_fits 4 refl)
-
--- What stands in an identifier has no errors either.
-pub fits_in_place : {V : Type 0} (Encoding : V → List ℕ → Type 0) (Part : V → ℕ → Type 0) (v : V)
-    → ((bytes : List ℕ) → Encoding v bytes → NoStatus (Part v)) → (place : Option ℕ)
-    → (bytes : List ℕ) → InPlace place Encoding v bytes → NoStatus (Part v)
-fits_in_place Encoding Part v fits None bytes p = fits bytes p
-fits_in_place Encoding Part v fits (Some n) bytes p = fits p.1 p.2
 
 -- A field that is first in contents within the limit, and what is behind it.
 module _ {V : Type 0} {Is : V → Type 0} {encoding : V → List ℕ} {WhyNot : V → ℕ → Type 0}

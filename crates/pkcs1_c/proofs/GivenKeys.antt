@@ -1,24 +1,21 @@
 -- Keys and other primes that the caller passes: their numbers, their encodings, their length. For the calls that write
 -- keys, and `src/given_primes.rt`.
-use Rattle.std.proofs.Common.{ℕ, List, [], ◌∷◌, ◌++◌, ◌≡◌, ◌≤◌, ◌∙◌, length, length-append, map, subst, sym, ap, arith, rules, nat_lt, ◌↔◌, slice_index, if◌then◌else◌, ◌+◌, ◌-◌, ◌<◌, take, drop, get_or, refl, Some, Result, Err}
+use Rattle.std.proofs.Common.{ℕ, List, [], ◌∷◌, ◌++◌, ◌≡◌, ◌≤◌, ◌∙◌, length, length-append, map, subst, sym, ap, arith, rules, nat_lt, ◌↔◌, slice_index, if◌then◌else◌, ◌+◌, ◌-◌, ◌<◌, take, drop, get_or, refl, Some}
 use Rattle.std.specs.List.{AllByRecursion, concat}
 use Rattle.std.proofs.lemmas.Grind.{common_steps}
-use Rattle.der_core.specs.Words.{tlv_fit, limit, Spells, all_encodings, Counts, Tells, sum_of_lengths}
+use Rattle.der_core.specs.Words.{tlv_fit, limit, Spells, all_encodings, bytes_of}
 use Rattle.pkcs1.specs.Words.{IsPrivateKey, held_public_key, number_in, public_encoding, public_as_stated, private_as_stated, private_encoding, private_itself, private_stated, private_as, AnyNumber, PrivateIsValid, PublicIsValid, public_row, OtherIsValid, primes_printed, other_from, other_stated}
 use Rattle.pkcs1.specs.Keys as keys
 use Rattle.pkcs1.specs.declared.public_key.RsaPublicKey.{RsaPublicKey}
 use Rattle.standard.specs.Statement as statement
 use Rattle.standard.specs.Statement.{PrivateKeyEncoding, PublicKeyEncoding, integer, integers, octets, optional, sequence, version}
-use Rattle.pkcs1_c.specs.declared.given_number.Number.{Number}
+use Rattle.der_core.specs.declared.integer.uint.UintRef.{UintRef}
 use Rattle.pkcs1_c.specs.declared.private_key.OtherPrime.{OtherPrime}
 use Rattle.pkcs1_c.specs.declared.private_key.PrivateKey.{PrivateKey}
 use Rattle.pkcs1_c.specs.declared.public_key.PublicKey.{PublicKey}
-use Rattle.pkcs1_c.specs.Words.{given_octets_of, NoStatus, NumberError, NumbersError, given_numbers, numbers_of_primes, two_numbers, HasPublicNumbers, HasPrivateNumbers, HaveBytes, number_seen, numbers_of_key, numbers_of_prime, other_prime_seen, other_primes_seen, private_key_seen, public_key_seen, AreCounted, AreTold, given_encoded}
-use Rattle.pkcs1_c.proofs.StructErrors.{numbers_have, numbers_none_apart, numbers_none_both, others_held_more, part_none}
-use Rattle.der_core.proofs.Writing.{counts_joined, tells_joined}
-use Rattle.der_core.proofs.Items.{encodings_behind_len, encodings_more}
-use Rattle.der_core.specs.declared.error.Error.{Error}
-use Rattle.pkcs1_params.proofs.Masks.{uncounted_overflows}
+use Rattle.pkcs1_c.specs.Words.{NoStatus, NumberError, NumbersError, given_numbers, numbers_of_primes, two_numbers, HasPublicNumbers, HasPrivateNumbers, HaveBytes, number_seen, numbers_of_key, numbers_of_prime, other_prime_seen, other_primes_seen, private_key_seen, public_key_seen, given_encoded}
+use Rattle.pkcs1_c.proofs.StructErrors.{numbers_have, numbers_none_apart, numbers_none_both, part_none}
+use Rattle.der_core.proofs.Items.{encodings_around}
 
 -- == Numbers in an encoding within the limit ==
 number_fits : (n : ℕ) → length (octets n) ≤ length (integer n)
@@ -110,14 +107,14 @@ given_private_same key bytes = (
 )
 
 -- What is made has the encodings of what the struct holds.
-pub given_public_spelled : (key : PublicKey) (made : RsaPublicKey Number)
-    → held_public_key given_octets_of made ≡ public_key_seen key
+pub given_public_spelled : (key : PublicKey) (made : RsaPublicKey UintRef)
+    → held_public_key bytes_of made ≡ public_key_seen key
     → (bytes : List ℕ)
-    → GivenPublicSpells (public_row (number_in given_octets_of) made) bytes
+    → GivenPublicSpells (public_row (number_in bytes_of) made) bytes
     ↔ PublicKeyEncoding (public_key_seen key) bytes
 given_public_spelled key made same bytes =
-    subst (λ v. GivenPublicSpells (public_row (number_in given_octets_of) made) bytes ↔ PublicKeyEncoding v bytes) same
-    (public_as_stated.same (public_row (number_in given_octets_of) made) bytes)
+    subst (λ v. GivenPublicSpells (public_row (number_in bytes_of) made) bytes ↔ PublicKeyEncoding v bytes) same
+    (public_as_stated.same (public_row (number_in bytes_of) made) bytes)
 
 pub given_private_spelled : (key : PrivateKey) (others : List OtherPrime) (made : keys.PrivateRow ℕ)
     → private_stated made ≡ private_key_seen key others → (bytes : List ℕ)
@@ -159,26 +156,6 @@ pub given_primes_some : (others : List OtherPrime) → 0 < length others
     → Some (map other_stated (map (λ o. other_from (other_prime_seen o)) others)) ≡ other_primes_seen others
 given_primes_some others some = grind (arith, common_steps, given_stated)
 
--- One more is counted.
-pub counted_more : (others : List OtherPrime) (i : ℕ) (d : OtherPrime) → i < length others → (a b : Result ℕ Error)
-    → AreCounted (take i others) a → Counts (Unit {0}) (given_encoded (get_or others i d)) b
-    → AreCounted (take (i + 1) others) (sum_of_lengths a b)
-counted_more others i d less a b p q =
-    rw (encodings_more (λ _. Unit {0}) given_encoded others i d less)
-    (counts_joined _ _ (λ _ _. tt) (λ _. (tt, tt)) a b p q)
-
--- One more is told, whose numbers can be held.
-pub told_more : (others : List OtherPrime) (i : ℕ) (d : OtherPrime) → i < length others → (m n total : ℕ)
-    → AreTold (take i others) m → NoStatus (NumbersError (numbers_of_prime (get_or others i d)))
-    → Tells (Unit {0}) (given_encoded (get_or others i d)) n → (total ≤ limit → total ≡ m + n)
-    → AreTold (take (i + 1) others) total
-told_more others i d less m n total front held one sum few =
-    let all = tells_joined _ _ m n total front one sum few in (
-      others_held_more others i d less all.0.0 held,
-      all.1 ∙ ap length (sym (encodings_more (λ _. Unit {0}) given_encoded others i d less)),
-      few,
-    )
-
 -- What the compiler takes for an element that isn't there.
 abbrev pub empty_prime : OtherPrime
 empty_prime = record {
@@ -187,21 +164,12 @@ empty_prime = record {
   coefficient = record { ref_ptr = (0, 0); now = [] };
 }
 
--- One of them and those behind it are no more than all.
-pub given_prime_fits : (others : List OtherPrime) (left : ℕ) (d : OtherPrime) → 0 < left → left ≤ length others
-    → length (given_encoded (get_or others (left - 1) d)) + length (all_encodings given_encoded (drop left others))
-    ≤ length (all_encodings given_encoded others)
-given_prime_fits others left d some few =
+-- The encodings of all, with that of the one in front of place `left` in the middle.
+pub around_given : (others : List OtherPrime) (left : ℕ) (d : OtherPrime) → 0 < left → left ≤ length others
+    → all_encodings given_encoded others ≡ all_encodings given_encoded (take (left - 1) others)
+    ++ (given_encoded (get_or others (left - 1) d) ++ all_encodings given_encoded (drop left others))
+around_given others left d some few =
     let next : left - 1 + 1 ≡ left = omega arith in
-    omega (
-      arith,
-      ap (λ k. length (all_encodings given_encoded (drop k others))) next,
-      encodings_behind_len (λ _. Unit {0}) given_encoded others (left - 1) d (omega arith),
-    )
-
--- They are counted, if they are within the limit.
-pub given_primes_not_uncounted : (others : List OtherPrime) (e : Error) → AreCounted others (Err e)
-    → length (all_encodings given_encoded others) ≤ limit → ⊥
-given_primes_not_uncounted others e counted fits =
-    let many = (uncounted_overflows (all_encodings given_encoded others) e.kind tt counted).1 in omega
-    (arith, fits, many)
+    encodings_around (λ _. Unit {0}) given_encoded others (left - 1) d (omega arith)
+    ∙ ap (λ k. all_encodings given_encoded (take (left - 1) others)
+    ++ (given_encoded (get_or others (left - 1) d) ++ all_encodings given_encoded (drop k others))) next

@@ -1,12 +1,12 @@
 -- Why what a program gives isn't written: one status at most, neither 0 nor that of lack of room for a part. For each
 -- call that takes a struct.
-use Rattle.std.proofs.Common.{ℕ, List, [], ◌∷◌, ◌++◌, ◌≡◌, ◌≢◌, ◌+◌, ◌<◌, ◌≤◌, length, take, drop, take-append-drop, get_or, refl, subst, sym, ap, ◌∙◌, arith, rules, Option, Some, None, inl, inr}
+use Rattle.std.proofs.Common.{ℕ, List, [], ◌∷◌, ◌++◌, ◌≡◌, ◌≢◌, ◌+◌, ◌<◌, length, take, drop, take-append-drop, get_or, refl, subst, sym, ap, ◌∙◌, arith, rules, Option, Some, None, inl, inr}
 use Rattle.std.proofs.lemmas.List.{take_more, drop_more}
 use Rattle.der_core.specs.Words.{WhyNoNumber, octets_canonical, octets_number, AllHave}
 use Rattle.der_core.specs.declared.error.ErrorKind.{ErrorKind}
 use Rattle.pkcs1_c.specs.Words.{NoStatus, kind_number, PartThen, NumberError, NumbersError, UnwrittenStatus, numbers_of_primes, OidError, AnyError, OptionError, AlgorithmError, PlainError, HashFieldsThen, PssFieldError, OaepFieldError, HaveBytes, number_seen, numbers_of_prime}
 use Rattle.pkcs1_c.specs.declared.private_key.OtherPrime.{OtherPrime}
-use Rattle.standard.specs.Statement.{Algorithm, IsShortest, OaepParameters, PssParameters, TagAndContents, octets}
+use Rattle.standard.specs.Statement.{Algorithm, OaepParameters, PssParameters, TagAndContents, octets}
 
 -- There is one status at most.
 abbrev pub HasOneStatus : (ℕ → Type 0) → Type 0
@@ -20,16 +20,10 @@ IsNeitherOkNorNoRoom WhyNot = (s : ℕ) → WhyNot s → (0 < s) × (s ≢ 15)
 abbrev pub IsPartError : (ℕ → Type 0) → Type 0
 IsPartError WhyNot = HasOneStatus WhyNot × IsNeitherOkNorNoRoom WhyNot
 
--- Encodings.
-module _ {V : Type 0} (Encoding : V → List ℕ → Type 0) (v : V) (room : ℕ) where
-  -- There is one status at most.
-  pub unwritten_one : HasOneStatus (UnwrittenStatus Encoding v room)
-  unwritten_one s t p q = grind arith
-
-  -- An encoding that fits is written.
-  pub fits_written : (bytes : List ℕ) → IsShortest Encoding v bytes → length bytes ≤ room
-      → NoStatus (UnwrittenStatus Encoding v room)
-  fits_written bytes shortest fits s p = grind arith
+-- There is one reason at most why a value isn't written.
+pub unwritten_one : {V : Type 0} (Encoding : V → List ℕ → Type 0) (v : V) (room : ℕ)
+    → HasOneStatus (UnwrittenStatus Encoding v room)
+unwritten_one Encoding v room s t p q = grind arith
 
 -- Parts.
 module _ (WhyNot Rest : ℕ → Type 0) where

@@ -1,6 +1,5 @@
 -- The definitions of `pkcs1_c`: what the structs of C hold, and which statuses its calls return.
 pub mod GivenPrimesValue
-pub mod NumberValue
 pub mod PrimeLists
 pub mod Status
 pub mod StructErrors

@@ -1,7 +1,7 @@
 //! Algorithm identifiers.
-ghost use Rattle.std.specs.Prelude.{Decides, ◌≡◌, IfOk, IfErr, IsTrue};
-ghost use Rattle.spki_core.specs.Words.{AreNullOrAbsent, IsHash, TagAndContents, any_of, identifier_octets, viewed_with};
-ghost use Rattle.pkcs1_params.specs.Words.{UsesHash, hash_of, with_parameters};
+ghost use Rattle.std.specs.Prelude.{Decides, ◌≡◌, IfOk, IfErr};
+ghost use Rattle.spki_core.specs.Words.{AreNullOrAbsent, IsHash, any_of, identifier_octets, viewed_with};
+ghost use Rattle.pkcs1_params.specs.Words.{UsesHash};
 ghost use Rattle.pkcs1_c.specs.Words.{kind_number, algorithm_seen, mask_gen_seen, AlgorithmIsTidy, MaskGenIsTidy, OidError, PlainError, MaskError};
 
 use crate::bytes::Bytes;
@@ -126,38 +126,6 @@ pub(crate) fn from_c_mask_gen<'a>(
         None
     };
     Ok(AlgorithmView { oid, parameters })
-}
-
-/// Whether there are parameters with this tag.
-#[inline(always)]
-pub(crate) fn has_tag(algorithm: &Algorithm<'_>, tag: Tag) -> bool
-    ensures { let a = algorithm.now in
-        let value : TagAndContents = record { tag = tag.octet; contents = a.parameters.now } in
-        IsTrue result → algorithm_seen a ≡ with_parameters a.oid.now value }
-{
-    algorithm.has_parameters && algorithm.tag == tag.octet()
-}
-
-/// Whether the parameters are NULL, or if `null` is false, whether there are none.
-#[inline(always)]
-fn has_null(null: bool, algorithm: &Algorithm<'_>) -> bool
-    ensures { let a = algorithm.now in IsTrue result → algorithm_seen a ≡ hash_of null a.oid.now }
-{
-    if null {
-        has_tag(algorithm, Tag::NULL) && algorithm.parameters.is_empty()
-    } else {
-        !algorithm.has_parameters
-    }
-}
-
-/// Whether both hash functions have NULL, or if `null` is false, whether none has parameters.
-#[inline(always)]
-pub(crate) fn have_null(null: bool, hash: &Algorithm<'_>, mask_gen: &MaskGen<'_>) -> bool
-    ensures hash { IsTrue result → algorithm_seen hash.now ≡ hash_of null hash.now.oid.now }
-    ensures mask_gen { let under = hash_of null mask_gen.now.hash.oid.now in
-        IsTrue result → mask_gen_seen mask_gen.now ≡ with_parameters mask_gen.now.oid.now under }
-{
-    has_null(null, hash) && mask_gen.has_hash && has_null(null, &mask_gen.hash)
 }
 
 /// Whether two identifiers have the same octets, out of line.

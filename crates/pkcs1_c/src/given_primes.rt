@@ -1,37 +1,32 @@
 //! Other primes that the caller passes, written from the caller's array.
-ghost use Rattle.std.specs.Prelude.{◌≡◌, ◌+◌, ◌≤◌, ◌<◌, length, IsTrue, IfOk, IfErr, IfSome, OnOk, OnSome};
-ghost use Rattle.der_core.specs.Words.{Prepends, free_of, limit, Appends, Counts};
+ghost use Rattle.std.specs.Prelude.{◌≡◌, ◌≤◌, ◌<◌, length, IfOk, IfErr, OnOk};
+ghost use Rattle.der_core.specs.Words.{Appends, bytes_of, limit};
 ghost use Rattle.pkcs1.specs.Words.{held_other_prime};
-ghost use Rattle.pkcs1_c.specs.NumberValue.{given_octets_of};
-ghost use Rattle.pkcs1_c.specs.PrimeLists.{AreCounted, AreCounted-prop, AreTold, given_encoded, prime_encoded};
+ghost use Rattle.pkcs1_c.specs.PrimeLists.{given_encoded};
 ghost use Rattle.pkcs1_c.specs.Status.{NoStatus, status_of};
 ghost use Rattle.pkcs1_c.specs.StructErrors.{NumbersError, numbers_of_primes};
 ghost use Rattle.pkcs1_c.specs.Structs.{numbers_of_prime, other_prime_seen, other_primes_seen};
 
-use crate::given_number::Number;
-use crate::numbers::{number, quick_number};
+use crate::numbers::number;
 use crate::private_key::OtherPrime;
 use der_core::{
-    BackWriter, Contents, Encode, EncodeValue, Error, ErrorKind, Length, Result, SequenceTag,
-    TaggedBy, UNTOLD, Writer, joined_len,
+    Contents, Encode, EncodeValue, Error, ErrorKind, Prepend, Result, SequenceTag, TaggedBy,
+    UintRef, Writer,
 };
 use pkcs1::OtherPrimeInfo;
 
-/// The other primes of the caller's array: at least one, and each number can be held. Their length is counted once. So
-/// no more octets are written than were counted, even where another thread changes the numbers meanwhile.
+/// The other primes of the caller's array: at least one, and each number can be held.
 #[derive(Clone, Copy, Drop)]
 pub struct GivenPrimes<'a> {
     others: &'a [OtherPrime<'a>],
-    len: Result<Length>,
     ghost some: { 0 < length others.now },
     ghost held: { NoStatus (NumbersError (numbers_of_primes others.now)) },
-    ghost counted: { AreCounted others.now len } by { AreCounted-prop others.now len },
 }
 
 /// The prime with these numbers.
 #[inline(always)]
-fn from_c_other_prime<'a>(other: &OtherPrime<'a>) -> pkcs1::Result<OtherPrimeInfo<Number<'a>>>
-    ensures ok { IfOk result (λ info. held_other_prime given_octets_of info ≡ other_prime_seen other.now) }
+fn from_c_other_prime<'a>(other: &OtherPrime<'a>) -> pkcs1::Result<OtherPrimeInfo<UintRef<'a>>>
+    ensures ok { IfOk result (λ info. held_other_prime bytes_of info ≡ other_prime_seen other.now) }
     ensures held { OnOk result (NoStatus (NumbersError (numbers_of_prime other.now))) }
     ensures err { IfErr result (λ e. NumbersError (numbers_of_prime other.now) (status_of e)) }
 {
@@ -42,96 +37,31 @@ fn from_c_other_prime<'a>(other: &OtherPrime<'a>) -> pkcs1::Result<OtherPrimeInf
     })
 }
 
-/// The prime with these numbers, as of `quick_number`: `None` says nothing of them.
-#[inline(always)]
-fn quick_other_prime<'a>(other: &OtherPrime<'a>) -> Option<OtherPrimeInfo<Number<'a>>>
-    ensures some { IfSome result (λ info. held_other_prime given_octets_of info ≡ other_prime_seen other.now) }
-    ensures held { OnSome result (NoStatus (NumbersError (numbers_of_prime other.now))) }
+/// Writes a prime in front of what was received, or counts it. It does nothing only if another thread has changed the
+/// octets.
+fn prepend_given<W: Prepend>(other: &OtherPrime<'_>, writer: &mut W)
+    requires held { NoStatus (NumbersError (numbers_of_prime other.now)) }
+    requires room { W.has_room writer.old (length (given_encoded other.now)) }
+    ensures { W.prepended (given_encoded other.now) writer.old writer.new }
 {
-    Some(OtherPrimeInfo {
-        prime: quick_number(other.prime)?,
-        exponent: quick_number(other.exponent)?,
-        coefficient: quick_number(other.coefficient)?,
-    })
-}
-
-/// The length of a prime's encoding.
-#[inline(always)]
-fn length_of(info: &OtherPrimeInfo<Number<'_>>) -> Result<Length>
-    ensures { Counts (Unit {0}) (prime_encoded (held_other_prime given_octets_of info.now)) result }
-{
-    info.encoded_len()
-}
-
-/// The total length of the primes' encodings, told quickly: then each number can be held. More than `Length::MAX` says
-/// nothing of them.
-#[inline(never)]
-fn quick_total(others: &[OtherPrime<'_>]) -> u64
-    ensures { AreTold others.now result }
-{
-    let mut total: u64 = 0;
-    for other in others {
-        let Some(info) = quick_other_prime(other) else {
-            return UNTOLD;
-        };
-        total = total.saturating_add(info.quick_len());
-        if total >= UNTOLD {
-            return UNTOLD;
-        }
+    match from_c_other_prime(other) {
+        Ok(info) => info.prepend(writer),
+        Err(_) => {}
     }
-    total
 }
 
 /// Appends a prime.
 fn append_given<W: Writer>(other: &OtherPrime<'_>, writer: &mut W) -> Result<()>
     requires held { NoStatus (NumbersError (numbers_of_prime other.now)) }
+    requires fits { length (given_encoded other.now) ≤ limit }
     ensures appends { let octets = given_encoded other.now in
         Appends (Unit {0}) octets W.room W.written writer.old writer.new result }
     ensures kept { W.keeps writer.old writer.new }
 {
     match from_c_other_prime(other) {
-        Ok(info) => info.encode(writer),
+        Ok(info) => info.append(writer),
         Err(_) => Err(Error::new(ErrorKind::Failed)), // another thread changed the octets
     }
-}
-
-/// Whether a bound on the octets of the prime's encoding says that they are no more than `left`.
-#[inline(always)]
-fn is_surely_within(info: &OtherPrimeInfo<Number<'_>>, left: usize) -> bool
-    ensures { let octets = length (prime_encoded (held_other_prime given_octets_of info.now)) in
-        IsTrue result → octets ≤ limit → octets ≤ left }
-{
-    let numbers = info.prime.octets_at_most()
-        + info.exponent.octets_at_most()
-        + info.coefficient.octets_at_most();
-    numbers + 6 <= left
-}
-
-/// Writes a prime in front of what is filled, and leaves `least` octets free. It is false only if another thread
-/// changed the octets.
-fn prepend_given(other: &OtherPrime<'_>, least: usize, writer: &mut BackWriter<'_>) -> bool
-    requires held { NoStatus (NumbersError (numbers_of_prime other.now)) }
-    requires fits { length (given_encoded other.now) ≤ limit }
-    requires room { length (given_encoded other.now) + least ≤ free_of writer.old }
-    ensures is { IsTrue result }
-    ensures prepends { Prepends (given_encoded other.now) writer.old writer.new }
-{
-    let info = match quick_other_prime(other) {
-        Some(info) => info,
-        None => match from_c_other_prime(other) {
-            Ok(info) => info,
-            Err(_) => return false,
-        },
-    };
-    let left = writer.free() - least;
-    if !is_surely_within(&info, left) {
-        match length_of(&info) {
-            Ok(length) if length.to_usize() <= left => {}
-            _ => return false,
-        }
-    }
-    info.prepend(writer);
-    true
 }
 
 impl<'a> GivenPrimes<'a> {
@@ -148,29 +78,10 @@ impl<'a> GivenPrimes<'a> {
         if others.is_empty() {
             return Ok(None);
         }
-        let mut len = Ok(Length::ZERO);
         for other in others {
-            let info = from_c_other_prime(other)?;
-            len = joined_len(len, length_of(&info));
+            from_c_other_prime(other)?;
         }
-        Ok(Some(GivenPrimes { others, len }))
-    }
-
-    /// The primes of the array, or `None` if it is empty. The outer `None` says nothing of them.
-    #[inline(always)]
-    pub(crate) fn quick(others: &'a [OtherPrime<'a>]) -> Option<Option<GivenPrimes<'a>>>
-        ensures some { IfSome result (λ given. option_map held_primes given ≡ other_primes_seen others.now) }
-        ensures held { OnSome result (NoStatus (NumbersError (numbers_of_primes others.now))) }
-    {
-        if others.is_empty() {
-            return Some(None);
-        }
-        let total = quick_total(others);
-        if total >= UNTOLD {
-            return None;
-        }
-        let len = Ok(Length::of(total as usize));
-        Some(Some(GivenPrimes { others, len }))
+        Ok(Some(GivenPrimes { others }))
     }
 }
 
@@ -213,15 +124,18 @@ impl TaggedBy for GivenPrimes<'_> {
 }
 
 impl EncodeValue for GivenPrimes<'_> {
-    fn value_len(&self) -> Result<Length> {
-        self.len
-    }
+    ghost refused = { λ _. ⊥ };
 
     #[inline(always)]
-    fn quick_value_len(&self) -> u64 {
-        match self.value_len() {
-            Ok(length) => length.to_usize() as u64,
-            Err(_) => UNTOLD,
+    fn check_value(&self) -> Result<()> {
+        Ok(())
+    }
+
+    fn prepend_value<W: Prepend>(&self, writer: &mut W) {
+        let mut left = self.others.len();
+        while left > 0 {
+            left -= 1;
+            prepend_given(&self.others[left], writer);
         }
     }
 
@@ -230,19 +144,5 @@ impl EncodeValue for GivenPrimes<'_> {
             append_given(other, writer)?;
         }
         Ok(())
-    }
-
-    fn prepend_value(&self, writer: &mut BackWriter<'_>) {
-        let Ok(length) = self.len else {
-            return;
-        };
-        let least = writer.free() - length.to_usize();
-        let mut left = self.others.len();
-        while left > 0 {
-            left -= 1;
-            if !prepend_given(&self.others[left], least, writer) {
-                return;
-            }
-        }
     }
 }

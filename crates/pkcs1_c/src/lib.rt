@@ -7,7 +7,6 @@ mod bytes;
 mod container;
 mod filled;
 mod given_key;
-mod given_number;
 mod given_primes;
 mod meanings;
 mod numbers;

@@ -5,11 +5,10 @@ ghost use Rattle.pkcs1_c.specs.Words.{FieldsError, IsErrorOf, IsStatusOf, OaepFi
 ghost use Rattle.standard.specs.Statement.{Decodes, IsShortest, OaepAlgorithmEncoding};
 
 use crate::filled::fill;
-use crate::oaep::{OaepParams, to_c_oaep, write_known, write_others};
+use crate::oaep::{OaepParams, from_c_oaep, to_c_oaep};
 use crate::status::{OK, status};
-use crate::written::written_status;
-use pkcs1::{FromAlgorithm, RsaOaepParamsView};
-use pkcs1_params::RSAES_OAEP;
+use crate::written::write_algorithm;
+use pkcs1::{FromAlgorithm, RsaOaepParamsView, RsaesOaep};
 
 /// Decodes the algorithm identifier of RSAES-OAEP with its parameters, as `pkcs1_c_oaep_params_decode` does the
 /// parameters. Another algorithm is rejected with status 7, one without parameters with status 10.
@@ -64,8 +63,8 @@ pub extern "C" fn pkcs1_c_oaep_algorithm_encode(
     ensures exact { let v = oaep_seen params.now in
         IsErrorOf (FieldsError OaepFieldError OaepAlgorithmEncoding v (length out.old)) result }
 {
-    match write_known(true, params, Some(RSAES_OAEP), out) {
-        Some(written) => written_status(written, len),
-        None => write_others(params, Some(RSAES_OAEP), out, len),
+    match from_c_oaep(params) {
+        Ok(made) => write_algorithm::<RsaesOaep, _>(&made, out, len),
+        Err(failure) => status(&failure),
     }
 }

@@ -5,11 +5,10 @@ ghost use Rattle.pkcs1_c.specs.Words.{FieldsError, IsErrorOf, IsStatusOf, PssFie
 ghost use Rattle.standard.specs.Statement.{Decodes, IsShortest, PssAlgorithmEncoding};
 
 use crate::filled::fill;
-use crate::pss::{PssParams, to_c_pss, write_known, write_others};
+use crate::pss::{PssParams, from_c_pss, to_c_pss};
 use crate::status::{OK, status};
-use crate::written::written_status;
-use pkcs1::{FromAlgorithm, RsaPssParamsView};
-use pkcs1_params::RSASSA_PSS;
+use crate::written::write_algorithm;
+use pkcs1::{FromAlgorithm, RsaPssParamsView, RsassaPss};
 
 /// Decodes the algorithm identifier of RSASSA-PSS with its parameters, as `pkcs1_c_pss_params_decode` does the
 /// parameters. Another algorithm is rejected with status 7, one without parameters with status 10.
@@ -63,8 +62,8 @@ pub extern "C" fn pkcs1_c_pss_algorithm_encode(
     ensures exact { let v = pss_seen params.now in
         IsErrorOf (FieldsError PssFieldError PssAlgorithmEncoding v (length out.old)) result }
 {
-    match write_known(true, params, Some(RSASSA_PSS), out) {
-        Some(written) => written_status(written, len),
-        None => write_others(params, Some(RSASSA_PSS), out, len),
+    match from_c_pss(params) {
+        Ok(made) => write_algorithm::<RsassaPss, _>(&made, out, len),
+        Err(failure) => status(&failure),
     }
 }

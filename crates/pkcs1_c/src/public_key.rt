@@ -1,15 +1,15 @@
 //! Public keys.
 ghost use Rattle.std.specs.Prelude.{◌≡◌, ◌≢◌, length, IfOk, IfErr, OnOk, Some, None};
+ghost use Rattle.der_core.specs.Words.{bytes_of};
 ghost use Rattle.pkcs1.specs.Words.{held_public_key, rsa_public_key};
-ghost use Rattle.pkcs1_c.specs.Words.{EncodingIfHeld, HasPublicNumbers, HoldsPublicKey, IsErrorOf, IsStatusOf, NoStatus, NumbersError, PublicKeyError, WritesOrTells, given_octets_of, public_key_seen, status_of, two_numbers};
+ghost use Rattle.pkcs1_c.specs.Words.{EncodingIfHeld, HasPublicNumbers, HoldsPublicKey, IsErrorOf, IsStatusOf, NoStatus, NumbersError, PublicKeyError, WritesOrTells, public_key_seen, status_of, two_numbers};
 ghost use Rattle.standard.specs.Statement as statement;
 ghost use Rattle.standard.specs.Statement.{Decodes, PublicKeyEncoding};
 
-use crate::given_number::Number;
 use crate::numbers::number;
 use crate::status::{OK, status};
 use crate::written::write_encoding;
-use pkcs1::{RsaPublicKey, RsaPublicKeyRef};
+use pkcs1::{RsaPublicKey, RsaPublicKeyRef, UintRef};
 
 /// The numbers of a public key, most significant byte first.
 #[repr(C)]
@@ -42,8 +42,8 @@ pub extern "C" fn pkcs1_c_public_key_decode<'a>(encoding: &'a [u8], key: &mut Pu
 }
 
 /// The key with these numbers.
-fn from_c_key<'a>(key: &PublicKey<'a>) -> pkcs1::Result<RsaPublicKey<Number<'a>>>
-    ensures ok { IfOk result (λ made. held_public_key given_octets_of made ≡ public_key_seen key.now) }
+fn from_c_key<'a>(key: &PublicKey<'a>) -> pkcs1::Result<RsaPublicKey<UintRef<'a>>>
+    ensures ok { IfOk result (λ made. held_public_key bytes_of made ≡ public_key_seen key.now) }
     ensures held { OnOk result (NoStatus (NumbersError (two_numbers key.now))) }
     ensures err { IfErr result (λ e. NumbersError (two_numbers key.now) (status_of e)) }
 {

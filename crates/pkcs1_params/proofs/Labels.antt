@@ -1,14 +1,13 @@
 -- Parameters with a label: their encodings, by the length of the label. For `src/label.rt`.
-use Rattle.std.proofs.Common.{ℕ, List, [], ◌∷◌, ◌++◌, ◌≡◌, ◌<◌, ◌≤◌, length, true, false, subst, sym, ap, ◌∙◌, arith, append-nil, append_assoc, Bool, Result, Ok, Err, refl, IfOk, IfErr, if◌then◌else◌, is_ok}
+use Rattle.std.proofs.Common.{ℕ, List, [], ◌∷◌, ◌++◌, ◌≡◌, ◌<◌, ◌≤◌, length, true, false, subst, sym, ap, ◌∙◌, arith, append-nil, append_assoc, length-append, ◌+◌, Bool, Result, Ok, Err, refl, IfOk, IfErr, if◌then◌else◌, is_ok}
 use Rattle.std.specs.Prelude.{⊤}
-use Rattle.der_core.proofs.Writing.{counts_joined}
-use Rattle.der_core.specs.Words.{AreBytes, limit, Counts, sum_of_lengths}
+use Rattle.der_core.specs.Words.{AreBytes, limit, Counts}
 use Rattle.der_core.specs.declared.error.Error.{Error}
 use Rattle.der_core.specs.declared.error.ErrorKind.TheVariants as kind
 use Rattle.spki_core.specs.Words.{WrittenField, field_with, octets_under, out_under, record_under, rest_under, spelling_printed}
 use Rattle.spki_core.proofs.RecordEncodings.{encoding_under, encoding_under_zero_shortest, zero_least}
 use Rattle.pkcs1_params.specs.Words.{CountsLabelled, source_with, written_labelled, written_source, mgf1_identifier, oaep_record, source_identifier, LabelFits, NoLabelFits, labelled, hash_kind, mask_kind, oaep_kinds, source_kind, id_p_specified}
-use Rattle.pkcs1_params.proofs.Masks.{octets_under_spelled, uncounted_overflows}
+use Rattle.pkcs1_params.proofs.Masks.{counts_as, octets_under_spelled, uncounted_overflows}
 use Rattle.standard.specs.Statement.{IsIdentifier, IsOaep, OaepParameters, sequence, tlv}
 
 -- The source of a label that isn't empty is written.
@@ -47,7 +46,7 @@ octets_last (g ∷ fs) f = go g.is_default (octets_last fs f)
         ∙ sym (append_assoc g.octets (octets_under 0 fs) (if f.is_default then [] else f.octets))
 
 -- The source comes last.
-labelled_written : (oid label : List ℕ) → written_labelled oid label ≡ written_before oid ++ written_source label
+pub labelled_written : (oid label : List ℕ) → written_labelled oid label ≡ written_before oid ++ written_source label
 labelled_written oid label =
     let p = labelled oid [] in
     octets_last (field_with hash_kind p.hash ∷ field_with mask_kind p.mask_gen ∷ [])
@@ -64,29 +63,29 @@ pub label_counted : (label : List ℕ) (n : ℕ) (r : Result ℕ Error) → leng
 label_counted label n (Ok m) e ok err = (tt, omega arith, omega arith)
 label_counted label n (Err x) e ok err = rw err.0 (tt, omega arith)
 
--- Its field is counted, by both parts of its contents.
-pub source_counted : (label : List ℕ) (identifier octets : Result ℕ Error)
-    → Counts (IsIdentifier id_p_specified) (tlv 6 id_p_specified) identifier → Counts ⊤ (tlv 4 label) octets
-    → Counts ⊤ (tlv 6 id_p_specified ++ tlv 4 label) (sum_of_lengths identifier octets)
-source_counted label =
-    counts_joined (tlv 6 id_p_specified) (tlv 4 label) (λ (_ : IsIdentifier id_p_specified) (_ : ⊤). tt)
-    (λ (_ : ⊤). (source_identifier, tt))
+-- Octets that aren't counted are too many, and so are more.
+pub longer_uncounted : (a b : List ℕ) (e : Error) → length a ≤ length b → Counts ⊤ a (Err e) → Counts ⊤ b (Err e)
+longer_uncounted a b e more h =
+    let many = uncounted_overflows a e.kind tt h in rw many.0 (tt, omega (arith, many.1, more))
+
+-- Two parts are counted by their sum.
+pub sum_counted : (a b : List ℕ) (m n : ℕ) (r : Result ℕ Error) → m ≡ length a → n ≡ length b
+    → IfOk r (λ s. (s ≡ m + n) × (s ≤ limit)) → IfErr r (λ e. (e.kind ≡ kind.Overflow) × (limit < m + n))
+    → Counts ⊤ (a ++ b) r
+sum_counted a b m n (Ok s) p q ok err = (tt, omega (arith, p, q, ok.0, length-append a b), ok.1)
+sum_counted a b m n (Err e) p q ok err = rw err.0 (tt, omega (arith, p, q, err.1, length-append a b))
 
 -- Those without a label are counted, and then the source.
-pub labelled_counted : {Has : Type 0} (oid label : List ℕ) (v : OaepParameters) (contents source : Result ℕ Error)
+pub labelled_counted : {Has : Type 0} (oid label : List ℕ) (v : OaepParameters) (contents : Result ℕ Error)
     → Has → v ≡ labelled oid []
     → Counts Has (spelling_printed oaep_kinds (record_under oaep_record 0 v)) contents
-    → Counts ⊤ (written_source label) source
-    → Counts ⊤ (written_labelled oid label) (sum_of_lengths contents source)
-labelled_counted {Has} oid label v contents source has same c d =
+    → Counts ⊤ (written_before oid) contents
+labelled_counted {Has} oid label v contents has same c =
     let before : spelling_printed oaep_kinds (record_under oaep_record 0 v) ≡ written_before oid =
     ap (λ u. spelling_printed oaep_kinds (record_under oaep_record 0 u)) same
     ∙ sym (octets_under_spelled oaep_record (labelled oid []) 0 _ refl)
     ∙ labelled_written oid [] ∙ append-nil (written_before oid) in
-    let counted : Counts Has (written_before oid) contents = subst (λ z. Counts Has z contents) before c in
-    subst (λ z. Counts ⊤ z (sum_of_lengths contents source)) (sym (labelled_written oid label))
-    (counts_joined (written_before oid) (written_source label) (λ (_ : Has) (_ : ⊤). tt) (λ (_ : ⊤). (has, tt))
-    contents source counted d)
+    counts_as (written_before oid) contents (λ _. tt) (λ _. has) (subst (λ z. Counts Has z contents) before c)
 
 -- Where the encoding is counted, one fits, and else none does.
 pub label_fits_where_counted : (oid : List ℕ) (n : ℕ) (r : Result ℕ Error) → is_ok r ≡ true

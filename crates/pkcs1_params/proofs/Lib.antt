@@ -4,6 +4,5 @@ pub mod Masks
 pub mod Faults
 pub mod ParameterReads
 pub mod WholeParameters
-pub mod KnownParameters
 pub mod Labels
 pub mod Wrapped

@@ -1,5 +1,5 @@
--- SEQUENCEs of an identifier and parameters: each encoding of the parameters stands in one. For algorithm identifiers:
--- `src/algorithm.rt`, `src/known.rt` and their laws.
+-- SEQUENCEs of an identifier and parameters: each encoding of the parameters stands in one. For `src/algorithm.rt` and
+-- the laws of algorithm identifiers.
 use Rattle.std.proofs.Common.{ℕ, List, [], ◌++◌, ◌≡◌, ◌<◌, ◌≤◌, ◌^◌, length, drop, map, refl, sym, subst, ap, ◌∙◌, arith, inl, inr, length-append, append-nil, ◌+◌, slice_index_or, Option, Some, None}
 use Rattle.std.proofs.Math.Seq.{drop-append_seam}
 use Rattle.std.proofs.lemmas.Bool.{cases_lt}
@@ -53,7 +53,7 @@ module _ (oid : List ℕ) where
       (wrapped_front p q [] few (omega (arith, ap length is)) (append-nil (wrapped p) ∙ is)).0
 
   -- What the identifier holds encodes its parameters.
-  pub wrapped_inner_encodes : {V : Type 0} (E : V → List ℕ → Type 0) (v : V) (bytes p : List ℕ)
+  wrapped_inner_encodes : {V : Type 0} (E : V → List ℕ → Type 0) (v : V) (bytes p : List ℕ)
       → AlgorithmEncoding oid E v bytes
       → bytes ≡ wrapped p → E v p
   wrapped_inner_encodes E v bytes p (few, q, holds, is) given =
@@ -61,7 +61,7 @@ module _ (oid : List ℕ) where
 
   -- The shortest encoding of the identifier holds the shortest of the parameters.
   module _ {V : Type 0} (E : V → List ℕ → Type 0) (v : V) (p : List ℕ) (few : length (wrapped p) ≤ limit) where
-    pub shortest_outside : IsShortest E v p → IsShortest (AlgorithmEncoding oid E) v (wrapped p)
+    shortest_outside : IsShortest E v p → IsShortest (AlgorithmEncoding oid E) v (wrapped p)
     shortest_outside s = (
       (few, p, s.0, refl),
       λ other (within, q, holds, is). elim (s.1 q holds) [

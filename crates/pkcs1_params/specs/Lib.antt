@@ -10,6 +10,5 @@ pub mod Meanings
 pub mod ParameterReadings
 pub mod DefaultBits
 pub mod Algorithms
-pub mod KnownOctets
 pub mod Laws
 pub mod Words

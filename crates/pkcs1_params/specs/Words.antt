@@ -2,7 +2,7 @@
 pub use Rattle.pkcs1_params.specs.Algorithms.{Identifies, NamesFirstDefaultIn, PlainEncoding, identified, parameters_as, rsa_oaep_algorithm, rsa_pss_algorithm, strict_oaep_algorithm, strict_pss_algorithm, whole_algorithm}
 pub use Rattle.pkcs1_params.specs.DefaultBits.{bit_of, bits_of}
 pub use Rattle.pkcs1_params.specs.Errors.{IsAsn1, error_text}
-pub use Rattle.pkcs1_params.specs.HashFunctions.{AreSameMask, AreSameOaep, AreSamePss, UsesHash, hash_algorithm, id_sha224, id_sha256, id_sha384, id_sha512, id_sha512_224, id_sha512_256}
+pub use Rattle.pkcs1_params.specs.HashFunctions.{AreSameMask, AreSameOaep, AreSamePss, UsesHash, id_sha224, id_sha256, id_sha384, id_sha512, id_sha512_224, id_sha512_256}
 pub use Rattle.pkcs1_params.specs.Labels.{CountsLabelled, LabelOf, source_with, written_labelled, written_source}
 pub use Rattle.pkcs1_params.specs.Meanings.{AnswersAsn1, AnswersAsn1OrAsks, AreDelimited, FaultsTell, IsEncoded, Refuses, fault_in, fault_told}
 pub use Rattle.pkcs1_params.specs.OaepValue.{IsBareOaep, LabelFits, NoLabelFits, OwnedOaepAllocates, labelled, oaep_in, oaep_of, oaep_viewed, oaep_with}
@@ -10,7 +10,6 @@ pub use Rattle.pkcs1_params.specs.ParameterReadings.{field_in, field_number, has
 pub use Rattle.pkcs1_params.specs.Parameters.{OaepParameters, PssParameters, id_mgf1, id_p_specified, id_rsa_encryption, id_sha1, octets_value, pkcs1_algorithm, with_parameters}
 pub use Rattle.pkcs1_params.specs.PssValue.{IsBarePss, OwnedPssAllocates, pss_in, pss_of, pss_viewed, pss_with}
 pub use Rattle.pkcs1_params.specs.Spellings.{DefaultsAreCounted, EachHasMaskZero, EachHasOneMask, EachMaskHasOne, EncodingOfFields, EncodingUnderMask, FirstWritten, IsListingError, IsMask, MaskIsInRange, NamesFirstDefault, ShortestHasNoDefaults, encodings_in}
-pub use Rattle.pkcs1_params.specs.KnownOctets.{AreKnown, InPlace, IsKnownHash, IsKnownOaep, IsKnownPss, PutsOrCounts, WritesOrCounts, bare_field, bare_mask_field, field_with_hash, fields_with_hash, hash_field_of, hash_of, known_fields, known_field, known_label, label_front, long_salt_field, mask_field_of, mask_field_with_hash, oaep_with_hash, oaep_with_hashes, place_front, pss_with_hash, pss_with_hashes, salt_field}
 pub use Rattle.pkcs1_params.specs.declared.error.Error.{Error}
 pub use Rattle.pkcs1_params.specs.Laws.Equality.{mask_decides, oaep_decides, plain_decides, pss_decides}
 pub use Rattle.pkcs1_params.specs.Laws.Records.{mgf1_identifier, oaep_identifier, oaep_record, plain_law, pss_identifier, pss_lawful, pss_record, source_identifier, trailer_law}

@@ -1,38 +1,22 @@
 //! Contents octets of parameters, under a mask that says which of their defaults are written. `non_defaults` is what
 //! `non_defaults_in` returns.
 ghost use Rattle.std.specs.Prelude.{◌≡◌, ◌≤◌, ⊤, length};
-ghost use Rattle.der_core.specs.Words.{Appends, Counts, Prepends, RefusedAs, Tells, free_of, limit};
+ghost use Rattle.der_core.specs.Words.{Appends, Checks, RefusedAs, limit};
 ghost use Rattle.pkcs1_params.specs.DefaultBits.{bits_of};
 ghost use Rattle.spki_core.specs.Words.{AreSpelled, are_defaults, record_fields, record_under, spelling_printed};
 
 use crate::fields::Fields;
 use crate::spelling::EncodeParams;
-use der_core::{BackWriter, Length, Result, Writer};
+use der_core::{Prepend, Result, Writer};
 
-/// Their length.
+/// They may always be encoded.
 #[inline(always)]
-pub(crate) fn contents_len<T: EncodeParams>(params: T, non_defaults: u8, mask: u8) -> Result<Length>
-    requires { non_defaults ≡ bits_of (are_defaults (record_fields T.form (T.params params))) }
-    ensures counts { let s = record_under T.form mask (T.params params) in
-        Counts (AreSpelled T.form.kinds s) (spelling_printed T.form.kinds s) result }
+pub(crate) fn check_contents<T: EncodeParams>(params: T, _mask: u8) -> Result<()>
+    ensures checks { Checks (AreSpelled T.form.kinds (record_under T.form _mask (T.params params))) result }
     ensures tag { RefusedAs (λ _. ⊥) result }
 {
     params.lemma_is_valid();
-    if non_defaults == 0 && mask == 0 {
-        return Ok(Length::ZERO);
-    }
-    params.fields().len(non_defaults, mask)
-}
-
-/// Their length, told quickly.
-#[inline(always)]
-pub(crate) fn quick_contents_len<T: EncodeParams>(params: T, non_defaults: u8, mask: u8) -> u64
-    requires { non_defaults ≡ bits_of (are_defaults (record_fields T.form (T.params params))) }
-    ensures { let s = record_under T.form mask (T.params params) in
-        Tells (AreSpelled T.form.kinds s) (spelling_printed T.form.kinds s) result }
-{
-    params.lemma_is_valid();
-    params.fields().quick_len(non_defaults, mask)
+    Ok(())
 }
 
 /// Appends them.
@@ -52,23 +36,19 @@ pub(crate) fn append_contents<T: EncodeParams, W: Writer>(
     params.fields().append(non_defaults, mask, writer)
 }
 
-/// Writes them in front of what is filled.
+/// Writes them in front of what was received, or counts them.
 #[inline(always)]
-pub(crate) fn prepend_contents<T: EncodeParams>(
+pub(crate) fn prepend_contents<T: EncodeParams, W: Prepend>(
     params: T,
     non_defaults: u8,
     mask: u8,
-    writer: &mut BackWriter<'_>,
+    writer: &mut W,
 )
     requires non_defaults { non_defaults ≡ bits_of (are_defaults (record_fields T.form (T.params params))) }
-    requires fits { length (spelling_printed T.form.kinds (record_under T.form mask (T.params params))) ≤ limit }
-    requires room { length (spelling_printed T.form.kinds (record_under T.form mask (T.params params)))
-        ≤ free_of writer.old }
-    ensures { Prepends (spelling_printed T.form.kinds (record_under T.form mask (T.params params)))
-        writer.old writer.new }
+    requires room { let octets = spelling_printed T.form.kinds (record_under T.form mask (T.params params)) in
+        W.has_room writer.old (length octets) }
+    ensures { let octets = spelling_printed T.form.kinds (record_under T.form mask (T.params params)) in
+        W.prepended octets writer.old writer.new }
 {
-    if non_defaults == 0 && mask == 0 {
-        return;
-    }
     params.fields().prepend(non_defaults, mask, writer);
 }

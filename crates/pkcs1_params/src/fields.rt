@@ -1,6 +1,6 @@
 //! The fields of parameters, and writing them under a mask that says which defaults are written.
 ghost use Rattle.std.specs.Prelude.{◌≡◌, ◌≤◌, ◌<◌, ◌+◌, ◌*◌, ◌^◌, ⊤, List, [], ◌∷◌, length};
-ghost use Rattle.der_core.specs.Words.{Appends, Counts, Prepends, Tells, free_of, limit};
+ghost use Rattle.der_core.specs.Words.{Appends, context_octet, limit, tlv};
 ghost use Rattle.spki_core.specs.Words.{WrittenField, are_defaults, defaults_in, octets_under, out_under, rest_under};
 ghost use Rattle.pkcs1_params.specs.Words.{bits_of, field_in, field_number};
 ghost use Rattle.pkcs1_params.specs.DefaultBits.{bit_of};
@@ -8,8 +8,8 @@ ghost use Rattle.pkcs1_params.specs.DefaultBits.{bit_of};
 use crate::holders::{MaskHolder, PlainHolder};
 use crate::pss::RsaPssParamsRef;
 use crate::trailer_field::TrailerField;
-use der_core::{BackWriter, Length, Result, TagNumber, Writer, joined_len};
-use spki_core::{encode_field, field_len, prepend_field, quick_field_len};
+use der_core::{Encode, Prepend, Result, TagNumber, Writer};
+use spki_core::ContextSpecificRef;
 
 /// A field with its value. A `Plain` holds a hash function or a label source, a `Mask` a mask generation function.
 #[derive(Drop)]
@@ -49,58 +49,28 @@ impl<Plain: PlainHolder, Mask: MaskHolder> FieldRef<'_, Plain, Mask> {
         }
     }
 
-    /// The length of the written field.
-    #[inline(always)]
-    fn len(&self) -> Result<Length>
-        ensures { Counts ⊤ (field_in Plain.plain Mask.mask self.now).octets result }
-    {
-        let number = self.number();
-        match *self {
-            FieldRef::Hash(hash) => field_len(number, hash),
-            FieldRef::MaskGen(mask_gen) => field_len(number, mask_gen),
-            FieldRef::SaltLen(salt_len) => field_len(number, &salt_len),
-            FieldRef::Trailer(trailer) => field_len(number, &trailer),
-            FieldRef::PSource(p_source) => field_len(number, p_source),
-        }
-    }
-
-    /// The length of the written field, told quickly.
-    #[inline(always)]
-    fn quick_len(&self) -> u64
-        ensures { Tells ⊤ (field_in Plain.plain Mask.mask self.now).octets result }
-    {
-        let number = self.number();
-        match *self {
-            FieldRef::Hash(hash) => quick_field_len(number, hash),
-            FieldRef::MaskGen(mask_gen) => quick_field_len(number, mask_gen),
-            FieldRef::SaltLen(salt_len) => quick_field_len(number, &salt_len),
-            FieldRef::Trailer(trailer) => quick_field_len(number, &trailer),
-            FieldRef::PSource(p_source) => quick_field_len(number, p_source),
-        }
-    }
-
     /// Appends the field.
-    fn encode<W: Writer>(&self, writer: &mut W) -> Result<()>
+    fn append<W: Writer>(&self, writer: &mut W) -> Result<()>
+        requires { length (field_in Plain.plain Mask.mask self.now).octets ≤ limit }
         ensures appends { let octets = (field_in Plain.plain Mask.mask self.now).octets in
             Appends ⊤ octets W.room W.written writer.old writer.new result }
         ensures kept { W.keeps writer.old writer.new }
     {
         let number = self.number();
         match *self {
-            FieldRef::Hash(hash) => encode_field(number, hash, writer),
-            FieldRef::MaskGen(mask_gen) => encode_field(number, mask_gen, writer),
-            FieldRef::SaltLen(salt_len) => encode_field(number, &salt_len, writer),
-            FieldRef::Trailer(trailer) => encode_field(number, &trailer, writer),
-            FieldRef::PSource(p_source) => encode_field(number, p_source, writer),
+            FieldRef::Hash(hash) => append_field(number, hash, writer),
+            FieldRef::MaskGen(mask_gen) => append_field(number, mask_gen, writer),
+            FieldRef::SaltLen(salt_len) => append_field(number, &salt_len, writer),
+            FieldRef::Trailer(trailer) => append_field(number, &trailer, writer),
+            FieldRef::PSource(p_source) => append_field(number, p_source, writer),
         }
     }
 
-    /// Writes the field in front of what is filled.
+    /// Writes the field in front of what was received, or counts it.
     #[inline(always)]
-    fn prepend(&self, writer: &mut BackWriter<'_>)
-        requires fits { length (field_in Plain.plain Mask.mask self.now).octets ≤ limit }
-        requires room { length (field_in Plain.plain Mask.mask self.now).octets ≤ free_of writer.old }
-        ensures { Prepends (field_in Plain.plain Mask.mask self.now).octets writer.old writer.new }
+    fn prepend<W: Prepend>(&self, writer: &mut W)
+        requires { W.has_room writer.old (length (field_in Plain.plain Mask.mask self.now).octets) }
+        ensures { W.prepended (field_in Plain.plain Mask.mask self.now).octets writer.old writer.new }
     {
         let number = self.number();
         match *self {
@@ -111,6 +81,34 @@ impl<Plain: PlainHolder, Mask: MaskHolder> FieldRef<'_, Plain, Mask> {
             FieldRef::PSource(p_source) => prepend_field(number, p_source, writer),
         }
     }
+}
+
+/// Appends a field.
+fn append_field<T: Encode, W: Writer>(
+    tag_number: TagNumber,
+    value: &T,
+    writer: &mut W,
+) -> Result<()>
+    requires has { T.valid (T.written (T.value value.now)) }
+    requires fits { length (tlv (context_octet tag_number.value) (T.printed (T.written (T.value value.now)))) ≤ limit }
+    ensures appends { let s = T.written (T.value value.now) in
+        let octets = tlv (context_octet tag_number.value) (T.printed s) in
+        Appends (T.valid s) octets W.room W.written writer.old writer.new result }
+    ensures kept { W.keeps writer.old writer.new }
+{
+    ContextSpecificRef { tag_number, value }.append(writer)
+}
+
+/// Writes a field in front of what was received, or counts it.
+#[inline(never)]
+fn prepend_field<T: Encode, W: Prepend>(tag_number: TagNumber, value: &T, writer: &mut W)
+    requires has { T.valid (T.written (T.value value.now)) }
+    requires room { let octets = tlv (context_octet tag_number.value) (T.printed (T.written (T.value value.now))) in
+        W.has_room writer.old (length octets) }
+    ensures { let octets = tlv (context_octet tag_number.value) (T.printed (T.written (T.value value.now))) in
+        W.prepended octets writer.old writer.new }
+{
+    ContextSpecificRef { tag_number, value }.prepend(writer);
 }
 
 /// Whether the field is left out, and the mask for the later ones.
@@ -157,17 +155,7 @@ pub trait Fields: Drop {
         ensures count { result ≡ defaults_in (written self.now) }
         ensures few { result ≤ length (written self.now) };
 
-    /// The length of the fields under a mask. Bit j of `non_defaults` says whether field j differs from its default.
-    fn len(&self, non_defaults: u8, mask: u8) -> Result<Length>
-        requires { non_defaults ≡ bits_of (are_defaults (written self.now)) }
-        ensures { Counts ⊤ (octets_under mask (written self.now)) result };
-
-    /// The length of the fields under a mask, told quickly.
-    fn quick_len(&self, non_defaults: u8, mask: u8) -> u64
-        requires { non_defaults ≡ bits_of (are_defaults (written self.now)) }
-        ensures { Tells ⊤ (octets_under mask (written self.now)) result };
-
-    /// Appends the fields under a mask.
+    /// Appends the fields under a mask. Bit j of `non_defaults` says whether field j differs from its default.
     fn append<W: Writer>(&self, non_defaults: u8, mask: u8, writer: &mut W) -> Result<()>
         requires non_defaults { non_defaults ≡ bits_of (are_defaults (written self.now)) }
         requires fits { length (octets_under mask (written self.now)) ≤ limit }
@@ -175,12 +163,11 @@ pub trait Fields: Drop {
             Appends ⊤ octets W.room W.written writer.old writer.new result }
         ensures kept { W.keeps writer.old writer.new };
 
-    /// Writes the fields under a mask in front of what is filled, the last one first.
-    fn prepend(&self, non_defaults: u8, mask: u8, writer: &mut BackWriter<'_>)
+    /// Writes the fields under a mask in front of what was received, the last one first, or counts them.
+    fn prepend<W: Prepend>(&self, non_defaults: u8, mask: u8, writer: &mut W)
         requires non_defaults { non_defaults ≡ bits_of (are_defaults (written self.now)) }
-        requires fits { length (octets_under mask (written self.now)) ≤ limit }
-        requires room { length (octets_under mask (written self.now)) ≤ free_of writer.old }
-        ensures { Prepends (octets_under mask (written self.now)) writer.old writer.new };
+        requires room { W.has_room writer.old (length (octets_under mask (written self.now))) }
+        ensures { W.prepended (octets_under mask (written self.now)) writer.old writer.new };
 }
 
 /// No field.
@@ -208,22 +195,12 @@ impl Fields for NoField {
     }
 
     #[inline(always)]
-    fn len(&self, _non_defaults: u8, _mask: u8) -> Result<Length> {
-        Ok(Length::ZERO)
-    }
-
-    #[inline(always)]
-    fn quick_len(&self, _non_defaults: u8, _mask: u8) -> u64 {
-        0
-    }
-
-    #[inline(always)]
     fn append<W: Writer>(&self, _non_defaults: u8, _mask: u8, _writer: &mut W) -> Result<()> {
         Ok(())
     }
 
     #[inline(always)]
-    fn prepend(&self, _non_defaults: u8, _mask: u8, _writer: &mut BackWriter<'_>) {}
+    fn prepend<W: Prepend>(&self, _non_defaults: u8, _mask: u8, _writer: &mut W) {}
 }
 
 impl<Plain: PlainHolder, Mask: MaskHolder, L: Fields> Fields for FieldThen<'_, Plain, Mask, L> {
@@ -240,42 +217,18 @@ impl<Plain: PlainHolder, Mask: MaskHolder, L: Fields> Fields for FieldThen<'_, P
     }
 
     #[inline(always)]
-    fn len(&self, non_defaults: u8, mask: u8) -> Result<Length> {
-        let (default, non_defaults) = split_non_defaults(non_defaults, &self.first, &self.later);
-        let (left_out, mask) = take_mask_bit(default, mask);
-        let later = self.later.len(non_defaults, mask);
-        if left_out {
-            later
-        } else {
-            joined_len(self.first.len(), later)
-        }
-    }
-
-    #[inline(always)]
-    fn quick_len(&self, non_defaults: u8, mask: u8) -> u64 {
-        let (default, non_defaults) = split_non_defaults(non_defaults, &self.first, &self.later);
-        let (left_out, mask) = take_mask_bit(default, mask);
-        let later = self.later.quick_len(non_defaults, mask);
-        if left_out {
-            later
-        } else {
-            later.saturating_add(self.first.quick_len())
-        }
-    }
-
-    #[inline(always)]
     fn append<W: Writer>(&self, non_defaults: u8, mask: u8, writer: &mut W) -> Result<()> {
         let (default, non_defaults) = split_non_defaults(non_defaults, &self.first, &self.later);
         let (left_out, mask) = take_mask_bit(default, mask);
         if left_out {
             return self.later.append(non_defaults, mask, writer);
         }
-        self.first.encode(writer)?;
+        self.first.append(writer)?;
         self.later.append(non_defaults, mask, writer)
     }
 
     #[inline(always)]
-    fn prepend(&self, non_defaults: u8, mask: u8, writer: &mut BackWriter<'_>) {
+    fn prepend<W: Prepend>(&self, non_defaults: u8, mask: u8, writer: &mut W) {
         let (default, non_defaults) = split_non_defaults(non_defaults, &self.first, &self.later);
         let (left_out, mask) = take_mask_bit(default, mask);
         self.later.prepend(non_defaults, mask, writer);

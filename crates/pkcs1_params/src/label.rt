@@ -1,6 +1,6 @@
 //! pSourceAlgorithm, the source of the label of RSAES-OAEP (RFC 8017 A.2.1): parameters with a label, how long it may
 //! be, and the label of parameters.
-ghost use Rattle.std.specs.Prelude.{option_map, ◌≡◌, ◌≤◌, ⊤, false, length, refl, true, ℕ, List, bytes_eq, Decides};
+ghost use Rattle.std.specs.Prelude.{option_map, ◌≡◌, ◌≤◌, ◌++◌, ⊤, false, length, refl, true, ℕ, List, bytes_eq, Decides};
 ghost use Rattle.der_core.specs.Words.{AreBytes, Counts, limit, tlv};
 ghost use Rattle.spki_core.specs.Words.{algorithm_in, algorithm_of, any_of, viewed_with};
 ghost use Rattle.pkcs1_params.specs.Words.{CountsLabelled, LabelFits, LabelOf, NoLabelFits, id_p_specified, labelled, oaep_of, oaep_viewed, oaep_with, octets_value, with_parameters, written_source};
@@ -8,7 +8,7 @@ ghost use Rattle.standard.specs.Statement.{empty_label};
 
 use crate::hash_fields::is_pkcs1;
 use crate::oaep::{RsaOaepParams, RsaOaepParamsRef, RsaOaepParamsView};
-use der_core::{Encode, EncodeValue, Length, Memory, Result, Tag, TagNumber, joined_len};
+use der_core::{Encode, EncodeValue, Length, Memory, Result, Tag, TagNumber};
 use spki_core::{
     AlgorithmIdentifier, AlgorithmIdentifierOf, AlgorithmIdentifierRef, AlgorithmView, AnyParams,
     AnyRef, AnyValue, AssociatedOid, IdentifierValue, ObjectIdentifier,
@@ -135,6 +135,13 @@ fn tagged_len(contents: Result<Length>, tag: Tag) -> Result<Length>
     contents?.for_tlv(tag)
 }
 
+/// The length of two parts.
+fn sum_len(first: Result<Length>, second: Result<Length>) -> Result<Length>
+    ensures { (a b : List ℕ) → Counts ⊤ a first → Counts ⊤ b second → Counts ⊤ (a ++ b) result }
+{
+    first?.checked_add(second?)
+}
+
 /// The length of what is written for the source of a label of this length.
 fn source_len(len: usize) -> Result<Length>
     ensures { (label : List ℕ) → length label ≡ len → Counts ⊤ (written_source label) result }
@@ -144,7 +151,7 @@ fn source_len(len: usize) -> Result<Length>
     }
     let identifier = ObjectIdentifier::of::<PSpecified>().encoded_len();
     let octets = tagged_len(Length::try_from(len), Tag::OCTET_STRING);
-    let source = tagged_len(joined_len(identifier, octets), Tag::SEQUENCE);
+    let source = tagged_len(sum_len(identifier, octets), Tag::SEQUENCE);
     tagged_len(source, Tag::context(TagNumber::new(2)))
 }
 
@@ -153,5 +160,5 @@ fn labelled_len<D: AssociatedOid>(len: usize) -> Result<Length>
     ensures { (label : List ℕ) → AreBytes label → length label ≡ len → CountsLabelled D.contents label result }
 {
     let hash_fields = RsaOaepParamsRef::new::<D>().value_len();
-    tagged_len(joined_len(hash_fields, source_len(len)), Tag::SEQUENCE)
+    tagged_len(sum_len(hash_fields, source_len(len)), Tag::SEQUENCE)
 }

@@ -10,8 +10,6 @@ mod from_view;
 mod hash_fields;
 mod hash_functions;
 mod holders;
-mod known;
-mod known_fields;
 mod label;
 mod laws;
 mod listing;
@@ -35,7 +33,6 @@ pub use default_salt::DefaultSalt;
 pub use error::{Error, Result};
 pub use hash_fields::{is_mgf1, with_null};
 pub use hash_functions::{Mgf1, Sha1, Sha224, Sha256, Sha384, Sha512, Sha512_224, Sha512_256};
-pub use known::{Place, RSAES_OAEP, RSASSA_PSS, Written, encode_known_oaep, encode_known_pss};
 pub use label::{PSpecified, is_p_specified};
 pub use laws::{
     lemma_algorithms, lemma_algorithms_exclude_each_other, lemma_bare_params_take_no_memory,

@@ -5,7 +5,7 @@ ghost use Rattle.pkcs1_params.specs.Words.{IsEncoded, PssParameters, fault_in, i
 ghost use Rattle.spki_core.specs.Words.{AreSpelled, Spelling, any_of, null_value, record_alike, record_law, record_means, record_shortest, record_under, spelling_printed, spelling_read};
 ghost use Rattle.standard.specs.Statement.{PssEncoding, mgf1_sha1, sha1};
 
-use crate::contents::{append_contents, contents_len, prepend_contents, quick_contents_len};
+use crate::contents::{append_contents, check_contents, prepend_contents};
 use crate::error::{Error, Result, fault_of};
 use crate::from_view::ReadParams;
 use crate::hash_fields::{MaskGenOf, mgf1_with, with_null};
@@ -14,8 +14,8 @@ use crate::reading::read_params;
 use crate::spelling::non_defaults_in;
 use crate::trailer_field::TrailerField;
 use der_core::{
-    BackWriter, Contents, EncodeValue, EqualByValue, ErrorKind, Length, Memory, NoMemory,
-    SequenceTag, TaggedBy, TryClone, Writer,
+    Contents, EncodeValue, EqualByValue, ErrorKind, Memory, NoMemory, Prepend, SequenceTag,
+    TaggedBy, TryClone, Writer,
 };
 use spki_core::{
     AlgorithmIdentifierOf, Any, AnyParams, AnyRef, AnyValue, AssociatedOid, IdentifierValue,
@@ -138,21 +138,18 @@ impl<O, P> TaggedBy for PssParamsOf<O, P> {
 impl<O: IdentifierValue, P: AnyValue> EncodeValue for PssParamsOf<O, P> {
     ghost refused = { λ _. ⊥ };
 
-    fn value_len(&self) -> der_core::Result<Length> {
-        contents_len(self, non_defaults_in(self), 0)
+    #[inline(always)]
+    fn check_value(&self) -> der_core::Result<()> {
+        check_contents(self, 0)
     }
 
     #[inline(always)]
-    fn quick_value_len(&self) -> u64 {
-        quick_contents_len(self, non_defaults_in(self), 0)
+    fn prepend_value<W: Prepend>(&self, writer: &mut W) {
+        prepend_contents(self, non_defaults_in(self), 0, writer);
     }
 
     fn append_value<W: Writer>(&self, writer: &mut W) -> der_core::Result<()> {
         append_contents(self, non_defaults_in(self), 0, writer)
-    }
-
-    fn prepend_value(&self, writer: &mut BackWriter<'_>) {
-        prepend_contents(self, non_defaults_in(self), 0, writer);
     }
 }
 

@@ -5,9 +5,9 @@ ghost use Rattle.spki_core.specs.FieldSpellings as spellings;
 ghost use Rattle.pkcs1_params.specs.DefaultBits.{bits_of};
 ghost use Rattle.pkcs1_params.specs.Parameters.{with_parameters};
 
-use crate::contents::{append_contents, contents_len, prepend_contents, quick_contents_len};
+use crate::contents::{append_contents, check_contents, prepend_contents};
 use crate::spelling::{EncodeParams, non_defaults_in};
-use der_core::{BackWriter, Contents, EncodeValue, Length, Result, SequenceTag, TaggedBy, Writer};
+use der_core::{Contents, EncodeValue, Prepend, Result, SequenceTag, TaggedBy, Writer};
 use spki_core::{AlgorithmView, AssociatedOid, IdentifierValue, IdentifierView};
 
 /// Borrowed parameters, which are written as their shortest encoding. Which fields differ from their defaults is found
@@ -79,20 +79,17 @@ impl<T: EncodeParams> TaggedBy for Shortest<T> {
 impl<T: EncodeParams> EncodeValue for Shortest<T> {
     ghost refused = { λ _. ⊥ };
 
-    fn value_len(&self) -> Result<Length> {
-        contents_len(self.params, self.non_defaults, 0)
+    #[inline(always)]
+    fn check_value(&self) -> Result<()> {
+        check_contents(self.params, 0)
     }
 
     #[inline(always)]
-    fn quick_value_len(&self) -> u64 {
-        quick_contents_len(self.params, self.non_defaults, 0)
+    fn prepend_value<W: Prepend>(&self, writer: &mut W) {
+        prepend_contents(self.params, self.non_defaults, 0, writer);
     }
 
     fn append_value<W: Writer>(&self, writer: &mut W) -> Result<()> {
         append_contents(self.params, self.non_defaults, 0, writer)
-    }
-
-    fn prepend_value(&self, writer: &mut BackWriter<'_>) {
-        prepend_contents(self.params, self.non_defaults, 0, writer);
     }
 }

@@ -9,12 +9,11 @@ ghost use Rattle.pkcs1_params.specs.Meanings.{Refuses};
 ghost use Rattle.pkcs1_params.specs.Spellings.{EncodingOfFields, EncodingUnderMask, IsMask, MaskIsInRange};
 ghost use Rattle.standard.specs.Statement.{Defaults, Encodes, Field, IsShortest};
 
-use crate::contents::{append_contents, contents_len, prepend_contents, quick_contents_len};
+use crate::contents::{append_contents, check_contents, prepend_contents};
 use crate::error::Result;
 use crate::fields::Fields;
 use der_core::{
-    BackWriter, Contents, Encode, EncodeValue, ErrorKind, Length, SequenceTag, TaggedBy, Writer,
-    write_over,
+    Contents, Encode, EncodeValue, ErrorKind, Prepend, SequenceTag, TaggedBy, Writer, write_over,
 };
 use std::alloc::Global;
 
@@ -146,21 +145,18 @@ impl<T: EncodeParams> TaggedBy for Spelling<T> {
 impl<T: EncodeParams> EncodeValue for Spelling<T> {
     ghost refused = { λ _. ⊥ };
 
-    fn value_len(&self) -> der_core::Result<Length> {
-        contents_len(self.params, self.non_defaults, self.mask)
+    #[inline(always)]
+    fn check_value(&self) -> der_core::Result<()> {
+        check_contents(self.params, self.mask)
     }
 
     #[inline(always)]
-    fn quick_value_len(&self) -> u64 {
-        quick_contents_len(self.params, self.non_defaults, self.mask)
+    fn prepend_value<W: Prepend>(&self, writer: &mut W) {
+        prepend_contents(self.params, self.non_defaults, self.mask, writer);
     }
 
     fn append_value<W: Writer>(&self, writer: &mut W) -> der_core::Result<()> {
         append_contents(self.params, self.non_defaults, self.mask, writer)
-    }
-
-    fn prepend_value(&self, writer: &mut BackWriter<'_>) {
-        prepend_contents(self.params, self.non_defaults, self.mask, writer);
     }
 }
 

@@ -4,8 +4,8 @@ ghost use Rattle.der_core.specs.Words.{nothing_asked, number_contents, one_spell
 ghost use Rattle.pkcs1_params.specs.Words.{trailer_law, trailer_read};
 
 use der_core::{
-    BackWriter, Contents, DecodeValue, EncodeValue, EqualByValue, Error, ErrorKind, IntegerTag,
-    Length, Memory, Result, Tag, TaggedBy, Writer,
+    Contents, DecodeValue, EncodeValue, EqualByValue, Error, ErrorKind, IntegerTag, Memory,
+    Prepend, Result, Tag, TaggedBy, Writer,
 };
 
 /// The trailer field, of which one is known (RFC 8017 A.2.3).
@@ -76,20 +76,17 @@ impl<'a, M: Memory> DecodeValue<&'a [u8], M> for TrailerField {
 impl EncodeValue for TrailerField {
     ghost refused = { λ _. ⊥ };
 
-    fn value_len(&self) -> Result<Length> {
-        (*self as u8).value_len()
+    #[inline(always)]
+    fn check_value(&self) -> Result<()> {
+        (*self as u8).check_value()
     }
 
     #[inline(always)]
-    fn quick_value_len(&self) -> u64 {
-        (*self as u8).quick_value_len()
+    fn prepend_value<W: Prepend>(&self, writer: &mut W) {
+        (*self as u8).prepend_value(writer);
     }
 
     fn append_value<W: Writer>(&self, writer: &mut W) -> Result<()> {
         (*self as u8).append_value(writer)
-    }
-
-    fn prepend_value(&self, writer: &mut BackWriter<'_>) {
-        (*self as u8).prepend_value(writer);
     }
 }

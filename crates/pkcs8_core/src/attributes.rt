@@ -4,8 +4,8 @@ ghost use Rattle.der_core.specs.Words.{AreBytes, itself_once, nothing_asked, oct
 ghost use Rattle.pkcs8_core.specs.Tags.{attributes_tag};
 
 use pkcs1::der::{
-    BackWriter, Contents, DecodeValue, EncodeValue, Length, Memory, OneContents, Result, Tag,
-    TagMarker, TaggedBy, Writer,
+    Contents, DecodeValue, EncodeValue, Memory, OneContents, Prepend, Result, Tag, TagMarker,
+    TaggedBy, Writer,
 };
 
 /// The tag of attributes.
@@ -87,15 +87,17 @@ impl<'a, M: Memory> DecodeValue<&'a [u8], M> for Attributes<'a> {
 impl EncodeValue for Attributes<'_> {
     ghost refused = { λ _. ⊥ };
 
-    fn value_len(&self) -> Result<Length> {
-        Length::try_from(self.bytes.len())
+    #[inline(always)]
+    fn check_value(&self) -> Result<()> {
+        Ok(())
+    }
+
+    #[inline(always)]
+    fn prepend_value<W: Prepend>(&self, writer: &mut W) {
+        writer.prepend(self.bytes);
     }
 
     fn append_value<W: Writer>(&self, writer: &mut W) -> Result<()> {
         writer.write(self.bytes)
-    }
-
-    fn prepend_value(&self, writer: &mut BackWriter<'_>) {
-        writer.prepend(self.bytes);
     }
 }

@@ -1,5 +1,5 @@
 //! PKCS #8 containers of private keys.
-ghost use Rattle.std.specs.Prelude.{◌≡◌, ⊤, ℕ, List, length, IfErr, option_map};
+ghost use Rattle.std.specs.Prelude.{◌≡◌, ◌⊎◌, ⊤, ℕ, List, length, IfErr, option_map};
 ghost use Rattle.der_core.specs.Words.{Answers, AreBytes, Excludes, reading_alike, encode_error, itself_once, made_errs, ok_of, one_spelling_shortest, value_in, Unwritten};
 ghost use Rattle.pkcs8_core.specs.Words.{Container, IsContainer, attributes_of, container_law, container_printed, info_in, info_of, info_read, of_info_parts, private_key_info, rsa_private_key_info, slice_now};
 ghost use Rattle.pkcs8_core.specs.declared.info.PrivateKeyInfoOf as containers;
@@ -7,9 +7,8 @@ ghost use Rattle.standard.specs.Statement.{AtMostOne, ContainedKeyEncoding, Cont
 
 use crate::attributes::Attributes;
 use pkcs1::der::{
-    BackWriter, Borrowed, Contents, Decode, Encode, EncodeInParts, EncodeValue, Error, Expected,
-    InParts, Last, LastByTag, Length, Memory, OctetStringRef, Result, SequenceTag, TaggedBy,
-    Writer, read_borrowed, write_only,
+    Borrowed, Contents, Decode, EncodeInParts, Error, Expected, InParts, Last, LastByTag, Memory,
+    OctetStringRef, Result, RowOperation, SequenceTag, TaggedBy, read_borrowed, write_only,
 };
 use pkcs1::spki::{
     AlgorithmIdentifierOf, AnyRef, IdentifierValue, IdentifierView, ObjectIdentifier,
@@ -111,30 +110,15 @@ impl<'a, O: ReadIdentifier<'a>> InParts for PrivateKeyInfoOf<'a, O> {
 }
 
 impl<'a, O: ReadIdentifier<'a>> EncodeInParts for PrivateKeyInfoOf<'a, O> {
-    ghost refused = { λ _. ⊥ };
+    ghost refused = { λ _. ⊥ ⊎ ((⊥ ⊎ ⊥) ⊎ (⊥ ⊎ ⊥)) };
 
-    fn parts_len(&self) -> Result<Length> {
+    #[inline(always)]
+    fn with_row<R: RowOperation>(&self, operation: &mut R) -> R::Output {
         let key = (
             Borrowed(&self.private_key),
             LastByTag(Last(self.attributes_encoding())),
         );
-        (Expected::<0>, (Borrowed(&self.algorithm), key)).value_len()
-    }
-
-    fn append_parts<W: Writer>(&self, writer: &mut W) -> Result<()> {
-        let key = (
-            Borrowed(&self.private_key),
-            LastByTag(Last(self.attributes_encoding())),
-        );
-        (Expected::<0>, (Borrowed(&self.algorithm), key)).append_value(writer)
-    }
-
-    fn prepend_parts(&self, writer: &mut BackWriter<'_>) {
-        let key = (
-            Borrowed(&self.private_key),
-            LastByTag(Last(self.attributes_encoding())),
-        );
-        (Expected::<0>, (Borrowed(&self.algorithm), key)).prepend_value(writer);
+        operation.apply(&(Expected::<0>, (Borrowed(&self.algorithm), key)))
     }
 }
 

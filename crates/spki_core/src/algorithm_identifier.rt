@@ -1,5 +1,5 @@
 //! Algorithm identifiers (RFC 5280 4.1.1.2).
-ghost use Rattle.std.specs.Prelude.{◌≡◌, ◌≢◌, IfOk, IfErr, IfSome, IsOk, option_map, Some, None, Decides};
+ghost use Rattle.std.specs.Prelude.{◌≡◌, ◌≢◌, ◌⊎◌, IfOk, IfErr, IfSome, IsOk, option_map, Some, None, Decides};
 ghost use Rattle.std.specs.Option.{unwrap_or};
 ghost use Rattle.spki_core.specs.Words.{Algorithm, AllocatesForParameters, AreSameHash, IsHash, NothingAskedAlone, TagAndContents, algorithm_alike, algorithm_asks_as_parameters, algorithm_contents, algorithm_decides, algorithm_in, algorithm_law, algorithm_map, algorithm_read, algorithm_with, algorithm_writes_shortest, any_of, identifier_octets, null_value, own_octets_of, viewed_with};
 ghost use Rattle.standard.specs.Statement as standard;
@@ -8,8 +8,8 @@ use crate::any::{AnyRef, AnyValue};
 use crate::identifier_view::{IdentifierValue, IdentifierView};
 use crate::object_identifier::{AssociatedOid, ObjectIdentifier};
 use der_core::{
-    BackWriter, Contents, Decode, DecodeParts, DecodeValue, Encode, EncodeValue, Encoding,
-    EqualByValue, Error, ErrorKind, Last, Length, Memory, Result, SequenceTag, TaggedBy, TryClone,
+    BorrowedLast, Contents, Decode, DecodeParts, DecodeValue, Encode, EncodeValue, Encoding,
+    EqualByValue, Error, ErrorKind, Last, Memory, Prepend, Result, SequenceTag, TaggedBy, TryClone,
     Writer,
 };
 use std::alloc::Global;
@@ -109,27 +109,23 @@ pub fn lemma_identifier_alone_takes_no_memory<'a, P: Decode<&'a [u8], M>, M: Mem
 {}
 
 impl<O: IdentifierValue, P: Encode> EncodeValue for AlgorithmIdentifierOf<O, P> {
-    ghost refused = { P.Encode.refused };
+    ghost refused = { λ tag. ⊥ ⊎ P.Encode.refused tag };
 
-    fn value_len(&self) -> Result<Length> {
+    #[inline(always)]
+    fn check_value(&self) -> Result<()> {
         let oid = self.oid.as_identifier_view();
-        (oid, Last::borrowed(&self.parameters)).value_len()
+        (oid, BorrowedLast(&self.parameters)).check_value()
     }
 
     #[inline(always)]
-    fn quick_value_len(&self) -> u64 {
+    fn prepend_value<W: Prepend>(&self, writer: &mut W) {
         let oid = self.oid.as_identifier_view();
-        (oid, Last::borrowed(&self.parameters)).quick_value_len()
+        (oid, BorrowedLast(&self.parameters)).prepend_value(writer);
     }
 
     fn append_value<W: Writer>(&self, writer: &mut W) -> Result<()> {
         let oid = self.oid.as_identifier_view();
-        (oid, Last::borrowed(&self.parameters)).append_value(writer)
-    }
-
-    fn prepend_value(&self, writer: &mut BackWriter<'_>) {
-        let oid = self.oid.as_identifier_view();
-        (oid, Last::borrowed(&self.parameters)).prepend_value(writer);
+        (oid, BorrowedLast(&self.parameters)).append_value(writer)
     }
 }
 

@@ -7,11 +7,10 @@ ghost use Rattle.spki_core.specs.Laws.Printed.Readings.{any_law};
 ghost use Rattle.spki_core.specs.Laws.Printed.Shortest.{any_some};
 ghost use Rattle.standard.specs.Statement as standard;
 
-use crate::context_specific::short_len;
 use crate::wide_tag::WideTag;
 use der_core::{
-    BackWriter, Decode, DecodeValue, Encode, Encoding, EqualByValue, Error, ErrorKind, FixedTag,
-    Header, Length, Memory, Reader, Result, Tag, TryClone, Writer, read_contents, split_encoding,
+    Decode, DecodeValue, Encode, Encoding, EqualByValue, Error, ErrorKind, FixedTag, Header,
+    Length, Memory, Prepend, Reader, Result, Tag, TryClone, Writer, read_contents, split_encoding,
 };
 use std::alloc::Global;
 use std::fmt;
@@ -194,25 +193,21 @@ fn first_tag(bytes: &[u8]) -> Result<Tag>
 impl Encode for AnyRef<'_> {
     ghost refused = { λ _. ⊥ };
 
-    fn encoded_len(&self) -> Result<Length> {
-        self.header().length.for_tlv(self.tag())
+    #[inline(always)]
+    fn check(&self) -> Result<()> {
+        Ok(())
     }
 
     #[inline(always)]
-    fn quick_len(&self) -> u64 {
-        short_len(self.contents.len() as u64)
+    fn prepend<W: Prepend>(&self, writer: &mut W) {
+        let before = writer.filled_len();
+        writer.prepend(self.contents);
+        writer.prepend_header(self.tag(), before);
     }
 
-    fn encode<W: Writer>(&self, writer: &mut W) -> Result<()> {
-        self.encoded_len()?;
+    fn append<W: Writer>(&self, writer: &mut W) -> Result<()> {
         writer.write(&self.header().to_bytes())?;
         writer.write(self.contents)
-    }
-
-    #[inline(always)]
-    fn prepend(&self, writer: &mut BackWriter<'_>) {
-        writer.prepend(self.contents);
-        writer.prepend_header(self.header());
     }
 }
 

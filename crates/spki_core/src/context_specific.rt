@@ -1,11 +1,11 @@
 //! Values inside explicit context-specific tags (X.690 8.14.2).
-ghost use Rattle.std.specs.Prelude.{◌≡◌, ◌≤◌, ◌+◌, true, option_map};
-ghost use Rattle.der_core.specs.Words.{context_octet, limit, tlv_len, ReadsFront, optional_front, starts_with_any};
+ghost use Rattle.std.specs.Prelude.{◌≡◌, ◌+◌, true, option_map};
+ghost use Rattle.der_core.specs.Words.{context_octet, ReadsFront, optional_front, starts_with_any};
 ghost use Rattle.spki_core.specs.Words.{FieldAllocates, explicit, numbered, Numbered, HasNumbered, numbered_alike, numbered_law, numbered_map, numbered_some, numbered_writes_shortest, written_numbered};
 
 use der_core::{
-    BackWriter, Containing, Decode, Encode, Encoding, Header, Length, Memory, Reader, Result, Tag,
-    TagNumber, UNTOLD, Writer, decode_tagged, is_tag_next,
+    Containing, Counter, Decode, Encode, Encoding, Header, Length, Memory, Prepend, Reader, Result,
+    Tag, TagNumber, Writer, decode_tagged, is_tag_next,
 };
 
 /// A borrowed value that is written inside the tag `[tag_number]`.
@@ -62,47 +62,30 @@ impl<'b, T: Encoding> Encoding for ContextSpecificRef<'b, T> {
     }
 }
 
-/// How many octets a tag, a length and contents of so many octets are, if these are fewer than 128. Else it says
-/// nothing, by more than `Length::MAX`.
-#[inline(always)]
-pub(crate) fn short_len(contents: u64) -> u64
-    ensures { result ≤ limit → (contents ≤ limit) × (result ≡ tlv_len contents) }
-{
-    if contents < 0x80 {
-        contents + 2
-    } else {
-        UNTOLD
-    }
-}
-
 impl<'b, T: Encode> Encode for ContextSpecificRef<'b, T> {
     ghost refused = { T.Encode.refused };
 
-    fn encoded_len(&self) -> Result<Length> {
-        self.value.encoded_len()?.for_tlv(self.tag())
+    #[inline(always)]
+    fn check(&self) -> Result<()> {
+        self.value.check()
     }
 
     #[inline(always)]
-    fn quick_len(&self) -> u64 {
-        short_len(self.value.quick_len())
-    }
-
-    fn encode<W: Writer>(&self, writer: &mut W) -> Result<()> {
-        let tag = self.tag();
-        let length = self.value.encoded_len()?;
-        length.for_tlv(tag)?;
-        writer.write(&Header { tag, length }.to_bytes())?;
-        self.value.encode(writer)
-    }
-
-    fn prepend(&self, writer: &mut BackWriter<'_>) {
+    fn prepend<W: Prepend>(&self, writer: &mut W) {
         let before = writer.filled_len();
         self.value.prepend(writer);
-        let length = Length::of(writer.filled_len() - before);
-        writer.prepend_header(Header {
+        writer.prepend_header(self.tag(), before);
+    }
+
+    fn append<W: Writer>(&self, writer: &mut W) -> Result<()> {
+        let mut counter = Counter::new();
+        self.value.prepend(&mut counter);
+        let header = Header {
             tag: self.tag(),
-            length,
-        });
+            length: Length::of(counter.filled_len() as usize),
+        };
+        writer.write(&header.to_bytes())?;
+        self.value.append(writer)
     }
 }
 

@@ -1,5 +1,5 @@
 //! Object identifiers that borrow their octets from the input.
-ghost use Rattle.std.specs.Prelude.{◌≡◌, ℕ, ◌<◌, List, length, slice_index, IsTrue, IfOk, IfErr};
+ghost use Rattle.std.specs.Prelude.{◌≡◌, ℕ, ◌<◌, List, slice_index, IsTrue, IfOk, IfErr};
 ghost use Rattle.spki_core.specs.IdentifierTest as specs;
 ghost use Rattle.spki_core.specs.Identifiers.{IsIdentifier};
 ghost use Rattle.der_core.specs.Words.{Answers, nothing_asked, one_spelling_shortest, reading_alike};
@@ -11,8 +11,7 @@ use crate::object_identifier::{
     AssociatedOid, ObjectIdentifier, ObjectIdentifierTag, is_identifier,
 };
 use der_core::{
-    BackWriter, Contents, DecodeValue, EncodeValue, Error, ErrorKind, Length, Memory, Result,
-    TaggedBy, Writer,
+    Contents, DecodeValue, EncodeValue, Error, ErrorKind, Memory, Prepend, Result, TaggedBy, Writer,
 };
 
 /// An object identifier over its contents octets (X.690 8.19). Only `to_object_identifier` copies them.
@@ -55,14 +54,6 @@ impl<'a> IdentifierView<'a> {
         ensures valid { IsIdentifier (identifier_octets self.now) }
     {
         self.octets
-    }
-
-    /// How many octets there are.
-    #[inline(always)]
-    fn octet_count(&self) -> u8
-        ensures { result ≡ length (identifier_octets self.now) }
-    {
-        self.octets.len() as u8
     }
 
     /// Copies the octets.
@@ -175,20 +166,17 @@ impl<'a, M: Memory> DecodeValue<&'a [u8], M> for IdentifierView<'a> {
 impl EncodeValue for IdentifierView<'_> {
     ghost refused = { λ _. ⊥ };
 
-    fn value_len(&self) -> Result<Length> {
-        Ok(Length::of(self.octet_count() as usize))
+    #[inline(always)]
+    fn check_value(&self) -> Result<()> {
+        Ok(())
     }
 
     #[inline(always)]
-    fn quick_value_len(&self) -> u64 {
-        self.octet_count() as u64
+    fn prepend_value<W: Prepend>(&self, writer: &mut W) {
+        writer.prepend(self.as_bytes());
     }
 
     fn append_value<W: Writer>(&self, writer: &mut W) -> Result<()> {
         writer.write(self.as_bytes())
-    }
-
-    fn prepend_value(&self, writer: &mut BackWriter<'_>) {
-        writer.prepend(self.as_bytes());
     }
 }

@@ -19,10 +19,7 @@ pub use algorithm_identifier::{
 pub use any::{AnyParams, AnyRef, AnyValue};
 pub use as_algorithm::AsAlgorithmIdentifierRef;
 pub use context_specific::{ContextSpecificRef, read_context_specific};
-pub use field::{
-    encode_field, field_len, lemma_fields_are_read, note, prepend_field, quick_field_len,
-    read_field,
-};
+pub use field::{lemma_fields_are_read, note, read_field};
 pub use identifier_view::{IdentifierValue, IdentifierView};
 pub use object_identifier::{AssociatedOid, ObjectIdentifier, ObjectIdentifierTag};
 pub use owned_any::Any;

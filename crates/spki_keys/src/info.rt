@@ -2,8 +2,8 @@
 ghost use Rattle.std.specs.Prelude.{◌⊎◌};
 
 use der_core::{
-    BackWriter, BitString, Borrowed, Containing, Encode, EncodeInParts, EncodeValue, Encoding,
-    Length, Record, Result, SequenceTag, TaggedBy, Writer,
+    BitString, Borrowed, Containing, Encode, EncodeInParts, Encoding, Record, RowOperation,
+    SequenceTag, TaggedBy,
 };
 
 /// A public key, and the algorithm that it is for.
@@ -40,15 +40,8 @@ impl<A: Encoding, K: Encoding> Record for SubjectPublicKeyInfo<A, K> {
 impl<A: Encode, K: Encode> EncodeInParts for SubjectPublicKeyInfo<A, K> {
     ghost refused = { λ tag. A.Encode.refused tag ⊎ (K.Encode.refused tag ⊎ ⊥) };
 
-    fn parts_len(&self) -> Result<Length> {
-        (Borrowed(&self.algorithm), (Borrowed(&self.key), ())).value_len()
-    }
-
-    fn append_parts<W: Writer>(&self, writer: &mut W) -> Result<()> {
-        (Borrowed(&self.algorithm), (Borrowed(&self.key), ())).append_value(writer)
-    }
-
-    fn prepend_parts(&self, writer: &mut BackWriter<'_>) {
-        (Borrowed(&self.algorithm), (Borrowed(&self.key), ())).prepend_value(writer);
+    #[inline(always)]
+    fn with_row<O: RowOperation>(&self, operation: &mut O) -> O::Output {
+        operation.apply(&(Borrowed(&self.algorithm), (Borrowed(&self.key), ())))
     }
 }

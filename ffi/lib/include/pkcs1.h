@@ -79,8 +79,8 @@
  *   where clang compiles them. So a signal handler may make each call, and a program without a C library.
  * Stack: compiled by gcc 12 with -O2, calls take at most so many octets, whatever is passed. Functions of the C library
  *   come on top, and in a program that isn't linked with -z now, for the first call of each of them, over 2000 octets
- *   of the loader. On x86-64 assembly: 672 to decode, 1016 to encode. Generated C: 1352 to decode, 1208 to encode. On
- *   i386: 1600 to decode, 4872 to encode. Other machines aren't measured.
+ *   of the loader. On x86-64 assembly: 672 to decode, 688 to encode. Generated C: 1352 to decode, 904 to encode. On
+ *   i386: 1600 to decode, 4180 to encode. Other machines aren't measured.
  * Time: which way a call takes on a valid private key depends alone on the lengths of its numbers and their encodings.
  *   This is tested on x86-64, not proved. Leading zeros that you pass are counted by a loop. Of other octets, status
  *   and time tell where the first fault is. If you decrypt keys without authentication, show neither to the sender.

@@ -77,11 +77,23 @@ def of_zeros(given):
     return type_, f"ZEROS({type_.bits}, {value})"
 
 
-def of_overflow(given):
-    """A call that gives the sum of two numbers, and whether it is one of more bits."""
+def summed(given):
+    """The type of two numbers of which C has the sum."""
     type_ = given[0][0]
     if type_.bits not in (32, 64):
         raise Refused(f"not known: the sum of numbers of {type_.bits} bits")
+    return type_
+
+
+def of_capped(given):
+    """A call that gives the sum of two numbers, or the greatest number if it is one of more bits."""
+    a, b = given[0][1], given[1][1]
+    return summed(given), f"{a} + ({b} < ~{a} ? {b} : ~{a})"
+
+
+def of_overflow(given):
+    """A call that gives the sum of two numbers, and whether it is one of more bits."""
+    type_ = summed(given)
     return Struct((type_, Integer(1))), f"sum_{type_}({given[0][1]}, {given[1][1]})"
 
 
@@ -90,7 +102,7 @@ INTRINSICS = {
     "lifetime.start": of_nothing, "lifetime.end": of_nothing, "trap": of_trap,
     "umin": of_two("{a} < {b} ? {a} : {b}"), "umax": of_two("{a} > {b} ? {a} : {b}"),
     "usub.sat": of_two("{a} > {b} ? {a} - {b} : 0u"), "bswap": of_order, "ctlz": of_zeros,
-    "uadd.with.overflow": of_overflow,
+    "uadd.sat": of_capped, "uadd.with.overflow": of_overflow,
     "assume": None, "experimental.noalias.scope.decl": None,  # what holds may be left unsaid
 }
 

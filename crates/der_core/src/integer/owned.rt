@@ -10,13 +10,13 @@ ghost use Rattle.der_core.specs.Laws.Printed.Shortest.{one_spelling_shortest};
 ghost use Rattle.der_core.specs.Printed.{number_contents, number_of};
 
 use super::uint::{AsUintRef, UintEncoding, UintRef};
-use crate::back_writer::BackWriter;
 use crate::decode::DecodeValue;
 use crate::encode::EncodeValue;
 use crate::error::{ErrorKind, Result};
 use crate::grammar::{Contents, EqualByValue, IntegerTag, TaggedBy};
 use crate::length::Length;
 use crate::memory::copy_of;
+use crate::prepend::Prepend;
 use crate::try_clone::TryClone;
 use crate::writer::Writer;
 use std::alloc::Global;
@@ -149,20 +149,17 @@ impl<'a> DecodeValue<&'a [u8], Global> for Uint {
 impl EncodeValue for Uint {
     ghost refused = { λ _. ⊥ };
 
-    fn value_len(&self) -> Result<Length> {
-        self.as_uint_ref().value_len()
+    #[inline(always)]
+    fn check_value(&self) -> Result<()> {
+        Ok(())
     }
 
     #[inline(always)]
-    fn quick_value_len(&self) -> u64 {
-        self.as_uint_ref().quick_value_len()
+    fn prepend_value<W: Prepend>(&self, writer: &mut W) {
+        self.as_uint_ref().prepend_value(writer);
     }
 
     fn append_value<W: Writer>(&self, writer: &mut W) -> Result<()> {
         self.as_uint_ref().append_value(writer)
-    }
-
-    fn prepend_value(&self, writer: &mut BackWriter<'_>) {
-        self.as_uint_ref().prepend_value(writer);
     }
 }

@@ -2,14 +2,13 @@
 ghost use Rattle.std.specs.Prelude.{◌≤◌, ◌<◌, ℕ, length};
 ghost use Rattle.der_core.specs.Words.{Answers, limit, nothing_asked, number_contents, one_spelling_shortest, reading_alike, small_law, small_of};
 
-use crate::back_writer::BackWriter;
 use crate::decode::DecodeValue;
 use crate::encode::EncodeValue;
 use crate::error::{Error, ErrorKind, Result};
 use crate::grammar::{Contents, EqualByValue, IntegerTag, TaggedBy};
 use crate::integer::uint::integer;
-use crate::length::Length;
 use crate::memory::Memory;
+use crate::prepend::Prepend;
 use crate::tag::Tag;
 use crate::writer::Writer;
 
@@ -79,15 +78,18 @@ impl<'a, M: Memory> DecodeValue<&'a [u8], M> for u8 {
 impl EncodeValue for u8 {
     ghost refused = { λ _. ⊥ };
 
-    #[tactic(auto, using(crate::specs::Laws::Printed::Leaves::small_contents_as))]
-    fn value_len(&self) -> Result<Length> {
-        Length::try_from(if *self < 0x80 { 1 } else { 2 })
+    #[inline(always)]
+    fn check_value(&self) -> Result<()> {
+        let _octet = *self; // which says that the number is below 256
+        Ok(())
     }
 
     #[inline(always)]
-    #[tactic(auto, using(crate::specs::Laws::Printed::Leaves::small_contents_as))]
-    fn quick_value_len(&self) -> u64 {
-        if *self < 0x80 { 1 } else { 2 }
+    fn prepend_value<W: Prepend>(&self, writer: &mut W) {
+        writer.prepend(&[*self]);
+        if *self >= 0x80 {
+            writer.prepend(&[0]);
+        }
     }
 
     fn append_value<W: Writer>(&self, writer: &mut W) -> Result<()> {
@@ -95,13 +97,6 @@ impl EncodeValue for u8 {
             writer.write(&[*self])
         } else {
             writer.write(&[0, *self])
-        }
-    }
-
-    fn prepend_value(&self, writer: &mut BackWriter<'_>) {
-        writer.prepend(&[*self]);
-        if *self >= 0x80 {
-            writer.prepend(&[0]);
         }
     }
 }

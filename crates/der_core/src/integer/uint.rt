@@ -10,13 +10,13 @@ ghost use Rattle.der_core.specs.Laws.Printed.Shortest.{one_spelling_shortest};
 ghost use Rattle.der_core.specs.Printed.{Prints, number_contents, number_of};
 ghost use Rattle.der_core.specs.Laws.Encodings.{nothing_asked};
 
-use crate::back_writer::BackWriter;
 use crate::decode::DecodeValue;
 use crate::encode::EncodeValue;
 use crate::error::{Error, ErrorKind, Result};
 use crate::grammar::{Contents, Encoding, EqualByValue, IntegerTag, TaggedBy};
 use crate::length::Length;
 use crate::memory::Memory;
+use crate::prepend::Prepend;
 use crate::tag::Tag;
 use crate::try_clone::TryClone;
 use crate::writer::Writer;
@@ -131,16 +131,6 @@ impl<'a> UintRef<'a> {
         self.bytes
     }
 
-    /// How many octets the contents are: the bytes, behind a zero if the first is 128 or more.
-    #[inline(always)]
-    fn size(&self) -> usize
-        ensures is { result ≡ length (number_contents (number_from_digits 256 (bytes_of self.now))) }
-        ensures bound { result ≤ limit + 1 }
-    {
-        let zeros = if self.bytes[0] < 0x80 { 0 } else { 1 };
-        self.bytes.len() as u32 as usize + zeros
-    }
-
     /// The bit length of the number, as 2048 of the modulus of an RSA-2048 key: the least n with it below 2^n, 0 of 0.
     #[tactic(auto, using(crate::proofs::Integers::number_bit_length))]
     pub fn bit_len(&self) -> u64
@@ -233,13 +223,16 @@ impl EncodeValue for UintRef<'_> {
     ghost refused = { λ _. ⊥ };
 
     #[inline(always)]
-    fn value_len(&self) -> Result<Length> {
-        Length::try_from(self.size())
+    fn check_value(&self) -> Result<()> {
+        Ok(())
     }
 
     #[inline(always)]
-    fn quick_value_len(&self) -> u64 {
-        self.size() as u64
+    fn prepend_value<W: Prepend>(&self, writer: &mut W) {
+        writer.prepend(self.bytes);
+        if self.bytes[0] >= 0x80 {
+            writer.prepend(&[0]);
+        }
     }
 
     fn append_value<W: Writer>(&self, writer: &mut W) -> Result<()> {
@@ -247,13 +240,5 @@ impl EncodeValue for UintRef<'_> {
             writer.write(&[0])?;
         }
         writer.write(self.bytes)
-    }
-
-    #[inline(always)]
-    fn prepend_value(&self, writer: &mut BackWriter<'_>) {
-        writer.prepend(self.bytes);
-        if self.bytes[0] >= 0x80 {
-            writer.prepend(&[0]);
-        }
     }
 }

@@ -7,9 +7,8 @@ ghost use Rattle.standard.specs.Statement.{Decodes, Encodes, PrivateKeyEncoding}
 ghost use Rattle.standard.specs.Statement as standard;
 
 use super::RsaPrivateKey;
-use super::other_prime_info::lists_none;
-use der_core::{Decode, Encode, ErrorKind, OctetStringRef, Tag, Uint, UintEncoding, UintRef};
-use pkcs1_params::Error;
+use super::other_prime_info::require_listed;
+use der_core::{Decode, Encode, ErrorKind, OctetStringRef, Uint, UintEncoding, UintRef};
 use std::alloc::Global;
 
 impl<U> RsaPrivateKey<U> {
@@ -92,10 +91,7 @@ impl<U: Encode + UintEncoding> RsaPrivateKey<U> {
         ensures no_primes { ListsNone self.now.other_prime_infos
             → IsErrAnd result (IsAsn1 (λ e. e.kind ≡ ErrorKind.Value sequence_tag)) }
     {
-        if lists_none(&self.other_prime_infos) {
-            let kind = ErrorKind::Value { tag: Tag::SEQUENCE };
-            return Err(Error::Asn1(der_core::Error::new(kind)));
-        }
+        require_listed(&self.other_prime_infos)?;
         Ok(self.encode_into(out)?)
     }
 }

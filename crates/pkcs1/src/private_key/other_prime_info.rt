@@ -1,12 +1,12 @@
 //! Other primes of private keys.
-ghost use Rattle.std.specs.Prelude.{◌≡◌, ◌≤◌, ◌↔◌, IsTrue, None, IfOk, IsOk, IfErr, length, option_map};
-ghost use Rattle.der_core.specs.Words.{Answers, Returns, ended, limit};
+ghost use Rattle.std.specs.Prelude.{◌≡◌, ◌≤◌, None, IfOk, IsOk, OnOk, IfErr, length, option_map};
+ghost use Rattle.der_core.specs.Words.{Answers, Returns, ended, limit, sequence_tag};
 ghost use Rattle.pkcs1.specs.Words.{AllocatesInOthers, ListsNone, other_of, others_agree, others_of, others_read, version_number};
 
 use crate::version::Version;
 use der_core::{
-    BackWriter, Borrowed, Decode, Encode, EncodeInParts, EncodeValue, Encoding, Error, ErrorKind,
-    Length, Record, Result, SequenceTag, Tag, TaggedBy, TryClone, Writer, read_optional,
+    Borrowed, Decode, Encode, EncodeInParts, Encoding, Error, ErrorKind, Record, Result,
+    RowOperation, SequenceTag, Tag, TaggedBy, TryClone, read_optional,
 };
 use std::alloc::{AllocError, Global};
 
@@ -95,53 +95,31 @@ impl<U: TryClone> OtherPrimeInfo<U> {
 }
 
 impl<U: Encode> EncodeInParts for OtherPrimeInfo<U> {
-    ghost refused = { U.Encode.refused };
+    ghost use Rattle.std.specs.Prelude.{◌⊎◌};
 
-    fn parts_len(&self) -> Result<Length> {
-        let coefficient = (Borrowed(&self.coefficient), ());
-        (
-            Borrowed(&self.prime),
-            (Borrowed(&self.exponent), coefficient),
-        )
-            .value_len()
-    }
+    ghost refused = { λ tag. U.Encode.refused tag ⊎ (U.Encode.refused tag ⊎ (U.Encode.refused tag ⊎ ⊥)) };
 
     #[inline(always)]
-    fn quick_parts_len(&self) -> u64 {
+    fn with_row<O: RowOperation>(&self, operation: &mut O) -> O::Output {
         let coefficient = (Borrowed(&self.coefficient), ());
-        (
+        operation.apply(&(
             Borrowed(&self.prime),
             (Borrowed(&self.exponent), coefficient),
-        )
-            .quick_value_len()
-    }
-
-    fn append_parts<W: Writer>(&self, writer: &mut W) -> Result<()> {
-        let coefficient = (Borrowed(&self.coefficient), ());
-        (
-            Borrowed(&self.prime),
-            (Borrowed(&self.exponent), coefficient),
-        )
-            .append_value(writer)
-    }
-
-    fn prepend_parts(&self, writer: &mut BackWriter<'_>) {
-        let coefficient = (Borrowed(&self.coefficient), ());
-        (
-            Borrowed(&self.prime),
-            (Borrowed(&self.exponent), coefficient),
-        )
-            .prepend_value(writer);
+        ))
     }
 }
 
-/// Whether the list is there but empty.
-pub(crate) fn lists_none<U>(others: &Option<OtherPrimeInfos<U>>) -> bool
-    ensures { IsTrue result ↔ ListsNone others.now }
+/// Rejects a list that is there but empty: `Value` of SEQUENCE.
+#[inline(always)]
+pub(crate) fn require_listed<U>(others: &Option<OtherPrimeInfos<U>>) -> Result<()>
+    ensures ok { OnOk result (ListsNone others.now → ⊥) }
+    ensures err { IfErr result (λ e. (e.kind ≡ ErrorKind.Value sequence_tag) × ListsNone others.now) }
 {
     match others {
-        Some(infos) => infos.is_empty(),
-        None => false,
+        Some(infos) if infos.is_empty() => {
+            Err(Error::new(ErrorKind::Value { tag: Tag::SEQUENCE }))
+        }
+        _ => Ok(()),
     }
 }
 

@@ -1,18 +1,18 @@
 //! A private key as it is written: a row of its parts. The compiler takes rows of seven parts at most, so the end of
 //! the row is a type of its own.
-ghost use Rattle.std.specs.Prelude.{◌≡◌, ◌≤◌, ◌⊎◌, Option, length, option_map};
-ghost use Rattle.der_core.specs.Words.{Appends, Counts, Prepends, RefusedAs, Tells, free_of, last, last_alike, last_law, last_shortest, limit, parts, row_alike, row_law, row_shortest};
-ghost use Rattle.pkcs1.specs.Words.{RowIsValid, ThreeNumbersAreValid, ThreeNumbersThen, crt_with, key_row, parts_row, row_as, row_printed, three_numbers_as, three_numbers_printed};
+ghost use Rattle.std.specs.Prelude.{◌≡◌, ◌⊎◌, Option, option_map};
+ghost use Rattle.der_core.specs.Words.{last, last_alike, last_law, last_shortest, parts, row_alike, row_law, row_shortest};
+ghost use Rattle.pkcs1.specs.Words.{ThreeNumbersAreValid, ThreeNumbersThen, crt_with, key_row, parts_row, three_numbers_as, three_numbers_printed};
 ghost use Rattle.standard.specs.Statement.{IfPresent, optional};
 
 use super::PrivateKeyOf;
 use der_core::{
-    BackWriter, Borrowed, Contents, Encode, EncodeValue, Encoding, Last, Length, Result, Writer,
+    Borrowed, BorrowedLast, Contents, Encode, EncodeValue, Encoding, Prepend, Result, Writer,
 };
 
 /// What follows the two primes of a private key: their exponents, the coefficient, and the other primes.
 #[derive(Drop)]
-struct CrtParts<'b, U, O>(&'b PrivateKeyOf<U, O>);
+pub struct CrtParts<'b, U, O>(&'b PrivateKeyOf<U, O>);
 
 impl<'b, U: Encoding, O: Encoding> Contents for CrtParts<'b, U, O> {
     ghost Value = { ThreeNumbersThen U.Value (Option O.Value) };
@@ -42,52 +42,50 @@ impl<'b, U: Encoding, O: Encoding> Contents for CrtParts<'b, U, O> {
         row_alike law (row_alike law (row_alike law (last_alike O.reads_alike))) };
 }
 
-impl<'b, U: Encode, O: Encode> EncodeValue for CrtParts<'b, U, O> {
-    ghost refused = { λ tag. U.Encode.refused tag ⊎ O.Encode.refused tag };
+/// They in a row, borrowed.
+type CrtRow<'b, U, O> = (
+    Borrowed<'b, U>,
+    (Borrowed<'b, U>, (Borrowed<'b, U>, BorrowedLast<'b, O>)),
+);
 
+impl<'b, U: Encoding, O: Encoding> CrtParts<'b, U, O> {
     #[inline(always)]
-    fn value_len(&self) -> Result<Length> {
+    fn row(&self) -> CrtRow<'b, U, O>
+        ensures { let key = self.now.0.now in
+            (result.0.0.now ≡ key.exponent1) × (result.1.0.0.now ≡ key.exponent2)
+            × (result.1.1.0.0.now ≡ key.coefficient) × (result.1.1.1.0.now ≡ key.other_prime_infos) }
+    {
         let key = self.0;
         let last = (
             Borrowed(&key.coefficient),
-            Last::borrowed(&key.other_prime_infos),
+            BorrowedLast(&key.other_prime_infos),
         );
-        (Borrowed(&key.exponent1), (Borrowed(&key.exponent2), last)).value_len()
+        (Borrowed(&key.exponent1), (Borrowed(&key.exponent2), last))
+    }
+}
+
+impl<'b, U: Encode, O: Encode> EncodeValue for CrtParts<'b, U, O> {
+    ghost refused = { λ tag. U.Encode.refused tag ⊎ (U.Encode.refused tag ⊎ (U.Encode.refused tag
+        ⊎ O.Encode.refused tag)) };
+
+    #[inline(always)]
+    fn check_value(&self) -> Result<()> {
+        self.row().check_value()
     }
 
     #[inline(always)]
-    fn quick_value_len(&self) -> u64 {
-        let key = self.0;
-        let last = (
-            Borrowed(&key.coefficient),
-            Last::borrowed(&key.other_prime_infos),
-        );
-        (Borrowed(&key.exponent1), (Borrowed(&key.exponent2), last)).quick_value_len()
+    fn prepend_value<W: Prepend>(&self, writer: &mut W) {
+        self.row().prepend_value(writer);
     }
 
     #[inline(always)]
     fn append_value<W: Writer>(&self, writer: &mut W) -> Result<()> {
-        let key = self.0;
-        let last = (
-            Borrowed(&key.coefficient),
-            Last::borrowed(&key.other_prime_infos),
-        );
-        (Borrowed(&key.exponent1), (Borrowed(&key.exponent2), last)).append_value(writer)
-    }
-
-    #[inline(always)]
-    fn prepend_value(&self, writer: &mut BackWriter<'_>) {
-        let key = self.0;
-        let last = (
-            Borrowed(&key.coefficient),
-            Last::borrowed(&key.other_prime_infos),
-        );
-        (Borrowed(&key.exponent1), (Borrowed(&key.exponent2), last)).prepend_value(writer);
+        self.row().append_value(writer)
     }
 }
 
 /// The parts of a private key in a row.
-type KeyRow<'b, U, O> = (
+pub type KeyRow<'b, U, O> = (
     u8,
     (
         Borrowed<'b, U>,
@@ -102,9 +100,10 @@ type KeyRow<'b, U, O> = (
 );
 
 impl<U: Encoding, O: Encoding> PrivateKeyOf<U, O> {
-    /// The key's parts in a row.
+    /// The key's parts in a row, whatever holds the other primes: for types of these of one's own. It is written as the
+    /// key's contents. An empty list of other primes is written as one.
     #[inline(always)]
-    fn row(&self) -> KeyRow<'_, U, O>
+    pub fn row(&self) -> KeyRow<'_, U, O>
         ensures { parts_row U.value O.value result ≡ key_row U.value O.value self.now }
     {
         let prime1 = (
@@ -119,59 +118,5 @@ impl<U: Encoding, O: Encoding> PrivateKeyOf<U, O> {
             self.version().into(),
             (Borrowed(&self.modulus), public_exponent),
         )
-    }
-}
-
-/// For types of other primes of one's own: a key is written as its row, whatever holds them. An empty list of them is
-/// written as one.
-impl<U: Encode, O: Encode> PrivateKeyOf<U, O> {
-    /// The length of the contents octets, or why there are none. The tag of `Value` is one that the type of the numbers
-    /// or that of the other primes names.
-    #[inline(always)]
-    pub fn row_len(&self) -> Result<Length>
-        ensures counts { let s = row_as U.written O.written (key_row U.value O.value self.now) in
-            Counts (RowIsValid U.valid O.valid s) (row_printed U.printed O.printed s) result }
-        ensures tag { RefusedAs (λ tag. U.Encode.refused tag ⊎ O.Encode.refused tag) result }
-    {
-        self.row().value_len()
-    }
-
-    /// The length of the contents octets, told quickly. More than `Length::MAX` says nothing of them.
-    #[inline(always)]
-    pub fn quick_row_len(&self) -> u64
-        ensures { let s = row_as U.written O.written (key_row U.value O.value self.now) in
-            Tells (RowIsValid U.valid O.valid s) (row_printed U.printed O.printed s) result }
-    {
-        self.row().quick_value_len()
-    }
-
-    /// Appends the contents. Requires that there are some, of at most `Length::MAX` octets. `NoRoom` after a beginning
-    /// of them. The writer keeps what writing never changes.
-    #[inline(always)]
-    pub fn append_row<W: Writer>(&self, writer: &mut W) -> Result<()>
-        requires has { RowIsValid U.valid O.valid (row_as U.written O.written (key_row U.value O.value self.now)) }
-        requires fits { let s = row_as U.written O.written (key_row U.value O.value self.now) in
-            length (row_printed U.printed O.printed s) ≤ limit }
-        ensures appends { let s = row_as U.written O.written (key_row U.value O.value self.now) in
-            let octets = row_printed U.printed O.printed s in
-            Appends (RowIsValid U.valid O.valid s) octets W.room W.written writer.old writer.new result }
-        ensures kept { W.keeps writer.old writer.new }
-    {
-        self.row().append_value(writer)
-    }
-
-    /// Writes the contents in front of what is filled, as `prepend_value` does. Requires that there are some, of at
-    /// most `Length::MAX` octets, and room for them.
-    #[inline(always)]
-    pub fn prepend_row(&self, writer: &mut BackWriter<'_>)
-        requires has { RowIsValid U.valid O.valid (row_as U.written O.written (key_row U.value O.value self.now)) }
-        requires fits { let s = row_as U.written O.written (key_row U.value O.value self.now) in
-            length (row_printed U.printed O.printed s) ≤ limit }
-        requires room { let s = row_as U.written O.written (key_row U.value O.value self.now) in
-            length (row_printed U.printed O.printed s) ≤ free_of writer.old }
-        ensures { let s = row_as U.written O.written (key_row U.value O.value self.now) in
-            Prepends (row_printed U.printed O.printed s) writer.old writer.new }
-    {
-        self.row().prepend_value(writer);
     }
 }

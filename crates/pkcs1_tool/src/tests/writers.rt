@@ -1,6 +1,6 @@
 //! What `finish` of both writers leaves of the slice.
 use crate::tests::checks::equal;
-use der_core::{BackWriter, SliceWriter, Writer};
+use der_core::{BackWriter, Prepend, SliceWriter, Writer};
 
 #[test]
 fn the_rest_of_a_slice_is_kept(rt: HostRuntime) {

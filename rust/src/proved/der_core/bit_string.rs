@@ -1,14 +1,14 @@
 // Made of crates/der_core/src/bit_string.rt by tools/erase/erase.py, and not to be edited.
 //! BIT STRINGs of whole octets (X.690 8.6).
 
-use crate::proved::der_core::back_writer::BackWriter;
 use crate::proved::der_core::decode::DecodeValue;
-use crate::proved::der_core::encode::{EncodeValue, joined_len};
+use crate::proved::der_core::encode::EncodeValue;
 use crate::proved::der_core::error::{Error, ErrorKind, Result};
 use crate::proved::der_core::grammar::{Contents, TagMarker, TaggedBy};
 use crate::proved::der_core::length::Length;
 use crate::proved::der_core::memory::Memory;
 use crate::proved::der_core::octet_string::OctetStringRef;
+use crate::proved::der_core::prepend::Prepend;
 use crate::proved::der_core::tag::Tag;
 use crate::proved::der_core::writer::Writer;
 
@@ -53,17 +53,19 @@ impl<'a, M: Memory, C: DecodeValue<&'a [u8], M>> DecodeValue<&'a [u8], M> for Bi
 }
 
 impl<C: EncodeValue> EncodeValue for BitString<C> {
-    fn value_len(&self) -> Result<Length> {
-        joined_len(Ok(Length::ONE), self.0.value_len())
+    #[inline(always)]
+    fn check_value(&self) -> Result<()> {
+        self.0.check_value()
+    }
+
+    #[inline(always)]
+    fn prepend_value<W: Prepend>(&self, writer: &mut W) {
+        self.0.prepend_value(writer);
+        writer.prepend(&[0]);
     }
 
     fn append_value<W: Writer>(&self, writer: &mut W) -> Result<()> {
         writer.write(&[0])?;
         self.0.append_value(writer)
-    }
-
-    fn prepend_value(&self, writer: &mut BackWriter<'_>) {
-        self.0.prepend_value(writer);
-        writer.prepend(&[0]);
     }
 }

@@ -1,13 +1,13 @@
 // Made of crates/der_core/src/boolean.rt by tools/erase/erase.py, and not to be edited.
 //! BOOLEAN (X.690 8.2), as `bool`.
 
-use crate::proved::der_core::back_writer::BackWriter;
 use crate::proved::der_core::decode::DecodeValue;
 use crate::proved::der_core::encode::EncodeValue;
 use crate::proved::der_core::error::{Error, ErrorKind, Result};
 use crate::proved::der_core::grammar::{Contents, TagMarker, TaggedBy};
 use crate::proved::der_core::length::Length;
 use crate::proved::der_core::memory::Memory;
+use crate::proved::der_core::prepend::Prepend;
 use crate::proved::der_core::tag::Tag;
 use crate::proved::der_core::writer::Writer;
 
@@ -48,15 +48,17 @@ impl<'a, M: Memory> DecodeValue<&'a [u8], M> for bool {
 }
 
 impl EncodeValue for bool {
-    fn value_len(&self) -> Result<Length> {
-        Ok(Length::ONE)
+    #[inline(always)]
+    fn check_value(&self) -> Result<()> {
+        Ok(())
+    }
+
+    #[inline(always)]
+    fn prepend_value<W: Prepend>(&self, writer: &mut W) {
+        writer.prepend(&[if *self { 0xff } else { 0x00 }]);
     }
 
     fn append_value<W: Writer>(&self, writer: &mut W) -> Result<()> {
         writer.write(&[if *self { 0xff } else { 0x00 }])
-    }
-
-    fn prepend_value(&self, writer: &mut BackWriter<'_>) {
-        writer.prepend(&[if *self { 0xff } else { 0x00 }]);
     }
 }

@@ -2,36 +2,41 @@
 //! Writing of values.
 
 use crate::proved::der_core::back_writer::BackWriter;
+use crate::proved::der_core::counter::Counter;
 use crate::proved::der_core::error::{Error, ErrorKind, Result};
 use crate::proved::der_core::grammar::{Contents, Encoding, FixedTag};
 use crate::proved::der_core::header::Header;
-use crate::proved::der_core::length::{Length, UNTOLD, with_header};
+use crate::proved::der_core::length::Length;
+use crate::proved::der_core::prepend::Prepend;
 use crate::proved::der_core::writer::Writer;
 
 /// A type whose values are written as contents octets.
 pub trait EncodeValue: Contents {
-    /// The length of the contents that are written. `Value` exactly if the value has none, else `Overflow` exactly if
-    /// they are longer than `Length::MAX`.
-    fn value_len(&self) -> Result<Length>;
+    /// Whether the value has contents: `Value` exactly if it has none.
+    fn check_value(&self) -> Result<()>;
 
-    /// The length of the contents that are written, told quickly. More than `Length::MAX` says nothing of them.
-    #[inline(always)]
-    fn quick_value_len(&self) -> u64 {
-        UNTOLD
-    }
+    /// Writes the contents in front of what was received, or counts them. There have to be some, and room for them.
+    fn prepend_value<W: Prepend>(&self, writer: &mut W);
 
     /// Appends the contents. There have to be some, within `Length::MAX`. The only error is `NoRoom`, exactly if the
     /// writer has too little room, after a beginning of them.
     fn append_value<W: Writer>(&self, writer: &mut W) -> Result<()>;
+
+    /// The length of the contents that are written. `Value` exactly if the value has none, else `Overflow` exactly if
+    /// they are longer than `Length::MAX`.
+    #[inline(always)]
+    fn value_len(&self) -> Result<Length> {
+        self.check_value()?;
+        let mut counter = Counter::new();
+        self.prepend_value(&mut counter);
+        counter.length()
+    }
 
     /// Appends the contents: `Value` and `Overflow`, as of `value_len`, before any octet, `NoRoom` after a beginning.
     fn encode_value<W: Writer>(&self, writer: &mut W) -> Result<()> {
         self.value_len()?;
         self.append_value(writer)
     }
-
-    /// Writes the contents in front of what is filled. There have to be some, within `Length::MAX`, and room for them.
-    fn prepend_value(&self, writer: &mut BackWriter<'_>);
 }
 
 /// A type whose values are written as encodings. Its calls return these errors exactly in these cases:
@@ -39,21 +44,33 @@ pub trait EncodeValue: Contents {
 /// - `Overflow`: it has encodings, but none within `Length::MAX`.
 /// - `NoRoom`: its shortest encoding is longer than the slice, or than the room of the writer.
 pub trait Encode: Encoding {
-    /// The length of the shortest encoding; `Value` and `Overflow` exactly if they say so.
-    fn encoded_len(&self) -> Result<Length>;
+    /// Whether the value has an encoding: `Value` exactly if it has none.
+    fn check(&self) -> Result<()>;
 
-    /// The length of the shortest encoding, told quickly. More than `Length::MAX` says nothing of it.
+    /// Writes the shortest encoding in front of what was received, or counts it. There has to be one, and room for it.
+    fn prepend<W: Prepend>(&self, writer: &mut W);
+
+    /// Appends the shortest encoding. There has to be one within `Length::MAX`. The only error is `NoRoom`, exactly if
+    /// the writer has too little room, after a beginning of it.
+    fn append<W: Writer>(&self, writer: &mut W) -> Result<()>;
+
+    /// The length of the shortest encoding; `Value` and `Overflow` exactly if they say so.
     #[inline(always)]
-    fn quick_len(&self) -> u64 {
-        UNTOLD
+    fn encoded_len(&self) -> Result<Length>
+    where
+        Self: Sized,
+    {
+        counted_len(self)
     }
 
     /// Appends the shortest encoding. `Value` and `Overflow` come before any octet is written, `NoRoom` after a
     /// beginning of them. A writer without a limit gives no `NoRoom`.
-    fn encode<W: Writer>(&self, writer: &mut W) -> Result<()>;
-
-    /// Writes the encoding in front of what is filled. There has to be one within `Length::MAX`, and room for it.
-    fn prepend(&self, writer: &mut BackWriter<'_>);
+    fn encode<W: Writer>(&self, writer: &mut W) -> Result<()>
+    where
+        Self: Sized,
+    {
+        append_counted(self, writer)
+    }
 
     /// Writes the shortest encoding of the value to the front of a slice. Ok(n): the first n bytes are the encoding,
     /// and those behind them are as they were. Err: the slice is as it was, and the error says exactly why.
@@ -91,60 +108,42 @@ fn front<'b>(out: &'b [u8], written: Result<usize>) -> Result<&'b [u8]> {
     }
 }
 
-/// The length of the encoding with these contents.
-fn encoding_len<T: EncodeValue + FixedTag>(value: &T) -> Result<Length> {
-    value.value_len()?.for_tlv(T::TAG)
+/// The length of the shortest encoding.
+#[inline(always)]
+fn counted_len<T: Encode>(value: &T) -> Result<Length> {
+    value.check()?;
+    let mut counter = Counter::new();
+    value.prepend(&mut counter);
+    counter.length()
 }
 
-/// Appends a header and the contents.
-fn encode_tlv<T: EncodeValue + FixedTag, W: Writer>(value: &T, writer: &mut W) -> Result<()> {
-    let length = value.value_len()?;
-    length.for_tlv(T::TAG)?;
-    let header = Header {
-        tag: T::TAG,
-        length,
-    };
-    writer.write(&header.to_bytes())?;
-    value.append_value(writer)
+/// Appends the shortest encoding, where it is within `Length::MAX`.
+fn append_counted<T: Encode, W: Writer>(value: &T, writer: &mut W) -> Result<()> {
+    counted_len(value)?;
+    value.append(writer)
 }
 
 impl<T: EncodeValue + FixedTag> Encode for T {
     #[inline(always)]
-    fn encoded_len(&self) -> Result<Length> {
-        match Length::told(self.quick_len()) {
-            Some(length) => Ok(length),
-            None => encoding_len(self),
-        }
+    fn check(&self) -> Result<()> {
+        self.check_value()
     }
 
     #[inline(always)]
-    fn quick_len(&self) -> u64 {
-        with_header(self.quick_value_len())
-    }
-
-    fn encode<W: Writer>(&self, writer: &mut W) -> Result<()> {
-        encode_tlv(self, writer)
-    }
-
-    #[inline(always)]
-    fn prepend(&self, writer: &mut BackWriter<'_>) {
+    fn prepend<W: Prepend>(&self, writer: &mut W) {
         let before = writer.filled_len();
         self.prepend_value(writer);
-        let length = Length::of(writer.filled_len() - before);
-        writer.prepend_header(Header {
-            tag: T::TAG,
-            length,
-        });
+        writer.prepend_header(T::TAG, before);
     }
-}
 
-/// The sum of two lengths. `Value` is reported before `Overflow`.
-pub fn joined_len(a: Result<Length>, b: Result<Length>) -> Result<Length> {
-    match a {
-        Ok(a) => a.checked_add(b?),
-        Err(error) => match b {
-            Err(other) if !error.is_value() => Err(other),
-            _ => Err(error),
-        },
+    fn append<W: Writer>(&self, writer: &mut W) -> Result<()> {
+        let mut counter = Counter::new();
+        self.prepend_value(&mut counter);
+        let header = Header {
+            tag: T::TAG,
+            length: Length::of(counter.filled_len() as usize),
+        };
+        writer.write(&header.to_bytes())?;
+        self.append_value(writer)
     }
 }

@@ -102,11 +102,6 @@ impl Error {
     pub fn kind(&self) -> ErrorKind {
         self.kind
     }
-
-    /// Whether the error says that a value has no encoding.
-    pub(crate) fn is_value(self) -> bool {
-        matches!(self.kind, ErrorKind::Value { .. })
-    }
 }
 
 impl From<AllocError> for Error {

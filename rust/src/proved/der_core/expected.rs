@@ -1,13 +1,12 @@
 // Made of crates/der_core/src/expected.rt by tools/erase/erase.py, and not to be edited.
 //! An INTEGER that has to be one number, such as the version of a structure that has only one.
 
-use crate::proved::der_core::back_writer::BackWriter;
 use crate::proved::der_core::decode::DecodeValue;
 use crate::proved::der_core::encode::EncodeValue;
 use crate::proved::der_core::error::{Error, ErrorKind, Result};
 use crate::proved::der_core::grammar::{Contents, IntegerTag, TaggedBy};
-use crate::proved::der_core::length::Length;
 use crate::proved::der_core::memory::Memory;
+use crate::proved::der_core::prepend::Prepend;
 use crate::proved::der_core::tag::Tag;
 use crate::proved::der_core::writer::Writer;
 
@@ -32,20 +31,17 @@ impl<'a, M: Memory, const N: u8> DecodeValue<&'a [u8], M> for Expected<N> {
 }
 
 impl<const N: u8> EncodeValue for Expected<N> {
-    fn value_len(&self) -> Result<Length> {
-        N.value_len()
+    #[inline(always)]
+    fn check_value(&self) -> Result<()> {
+        Ok(())
     }
 
     #[inline(always)]
-    fn quick_value_len(&self) -> u64 {
-        N.quick_value_len()
+    fn prepend_value<W: Prepend>(&self, writer: &mut W) {
+        N.prepend_value(writer);
     }
 
     fn append_value<W: Writer>(&self, writer: &mut W) -> Result<()> {
         N.append_value(writer)
-    }
-
-    fn prepend_value(&self, writer: &mut BackWriter<'_>) {
-        N.prepend_value(writer);
     }
 }

@@ -1,13 +1,12 @@
 // Made of crates/der_core/src/in_range.rt by tools/erase/erase.py, and not to be edited.
 //! An INTEGER in a range, such as the version of a structure that has several.
 
-use crate::proved::der_core::back_writer::BackWriter;
 use crate::proved::der_core::decode::DecodeValue;
 use crate::proved::der_core::encode::EncodeValue;
 use crate::proved::der_core::error::{Error, ErrorKind, Result};
 use crate::proved::der_core::grammar::{Contents, IntegerTag, TaggedBy};
-use crate::proved::der_core::length::Length;
 use crate::proved::der_core::memory::Memory;
+use crate::proved::der_core::prepend::Prepend;
 use crate::proved::der_core::tag::Tag;
 use crate::proved::der_core::writer::Writer;
 
@@ -41,18 +40,21 @@ impl<'a, M: Memory, const MIN: u8, const MAX: u8> DecodeValue<&'a [u8], M> for I
 }
 
 impl<const MIN: u8, const MAX: u8> EncodeValue for InRange<MIN, MAX> {
-    fn value_len(&self) -> Result<Length> {
-        if !self.is_within() {
-            return Err(Error::new(ErrorKind::Value { tag: Tag::INTEGER }));
+    #[inline(always)]
+    fn check_value(&self) -> Result<()> {
+        if self.is_within() {
+            Ok(())
+        } else {
+            Err(Error::new(ErrorKind::Value { tag: Tag::INTEGER }))
         }
-        self.0.value_len()
+    }
+
+    #[inline(always)]
+    fn prepend_value<W: Prepend>(&self, writer: &mut W) {
+        self.0.prepend_value(writer);
     }
 
     fn append_value<W: Writer>(&self, writer: &mut W) -> Result<()> {
         self.0.append_value(writer)
-    }
-
-    fn prepend_value(&self, writer: &mut BackWriter<'_>) {
-        self.0.prepend_value(writer);
     }
 }

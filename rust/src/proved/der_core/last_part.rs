@@ -1,32 +1,24 @@
 // Made of crates/der_core/src/last_part.rt by tools/erase/erase.py, and not to be edited.
 //! The last part of some contents: one encoding, or an OPTIONAL one.
 
-use crate::proved::der_core::back_writer::BackWriter;
-use crate::proved::der_core::borrowed::Borrowed;
 use crate::proved::der_core::decode::{Decode, DecodeValue, read_optional};
 use crate::proved::der_core::encode::{Encode, EncodeValue};
 use crate::proved::der_core::error::{Error, ErrorKind, Result};
 use crate::proved::der_core::grammar::{Contents, Encoding, FixedTag};
-use crate::proved::der_core::length::Length;
 use crate::proved::der_core::memory::Memory;
 use crate::proved::der_core::parts::DecodeParts;
+use crate::proved::der_core::prepend::Prepend;
 use crate::proved::der_core::writer::Writer;
 
 /// An OPTIONAL last part: one encoding, or nothing. Whatever is left is read as the part.
 pub struct Last<T>(pub Option<T>);
 
-impl<'b, T: Encoding> Last<Borrowed<'b, T>> {
-    /// A last part to be written.
-    #[inline(always)]
-    pub fn borrowed(part: &'b Option<T>) -> Last<Borrowed<'b, T>> {
-        match part {
-            Some(value) => Last(Some(Borrowed(value))),
-            None => Last(None),
-        }
-    }
-}
+/// A borrowed OPTIONAL last part, which is written as the part itself.
+pub struct BorrowedLast<'b, T>(pub &'b Option<T>);
 
 impl<T: Encoding> Contents for Last<T> {}
+
+impl<T: Encoding> Contents for BorrowedLast<'_, T> {}
 
 impl<'a, M: Memory, T: Decode<&'a [u8], M>> DecodeParts<&'a [u8], M> for Last<T> {
     #[inline(always)]
@@ -39,36 +31,60 @@ impl<'a, M: Memory, T: Decode<&'a [u8], M>> DecodeParts<&'a [u8], M> for Last<T>
     }
 }
 
+/// Whether the part has an encoding, if it is there.
+#[inline(always)]
+fn check_optional<T: Encode>(part: &Option<T>) -> Result<()> {
+    match part {
+        Some(part) => part.check(),
+        None => Ok(()),
+    }
+}
+
+/// Writes the part in front of what was received, or counts it, if it is there.
+#[inline(always)]
+fn prepend_optional<T: Encode, W: Prepend>(part: &Option<T>, writer: &mut W) {
+    if let Some(part) = part {
+        part.prepend(writer);
+    }
+}
+
+/// Appends the part, if it is there.
+fn append_optional<T: Encode, W: Writer>(part: &Option<T>, writer: &mut W) -> Result<()> {
+    match part {
+        Some(part) => part.append(writer),
+        None => Ok(()),
+    }
+}
+
 impl<T: Encode> EncodeValue for Last<T> {
     #[inline(always)]
-    fn value_len(&self) -> Result<Length> {
-        match &self.0 {
-            Some(part) => part.encoded_len(),
-            None => Ok(Length::ZERO),
-        }
+    fn check_value(&self) -> Result<()> {
+        check_optional(&self.0)
     }
 
     #[inline(always)]
-    fn quick_value_len(&self) -> u64 {
-        match &self.0 {
-            Some(part) => part.quick_len(),
-            None => 0,
-        }
+    fn prepend_value<W: Prepend>(&self, writer: &mut W) {
+        prepend_optional(&self.0, writer);
     }
 
-    #[inline(always)]
     fn append_value<W: Writer>(&self, writer: &mut W) -> Result<()> {
-        match &self.0 {
-            Some(part) => part.encode(writer),
-            None => Ok(()),
-        }
+        append_optional(&self.0, writer)
+    }
+}
+
+impl<T: Encode> EncodeValue for BorrowedLast<'_, T> {
+    #[inline(always)]
+    fn check_value(&self) -> Result<()> {
+        check_optional(self.0)
     }
 
     #[inline(always)]
-    fn prepend_value(&self, writer: &mut BackWriter<'_>) {
-        if let Some(part) = &self.0 {
-            part.prepend(writer);
-        }
+    fn prepend_value<W: Prepend>(&self, writer: &mut W) {
+        prepend_optional(self.0, writer);
+    }
+
+    fn append_value<W: Writer>(&self, writer: &mut W) -> Result<()> {
+        append_optional(self.0, writer)
     }
 }
 
@@ -91,22 +107,16 @@ impl<'a, M: Memory, T: DecodeValue<&'a [u8], M> + FixedTag> DecodeParts<&'a [u8]
 
 impl<T: EncodeValue + FixedTag> EncodeValue for LastByTag<T> {
     #[inline(always)]
-    fn value_len(&self) -> Result<Length> {
-        self.0.value_len()
+    fn check_value(&self) -> Result<()> {
+        self.0.check_value()
     }
 
     #[inline(always)]
-    fn quick_value_len(&self) -> u64 {
-        self.0.quick_value_len()
+    fn prepend_value<W: Prepend>(&self, writer: &mut W) {
+        self.0.prepend_value(writer);
     }
 
-    #[inline(always)]
     fn append_value<W: Writer>(&self, writer: &mut W) -> Result<()> {
         self.0.append_value(writer)
-    }
-
-    #[inline(always)]
-    fn prepend_value(&self, writer: &mut BackWriter<'_>) {
-        self.0.prepend_value(writer);
     }
 }

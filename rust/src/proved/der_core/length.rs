@@ -15,9 +15,6 @@ pub struct Length {
 
 impl Model for Length {}
 
-/// What a call returns that tells no length: more than `Length::MAX`.
-pub const UNTOLD: u64 = 4294967296;
-
 /// How many octets a tag, a length and contents of so many octets are. More than `Length::MAX` if the contents are.
 #[inline(always)]
 pub(crate) fn with_header(contents: u64) -> u64 {
@@ -91,13 +88,7 @@ impl TryFrom<usize> for Length {
 
     /// The length of this number. `Overflow` exactly if it exceeds `MAX`.
     fn try_from(value: usize) -> Result<Length> {
-        if value <= Length::MAX.to_usize() {
-            Ok(Length {
-                value: value as u32,
-            })
-        } else {
-            Err(Error::new(ErrorKind::Overflow))
-        }
+        Length::counted(value as u64)
     }
 }
 
@@ -118,15 +109,15 @@ impl Length {
         }
     }
 
-    /// The length that was told quickly, or `None`.
+    /// The length that was counted. `Overflow` exactly if it exceeds `MAX`.
     #[inline(always)]
-    pub(crate) fn told(number: u64) -> Option<Length> {
-        if number < UNTOLD {
-            Some(Length {
+    pub(crate) fn counted(number: u64) -> Result<Length> {
+        if number <= Length::MAX.value as u64 {
+            Ok(Length {
                 value: number as u32,
             })
         } else {
-            None
+            Err(Error::new(ErrorKind::Overflow))
         }
     }
 
@@ -145,10 +136,7 @@ impl Length {
 
     /// The length of an encoding whose contents have this length. `Overflow` exactly if it exceeds `MAX`.
     pub fn for_tlv(self, _tag: Tag) -> Result<Length> {
-        match Length::told(with_header(self.value as u64)) {
-            Some(total) => Ok(total),
-            None => Err(Error::new(ErrorKind::Overflow)),
-        }
+        Length::counted(with_header(self.value as u64))
     }
 
     /// The length octets (X.690 8.1.3), as few as possible, at most 5.

@@ -13,6 +13,7 @@ mod bit_string;
 mod boolean;
 mod borrowed;
 mod containing;
+mod counter;
 mod decode;
 mod document;
 mod encode;
@@ -34,6 +35,7 @@ mod one_encoding;
 mod optional_last;
 mod optional_part;
 mod parts;
+mod prepend;
 mod reader;
 mod record;
 mod sequence_of;
@@ -53,12 +55,13 @@ pub use bit_string::{BitString, BitStringRef, BitStringTag};
 pub use boolean::BooleanTag;
 pub use borrowed::Borrowed;
 pub use containing::Containing;
+pub use counter::Counter;
 pub use decode::{
     Decode, DecodeValue, decode_optional, decode_tagged, is_tag_next, read_borrowed, read_optional,
     read_owned, read_tagged,
 };
 pub use document::{Document, DocumentOf, Open, Secret, SecretDocument, write_over};
-pub use encode::{Encode, EncodeValue, joined_len};
+pub use encode::{Encode, EncodeValue};
 pub use error::{Error, ErrorKind, Result};
 pub use expected::Expected;
 pub use file_system::FileSystem;
@@ -70,22 +73,23 @@ pub use grammar::{
 pub use header::Header;
 pub use in_range::InRange;
 pub use integer::{AsUintRef, Uint, UintEncoding, UintRef};
-pub use last_part::{Last, LastByTag};
+pub use last_part::{BorrowedLast, Last, LastByTag};
 pub use laws::{
     lemma_clones_hold_the_same, lemma_contents_are_read, lemma_documents_compare_by_bytes,
     lemma_encodings_are_read, lemma_headers_compare_by_value, lemma_kinds_compare_by_value,
     lemma_lengths_compare_by_number, lemma_optional_parts_are_read,
     lemma_tag_numbers_compare_by_number,
 };
-pub use length::{Length, UNTOLD};
+pub use length::Length;
 pub use memory::{Memory, NoMemory};
 pub use null::{Null, NullTag};
 pub use octet_string::{OctetStringRef, OctetStringTag};
 pub use one_encoding::{OneContents, OneEncoding, lemma_one_encoding, write_only};
 pub use optional_part::OptionalThen;
 pub use parts::DecodeParts;
+pub use prepend::Prepend;
 pub use reader::{BytesLeft, Octets, Reader};
-pub use record::{EncodeInParts, InParts, Record};
+pub use record::{EncodeInParts, InParts, Record, RowOperation};
 pub use slice_reader::SliceReader;
 pub use slices::{read_contents, read_front};
 pub use source_sink::{Close, Sink, Source};

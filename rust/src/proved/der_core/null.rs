@@ -1,14 +1,9 @@
 // Made of crates/der_core/src/null.rt by tools/erase/erase.py, and not to be edited.
 //! NULL (X.690 8.8).
 
-use crate::proved::der_core::back_writer::BackWriter;
-use crate::proved::der_core::encode::EncodeValue;
-use crate::proved::der_core::error::Result;
 use crate::proved::der_core::grammar::{TagMarker, TaggedBy};
-use crate::proved::der_core::length::Length;
-use crate::proved::der_core::record::{EncodeInParts, Record};
+use crate::proved::der_core::record::{EncodeInParts, Record, RowOperation};
 use crate::proved::der_core::tag::Tag;
-use crate::proved::der_core::writer::Writer;
 
 /// The tag of NULL.
 pub struct NullTag;
@@ -34,15 +29,8 @@ impl Record for Null {
 }
 
 impl EncodeInParts for Null {
-    fn parts_len(&self) -> Result<Length> {
-        ().value_len()
-    }
-
-    fn append_parts<W: Writer>(&self, writer: &mut W) -> Result<()> {
-        ().append_value(writer)
-    }
-
-    fn prepend_parts(&self, writer: &mut BackWriter<'_>) {
-        ().prepend_value(writer);
+    #[inline(always)]
+    fn with_row<O: RowOperation>(&self, operation: &mut O) -> O::Output {
+        operation.apply(&())
     }
 }

@@ -1,13 +1,13 @@
 // Made of crates/der_core/src/octet_string.rt by tools/erase/erase.py, and not to be edited.
 //! OCTET STRING (X.690 8.7).
 
-use crate::proved::der_core::back_writer::BackWriter;
 use crate::proved::der_core::decode::DecodeValue;
 use crate::proved::der_core::encode::EncodeValue;
 use crate::proved::der_core::error::{Error, ErrorKind, Result};
 use crate::proved::der_core::grammar::{Contents, EqualByValue, TagMarker, TaggedBy};
 use crate::proved::der_core::length::Length;
 use crate::proved::der_core::memory::Memory;
+use crate::proved::der_core::prepend::Prepend;
 use crate::proved::der_core::tag::Tag;
 use crate::proved::der_core::writer::Writer;
 
@@ -65,20 +65,17 @@ impl<'a, M: Memory> DecodeValue<&'a [u8], M> for OctetStringRef<'a> {
 }
 
 impl EncodeValue for OctetStringRef<'_> {
-    fn value_len(&self) -> Result<Length> {
-        Ok(self.len())
+    #[inline(always)]
+    fn check_value(&self) -> Result<()> {
+        Ok(())
     }
 
     #[inline(always)]
-    fn quick_value_len(&self) -> u64 {
-        self.bytes.len() as u64
+    fn prepend_value<W: Prepend>(&self, writer: &mut W) {
+        writer.prepend(self.bytes);
     }
 
     fn append_value<W: Writer>(&self, writer: &mut W) -> Result<()> {
         writer.write(self.bytes)
-    }
-
-    fn prepend_value(&self, writer: &mut BackWriter<'_>) {
-        writer.prepend(self.bytes);
     }
 }

@@ -1,14 +1,13 @@
 // Made of crates/der_core/src/optional_part.rt by tools/erase/erase.py, and not to be edited.
 //! An OPTIONAL part in front of others, which is known by its tag.
 
-use crate::proved::der_core::back_writer::BackWriter;
 use crate::proved::der_core::decode::{Decode, DecodeValue, read_optional};
-use crate::proved::der_core::encode::{Encode, EncodeValue, joined_len};
+use crate::proved::der_core::encode::{Encode, EncodeValue};
 use crate::proved::der_core::error::{Error, ErrorKind, Result};
 use crate::proved::der_core::grammar::{Contents, Encoding, FixedTag};
-use crate::proved::der_core::length::Length;
 use crate::proved::der_core::memory::Memory;
 use crate::proved::der_core::parts::DecodeParts;
+use crate::proved::der_core::prepend::Prepend;
 use crate::proved::der_core::tag::Tag;
 use crate::proved::der_core::writer::Writer;
 
@@ -54,33 +53,31 @@ where
     B: EncodeValue,
 {
     #[inline(always)]
-    fn value_len(&self) -> Result<Length> {
+    fn check_value(&self) -> Result<()> {
         if A::may_start_with(T::TAG) {
             return Err(Error::new(ErrorKind::Value { tag: T::TAG }));
         }
-        let rest = self.1.value_len();
-        match &self.0 {
-            Some(part) => joined_len(part.encoded_len(), rest),
-            None => rest,
+        if let Some(part) = &self.0 {
+            part.check()?;
         }
+        self.1.check_value()
     }
 
     #[inline(always)]
-    fn append_value<W: Writer>(&self, writer: &mut W) -> Result<()> {
-        match &self.0 {
-            Some(part) => {
-                part.encode(writer)?;
-                self.1.append_value(writer)
-            }
-            None => self.1.append_value(writer),
-        }
-    }
-
-    #[inline(always)]
-    fn prepend_value(&self, writer: &mut BackWriter<'_>) {
+    fn prepend_value<W: Prepend>(&self, writer: &mut W) {
         self.1.prepend_value(writer);
         if let Some(part) = &self.0 {
             part.prepend(writer);
+        }
+    }
+
+    fn append_value<W: Writer>(&self, writer: &mut W) -> Result<()> {
+        match &self.0 {
+            Some(part) => {
+                part.append(writer)?;
+                self.1.append_value(writer)
+            }
+            None => self.1.append_value(writer),
         }
     }
 }

@@ -2,13 +2,12 @@
 //! Parts of contents in a row, as a type: a nested pair that ends with `()`, as `(A, (B, ()))`, or with an OPTIONAL last
 //! part, as `(A, Last<B>)`. A row is written as contents, `(Borrowed(&self.a), (Borrowed(&self.b), ())).value_len()`.
 
-use crate::proved::der_core::back_writer::BackWriter;
 use crate::proved::der_core::decode::Decode;
-use crate::proved::der_core::encode::{Encode, EncodeValue, joined_len};
+use crate::proved::der_core::encode::{Encode, EncodeValue};
 use crate::proved::der_core::error::{Error, ErrorKind, Result};
 use crate::proved::der_core::grammar::{Contents, Encoding};
-use crate::proved::der_core::length::Length;
 use crate::proved::der_core::memory::Memory;
+use crate::proved::der_core::prepend::Prepend;
 use crate::proved::der_core::reader::Octets;
 use crate::proved::der_core::writer::Writer;
 
@@ -46,46 +45,35 @@ impl<'a, M: Memory, A: Decode<&'a [u8], M>, B: DecodeParts<&'a [u8], M>> DecodeP
 
 impl EncodeValue for () {
     #[inline(always)]
-    fn value_len(&self) -> Result<Length> {
-        Ok(Length::ZERO)
+    fn check_value(&self) -> Result<()> {
+        Ok(())
     }
 
     #[inline(always)]
-    fn quick_value_len(&self) -> u64 {
-        0
-    }
+    fn prepend_value<W: Prepend>(&self, _writer: &mut W) {}
 
     #[inline(always)]
     fn append_value<W: Writer>(&self, _writer: &mut W) -> Result<()> {
         Ok(())
     }
-
-    #[inline(always)]
-    fn prepend_value(&self, _writer: &mut BackWriter<'_>) {}
 }
 
 impl<A: Encode, B: EncodeValue> EncodeValue for (A, B) {
     #[inline(always)]
-    fn value_len(&self) -> Result<Length> {
-        let rest = self.1.value_len(); // counted first, so that one sum is kept and not each part's length
-        joined_len(self.0.encoded_len(), rest)
+    fn check_value(&self) -> Result<()> {
+        self.0.check()?;
+        self.1.check_value()
     }
 
     #[inline(always)]
-    fn quick_value_len(&self) -> u64 {
-        let rest = self.1.quick_value_len(); // first, as in `value_len`
-        rest.saturating_add(self.0.quick_len())
+    fn prepend_value<W: Prepend>(&self, writer: &mut W) {
+        self.1.prepend_value(writer);
+        self.0.prepend(writer);
     }
 
     #[inline(always)]
     fn append_value<W: Writer>(&self, writer: &mut W) -> Result<()> {
-        self.0.encode(writer)?;
+        self.0.append(writer)?;
         self.1.append_value(writer)
-    }
-
-    #[inline(always)]
-    fn prepend_value(&self, writer: &mut BackWriter<'_>) {
-        self.1.prepend_value(writer);
-        self.0.prepend(writer);
     }
 }

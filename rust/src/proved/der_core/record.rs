@@ -1,14 +1,13 @@
 // Made of crates/der_core/src/record.rt by tools/erase/erase.py, and not to be edited.
 //! Records of parts, mostly SEQUENCEs: a type that names its parts is read and written with no proof of its own.
 
-use crate::proved::der_core::back_writer::BackWriter;
 use crate::proved::der_core::decode::DecodeValue;
 use crate::proved::der_core::encode::EncodeValue;
 use crate::proved::der_core::error::Result;
 use crate::proved::der_core::grammar::Contents;
-use crate::proved::der_core::length::{Length, UNTOLD};
 use crate::proved::der_core::memory::Memory;
 use crate::proved::der_core::parts::DecodeParts;
+use crate::proved::der_core::prepend::Prepend;
 use crate::proved::der_core::tag::Tag;
 use crate::proved::der_core::writer::Writer;
 
@@ -32,45 +31,77 @@ where
     }
 }
 
+/// What is done to a row of parts that are written.
+pub trait RowOperation: Sized {
+    /// What it returns.
+    type Output;
+
+    /// Does it.
+    fn apply<R: EncodeValue>(&mut self, row: &R) -> Self::Output;
+}
+
+/// Finds out whether the row has contents.
+struct CheckRow;
+
+impl RowOperation for CheckRow {
+    type Output = Result<()>;
+
+    #[inline(always)]
+    fn apply<R: EncodeValue>(&mut self, row: &R) -> Result<()> {
+        row.check_value()
+    }
+}
+
+/// Writes the row in front of what was received, or counts it.
+struct PrependRow<'w, W> {
+    writer: &'w mut W,
+}
+
+impl<'w, W: Prepend> RowOperation for PrependRow<'w, W> {
+    type Output = ();
+
+    #[inline(always)]
+    fn apply<R: EncodeValue>(&mut self, row: &R) {
+        row.prepend_value(self.writer);
+    }
+}
+
+/// Appends the row.
+struct AppendRow<'w, W> {
+    writer: &'w mut W,
+}
+
+impl<'w, W: Writer> RowOperation for AppendRow<'w, W> {
+    type Output = Result<()>;
+
+    #[inline(always)]
+    fn apply<R: EncodeValue>(&mut self, row: &R) -> Result<()> {
+        row.append_value(self.writer)
+    }
+}
+
 /// A type whose contents are written as a row of parts.
 pub trait EncodeInParts: InParts {
-    /// The length of the parts that are written. `Value` exactly if the value has none, else `Overflow` exactly if
-    /// they are longer than `Length::MAX`.
-    fn parts_len(&self) -> Result<Length>;
-
-    /// The length of the parts that are written, told quickly. More than `Length::MAX` says nothing of them.
-    #[inline(always)]
-    fn quick_parts_len(&self) -> u64 {
-        UNTOLD
-    }
-
-    /// Appends the parts. There have to be some, within `Length::MAX`. The only error is `NoRoom`, exactly if the
-    /// writer has too little room, after a beginning of them.
-    fn append_parts<W: Writer>(&self, writer: &mut W) -> Result<()>;
-
-    /// Writes the parts in front of what is filled. There have to be some, within `Length::MAX`, and room for them.
-    fn prepend_parts(&self, writer: &mut BackWriter<'_>);
+    /// Does this to the row of what is written, whose parts are borrowed. It has at most seven parts: of eight the last
+    /// four are one, whose type is written in parts too.
+    fn with_row<O: RowOperation>(&self, operation: &mut O) -> O::Output;
 }
 
 impl<T: EncodeInParts> EncodeValue for T {
     #[inline(always)]
-    fn value_len(&self) -> Result<Length> {
-        self.parts_len()
+    fn check_value(&self) -> Result<()> {
+        self.with_row(&mut CheckRow)
     }
 
     #[inline(always)]
-    fn quick_value_len(&self) -> u64 {
-        self.quick_parts_len()
+    fn prepend_value<W: Prepend>(&self, writer: &mut W) {
+        let mut operation = PrependRow { writer };
+        self.with_row(&mut operation);
     }
 
-    #[inline(always)]
     fn append_value<W: Writer>(&self, writer: &mut W) -> Result<()> {
-        self.append_parts(writer)
-    }
-
-    #[inline(always)]
-    fn prepend_value(&self, writer: &mut BackWriter<'_>) {
-        self.prepend_parts(writer);
+        let mut operation = AppendRow { writer };
+        self.with_row(&mut operation)
     }
 }
 

@@ -2,12 +2,11 @@
 //! SEQUENCE OF (X.690 8.10), as a `Vec` of its items.
 
 use crate::rattle_std::prelude::Vec;
-use crate::proved::der_core::back_writer::BackWriter;
 use crate::proved::der_core::decode::{Decode, DecodeValue};
-use crate::proved::der_core::encode::{Encode, EncodeValue, joined_len};
+use crate::proved::der_core::encode::{Encode, EncodeValue};
 use crate::proved::der_core::error::{Error, ErrorKind, Result};
 use crate::proved::der_core::grammar::{Contents, Encoding, SequenceTag, TaggedBy};
-use crate::proved::der_core::length::{Length, UNTOLD};
+use crate::proved::der_core::prepend::Prepend;
 use crate::proved::der_core::tag::Tag;
 use crate::proved::der_core::writer::Writer;
 use crate::rattle_std::alloc::Global;
@@ -33,34 +32,16 @@ impl<'a, T: Decode<&'a [u8], Global>> DecodeValue<&'a [u8], Global> for Vec<T> {
     }
 }
 
-/// The total length of the encodings of the items.
-pub(crate) fn items_len<T: Encode>(items: &[T]) -> Result<Length> {
-    let mut total = Ok(Length::ZERO);
+/// Whether each item has an encoding.
+pub(crate) fn check_items<T: Encode>(items: &[T]) -> Result<()> {
     for item in items {
-        total = joined_len(total, item.encoded_len());
-    }
-    total
-}
-
-/// The total length of the encodings of the items, told quickly. More than `Length::MAX` says nothing of them.
-pub(crate) fn quick_items_len<T: Encode>(items: &[T]) -> u64 {
-    let mut total: u64 = 0;
-    for item in items {
-        total = total.saturating_add(item.quick_len());
-    }
-    total.min(UNTOLD)
-}
-
-/// Appends the encodings of the items.
-pub(crate) fn encode_items<T: Encode, W: Writer>(items: &[T], writer: &mut W) -> Result<()> {
-    for item in items {
-        item.encode(writer)?;
+        item.check()?;
     }
     Ok(())
 }
 
-/// Writes the encodings of the items in front of what is filled, the last item first.
-pub(crate) fn prepend_items<T: Encode>(items: &[T], writer: &mut BackWriter<'_>) {
+/// Writes the encodings of the items in front of what was received, the last item first.
+pub(crate) fn prepend_items<T: Encode, W: Prepend>(items: &[T], writer: &mut W) {
     let mut left = items.len();
     while left > 0 {
         left -= 1;
@@ -68,20 +49,24 @@ pub(crate) fn prepend_items<T: Encode>(items: &[T], writer: &mut BackWriter<'_>)
     }
 }
 
+/// Appends the encodings of the items.
+pub(crate) fn append_items<T: Encode, W: Writer>(items: &[T], writer: &mut W) -> Result<()> {
+    for item in items {
+        item.append(writer)?;
+    }
+    Ok(())
+}
+
 impl<T: Encode> EncodeValue for Vec<T> {
-    fn value_len(&self) -> Result<Length> {
-        items_len(self.as_slice())
+    fn check_value(&self) -> Result<()> {
+        check_items(self.as_slice())
     }
 
-    fn quick_value_len(&self) -> u64 {
-        quick_items_len(self.as_slice())
+    fn prepend_value<W: Prepend>(&self, writer: &mut W) {
+        prepend_items(self.as_slice(), writer);
     }
 
     fn append_value<W: Writer>(&self, writer: &mut W) -> Result<()> {
-        encode_items(self.as_slice(), writer)
-    }
-
-    fn prepend_value(&self, writer: &mut BackWriter<'_>) {
-        prepend_items(self.as_slice(), writer);
+        append_items(self.as_slice(), writer)
     }
 }

@@ -1,14 +1,13 @@
 // Made of crates/der_core/src/tagged.rt by tools/erase/erase.py, and not to be edited.
 //! Values under a tag of one's own (X.690 8.14).
 
-use crate::proved::der_core::back_writer::BackWriter;
 use crate::proved::der_core::containing::Containing;
 use crate::proved::der_core::decode::DecodeValue;
 use crate::proved::der_core::encode::EncodeValue;
 use crate::proved::der_core::error::Result;
 use crate::proved::der_core::grammar::{Contents, TagMarker, TaggedBy};
-use crate::proved::der_core::length::Length;
 use crate::proved::der_core::memory::Memory;
+use crate::proved::der_core::prepend::Prepend;
 use crate::proved::der_core::tag::Tag;
 use crate::proved::der_core::writer::Writer;
 use crate::rattle_std::marker::PhantomData;
@@ -51,20 +50,17 @@ impl<'a, K: TagMarker, M: Memory, C: DecodeValue<&'a [u8], M>> DecodeValue<&'a [
 }
 
 impl<M: TagMarker, C: EncodeValue> EncodeValue for Tagged<M, C> {
-    fn value_len(&self) -> Result<Length> {
-        self.contents.value_len()
+    #[inline(always)]
+    fn check_value(&self) -> Result<()> {
+        self.contents.check_value()
     }
 
     #[inline(always)]
-    fn quick_value_len(&self) -> u64 {
-        self.contents.quick_value_len()
+    fn prepend_value<W: Prepend>(&self, writer: &mut W) {
+        self.contents.prepend_value(writer);
     }
 
     fn append_value<W: Writer>(&self, writer: &mut W) -> Result<()> {
         self.contents.append_value(writer)
-    }
-
-    fn prepend_value(&self, writer: &mut BackWriter<'_>) {
-        self.contents.prepend_value(writer);
     }
 }

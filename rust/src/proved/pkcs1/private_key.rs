@@ -9,11 +9,10 @@ use crate::proved::pkcs1::key_numbers::{KeyFront, key_of};
 use crate::proved::pkcs1::public_key::{RsaPublicKey, RsaPublicKeyRef};
 use crate::proved::pkcs1::version::Version;
 use crate::proved::der_core::{
-    BackWriter, Contents, Decode, DecodeFront, DecodeValue, Encode, EncodeValue, Encoding,
-    ErrorKind, Length, Result, SequenceTag, Tag, TaggedBy, UNTOLD, Uint, UintEncoding, UintRef,
-    Writer,
+    Contents, Counter, Decode, DecodeFront, DecodeValue, Encode, EncodeValue, Encoding, ErrorKind,
+    Length, Prepend, Result, SequenceTag, TaggedBy, Uint, UintEncoding, UintRef, Writer,
 };
-use other_prime_info::{OtherPrimeInfos, lists_none, read_other_primes};
+use other_prime_info::{OtherPrimeInfos, read_other_primes, require_listed};
 use crate::rattle_std::alloc::{AllocError, Global};
 use crate::rattle_std::fmt;
 
@@ -112,35 +111,33 @@ impl<'a, U: Decode<&'a [u8], Global>> DecodeValue<&'a [u8], Global> for RsaPriva
 impl<U: Encode> EncodeValue for RsaPrivateKey<U> {
     /// As of `EncodeValue`. An empty list of other primes is `Value` of SEQUENCE. Any other tag of `Value` is one that
     /// the type of the numbers names; `UintRef` and `Uint` name none.
-    fn value_len(&self) -> Result<Length> {
-        if lists_none(&self.other_prime_infos) {
-            return Err(crate::proved::der_core::Error::new(ErrorKind::Value { tag: Tag::SEQUENCE }));
-        }
-        self.row_len()
+    #[inline(always)]
+    fn check_value(&self) -> Result<()> {
+        require_listed(&self.other_prime_infos)?;
+        self.row().check_value()
     }
 
     #[inline(always)]
-    fn quick_value_len(&self) -> u64 {
-        let none_listed = lists_none(&self.other_prime_infos);
-        if none_listed {
-            UNTOLD
-        } else {
-            self.quick_row_len()
-        }
+    fn prepend_value<W: Prepend>(&self, writer: &mut W) {
+        self.row().prepend_value(writer);
     }
 
     fn append_value<W: Writer>(&self, writer: &mut W) -> Result<()> {
-        self.append_row(writer)
+        self.row().append_value(writer)
     }
 
-    /// As of `EncodeValue`. `Value` is as of `value_len`.
+    /// As of `EncodeValue`. `Value` is as of `check_value`.
+    fn value_len(&self) -> Result<Length> {
+        self.check_value()?;
+        let mut counter = Counter::new();
+        self.prepend_value(&mut counter);
+        counter.length()
+    }
+
+    /// As of `EncodeValue`. `Value` is as of `check_value`.
     fn encode_value<W: Writer>(&self, writer: &mut W) -> Result<()> {
         self.value_len()?;
         self.append_value(writer)
-    }
-
-    fn prepend_value(&self, writer: &mut BackWriter<'_>) {
-        self.prepend_row(writer);
     }
 }
 

@@ -3,9 +3,8 @@
 //! there read the row of parts that `Record` names. `traits.rt` has the calls for owned keys.
 
 use crate::proved::der_core::{
-    AsUintRef, BackWriter, Borrowed, Decode, Encode, EncodeInParts, EncodeValue, Encoding,
-    EqualByValue, Length, NoMemory, Record, SequenceTag, TaggedBy, TryClone, Uint, UintEncoding,
-    UintRef, Writer, write_only,
+    AsUintRef, Borrowed, Decode, Encode, EncodeInParts, Encoding, EqualByValue, NoMemory, Record,
+    RowOperation, SequenceTag, TaggedBy, TryClone, Uint, UintEncoding, UintRef, write_only,
 };
 use crate::proved::pkcs1_params::{Error, Result};
 use crate::rattle_std::alloc::Global;
@@ -49,37 +48,10 @@ impl<U: Encoding> Record for RsaPublicKey<U> {
 }
 
 impl<U: Encode> EncodeInParts for RsaPublicKey<U> {
-    fn parts_len(&self) -> crate::proved::der_core::Result<Length> {
-        (
-            Borrowed(&self.modulus),
-            (Borrowed(&self.public_exponent), ()),
-        )
-            .value_len()
-    }
-
     #[inline(always)]
-    fn quick_parts_len(&self) -> u64 {
-        (
-            Borrowed(&self.modulus),
-            (Borrowed(&self.public_exponent), ()),
-        )
-            .quick_value_len()
-    }
-
-    fn append_parts<W: Writer>(&self, writer: &mut W) -> crate::proved::der_core::Result<()> {
-        (
-            Borrowed(&self.modulus),
-            (Borrowed(&self.public_exponent), ()),
-        )
-            .append_value(writer)
-    }
-
-    fn prepend_parts(&self, writer: &mut BackWriter<'_>) {
-        (
-            Borrowed(&self.modulus),
-            (Borrowed(&self.public_exponent), ()),
-        )
-            .prepend_value(writer);
+    fn with_row<O: RowOperation>(&self, operation: &mut O) -> O::Output {
+        let exponent = (Borrowed(&self.public_exponent), ());
+        operation.apply(&(Borrowed(&self.modulus), exponent))
     }
 }
 

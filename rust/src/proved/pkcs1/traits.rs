@@ -2,10 +2,10 @@
 //! Traits for keys of any type: PKCS #1 encodings decoded and written, in memory and in files.
 
 use crate::proved::pkcs1::private_key::RsaPrivateKey;
-use crate::proved::pkcs1::private_key::other_prime_info::lists_none;
+use crate::proved::pkcs1::private_key::other_prime_info::require_listed;
 use crate::proved::pkcs1::public_key::RsaPublicKey;
 use crate::proved::der_core::{
-    Decode, Document, Encode, ErrorKind, FileSystem, SecretDocument, Tag, Uint, UintEncoding,
+    Decode, Document, Encode, ErrorKind, FileSystem, SecretDocument, Uint, UintEncoding,
 };
 use crate::proved::pkcs1_params::Result;
 use crate::rattle_std::alloc::Global;
@@ -118,10 +118,7 @@ impl<U: Encode + UintEncoding> EncodeRsaPrivateKey for RsaPrivateKey<U> {
     /// there but empty, which is looked at first. `Overflow` exactly if the encoding is longer than `Length::MAX`.
     /// Memory runs out only if there is an encoding that isn't.
     fn to_pkcs1_der(&self, alloc: Global) -> Result<SecretDocument> {
-        if lists_none(&self.other_prime_infos) {
-            let rejected = crate::proved::der_core::Error::new(ErrorKind::Value { tag: Tag::SEQUENCE });
-            return Err(crate::proved::pkcs1_params::Error::Asn1(rejected));
-        }
+        require_listed(&self.other_prime_infos)?;
         Ok(SecretDocument::encode_msg(alloc, self)?)
     }
 }

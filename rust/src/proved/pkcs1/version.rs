@@ -2,8 +2,8 @@
 //! Versions of private keys.
 
 use crate::proved::der_core::{
-    BackWriter, Contents, DecodeValue, EncodeValue, ErrorKind, IntegerTag, Length, Memory, Result,
-    Tag, TaggedBy, Writer,
+    Contents, DecodeValue, EncodeValue, ErrorKind, IntegerTag, Memory, Prepend, Result, Tag,
+    TaggedBy, Writer,
 };
 use crate::proved::pkcs1_params::Error;
 use crate::rattle_std::cmp::Ordering;
@@ -87,15 +87,17 @@ impl<'a, M: Memory> DecodeValue<&'a [u8], M> for Version {
 }
 
 impl EncodeValue for Version {
-    fn value_len(&self) -> Result<Length> {
-        u8::from(*self).value_len()
+    #[inline(always)]
+    fn check_value(&self) -> Result<()> {
+        Ok(())
+    }
+
+    #[inline(always)]
+    fn prepend_value<W: Prepend>(&self, writer: &mut W) {
+        u8::from(*self).prepend_value(writer);
     }
 
     fn append_value<W: Writer>(&self, writer: &mut W) -> Result<()> {
         u8::from(*self).append_value(writer)
-    }
-
-    fn prepend_value(&self, writer: &mut BackWriter<'_>) {
-        u8::from(*self).prepend_value(writer);
     }
 }

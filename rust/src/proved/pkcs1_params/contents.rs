@@ -4,23 +4,13 @@
 
 use crate::proved::pkcs1_params::fields::Fields;
 use crate::proved::pkcs1_params::spelling::EncodeParams;
-use crate::proved::der_core::{BackWriter, Length, Result, Writer};
+use crate::proved::der_core::{Prepend, Result, Writer};
 
-/// Their length.
+/// They may always be encoded.
 #[inline(always)]
-pub(crate) fn contents_len<T: EncodeParams>(params: T, non_defaults: u8, mask: u8) -> Result<Length> {
+pub(crate) fn check_contents<T: EncodeParams>(params: T, _mask: u8) -> Result<()> {
     params.lemma_is_valid();
-    if non_defaults == 0 && mask == 0 {
-        return Ok(Length::ZERO);
-    }
-    params.fields().len(non_defaults, mask)
-}
-
-/// Their length, told quickly.
-#[inline(always)]
-pub(crate) fn quick_contents_len<T: EncodeParams>(params: T, non_defaults: u8, mask: u8) -> u64 {
-    params.lemma_is_valid();
-    params.fields().quick_len(non_defaults, mask)
+    Ok(())
 }
 
 /// Appends them.
@@ -34,16 +24,13 @@ pub(crate) fn append_contents<T: EncodeParams, W: Writer>(
     params.fields().append(non_defaults, mask, writer)
 }
 
-/// Writes them in front of what is filled.
+/// Writes them in front of what was received, or counts them.
 #[inline(always)]
-pub(crate) fn prepend_contents<T: EncodeParams>(
+pub(crate) fn prepend_contents<T: EncodeParams, W: Prepend>(
     params: T,
     non_defaults: u8,
     mask: u8,
-    writer: &mut BackWriter<'_>,
+    writer: &mut W,
 ) {
-    if non_defaults == 0 && mask == 0 {
-        return;
-    }
     params.fields().prepend(non_defaults, mask, writer);
 }

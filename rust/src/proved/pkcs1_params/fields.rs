@@ -4,8 +4,8 @@
 use crate::proved::pkcs1_params::holders::{MaskHolder, PlainHolder};
 use crate::proved::pkcs1_params::pss::RsaPssParamsRef;
 use crate::proved::pkcs1_params::trailer_field::TrailerField;
-use crate::proved::der_core::{BackWriter, Length, Result, TagNumber, Writer, joined_len};
-use crate::proved::spki_core::{encode_field, field_len, prepend_field, quick_field_len};
+use crate::proved::der_core::{Encode, Prepend, Result, TagNumber, Writer};
+use crate::proved::spki_core::ContextSpecificRef;
 
 /// A field with its value. A `Plain` holds a hash function or a label source, a `Mask` a mask generation function.
 pub enum FieldRef<'b, Plain, Mask> {
@@ -40,47 +40,21 @@ impl<Plain: PlainHolder, Mask: MaskHolder> FieldRef<'_, Plain, Mask> {
         }
     }
 
-    /// The length of the written field.
-    #[inline(always)]
-    fn len(&self) -> Result<Length> {
-        let number = self.number();
-        match *self {
-            FieldRef::Hash(hash) => field_len(number, hash),
-            FieldRef::MaskGen(mask_gen) => field_len(number, mask_gen),
-            FieldRef::SaltLen(salt_len) => field_len(number, &salt_len),
-            FieldRef::Trailer(trailer) => field_len(number, &trailer),
-            FieldRef::PSource(p_source) => field_len(number, p_source),
-        }
-    }
-
-    /// The length of the written field, told quickly.
-    #[inline(always)]
-    fn quick_len(&self) -> u64 {
-        let number = self.number();
-        match *self {
-            FieldRef::Hash(hash) => quick_field_len(number, hash),
-            FieldRef::MaskGen(mask_gen) => quick_field_len(number, mask_gen),
-            FieldRef::SaltLen(salt_len) => quick_field_len(number, &salt_len),
-            FieldRef::Trailer(trailer) => quick_field_len(number, &trailer),
-            FieldRef::PSource(p_source) => quick_field_len(number, p_source),
-        }
-    }
-
     /// Appends the field.
-    fn encode<W: Writer>(&self, writer: &mut W) -> Result<()> {
+    fn append<W: Writer>(&self, writer: &mut W) -> Result<()> {
         let number = self.number();
         match *self {
-            FieldRef::Hash(hash) => encode_field(number, hash, writer),
-            FieldRef::MaskGen(mask_gen) => encode_field(number, mask_gen, writer),
-            FieldRef::SaltLen(salt_len) => encode_field(number, &salt_len, writer),
-            FieldRef::Trailer(trailer) => encode_field(number, &trailer, writer),
-            FieldRef::PSource(p_source) => encode_field(number, p_source, writer),
+            FieldRef::Hash(hash) => append_field(number, hash, writer),
+            FieldRef::MaskGen(mask_gen) => append_field(number, mask_gen, writer),
+            FieldRef::SaltLen(salt_len) => append_field(number, &salt_len, writer),
+            FieldRef::Trailer(trailer) => append_field(number, &trailer, writer),
+            FieldRef::PSource(p_source) => append_field(number, p_source, writer),
         }
     }
 
-    /// Writes the field in front of what is filled.
+    /// Writes the field in front of what was received, or counts it.
     #[inline(always)]
-    fn prepend(&self, writer: &mut BackWriter<'_>) {
+    fn prepend<W: Prepend>(&self, writer: &mut W) {
         let number = self.number();
         match *self {
             FieldRef::Hash(hash) => prepend_field(number, hash, writer),
@@ -90,6 +64,21 @@ impl<Plain: PlainHolder, Mask: MaskHolder> FieldRef<'_, Plain, Mask> {
             FieldRef::PSource(p_source) => prepend_field(number, p_source, writer),
         }
     }
+}
+
+/// Appends a field.
+fn append_field<T: Encode, W: Writer>(
+    tag_number: TagNumber,
+    value: &T,
+    writer: &mut W,
+) -> Result<()> {
+    ContextSpecificRef { tag_number, value }.append(writer)
+}
+
+/// Writes a field in front of what was received, or counts it.
+#[inline(never)]
+fn prepend_field<T: Encode, W: Prepend>(tag_number: TagNumber, value: &T, writer: &mut W) {
+    ContextSpecificRef { tag_number, value }.prepend(writer);
 }
 
 /// Whether the field is left out, and the mask for the later ones.
@@ -120,17 +109,11 @@ pub trait Fields {
     /// How many of the fields have their defaults.
     fn count_defaults(&self) -> u8;
 
-    /// The length of the fields under a mask. Bit j of `non_defaults` says whether field j differs from its default.
-    fn len(&self, non_defaults: u8, mask: u8) -> Result<Length>;
-
-    /// The length of the fields under a mask, told quickly.
-    fn quick_len(&self, non_defaults: u8, mask: u8) -> u64;
-
-    /// Appends the fields under a mask.
+    /// Appends the fields under a mask. Bit j of `non_defaults` says whether field j differs from its default.
     fn append<W: Writer>(&self, non_defaults: u8, mask: u8, writer: &mut W) -> Result<()>;
 
-    /// Writes the fields under a mask in front of what is filled, the last one first.
-    fn prepend(&self, non_defaults: u8, mask: u8, writer: &mut BackWriter<'_>);
+    /// Writes the fields under a mask in front of what was received, the last one first, or counts them.
+    fn prepend<W: Prepend>(&self, non_defaults: u8, mask: u8, writer: &mut W);
 }
 
 /// No field.
@@ -154,22 +137,12 @@ impl Fields for NoField {
     }
 
     #[inline(always)]
-    fn len(&self, _non_defaults: u8, _mask: u8) -> Result<Length> {
-        Ok(Length::ZERO)
-    }
-
-    #[inline(always)]
-    fn quick_len(&self, _non_defaults: u8, _mask: u8) -> u64 {
-        0
-    }
-
-    #[inline(always)]
     fn append<W: Writer>(&self, _non_defaults: u8, _mask: u8, _writer: &mut W) -> Result<()> {
         Ok(())
     }
 
     #[inline(always)]
-    fn prepend(&self, _non_defaults: u8, _mask: u8, _writer: &mut BackWriter<'_>) {}
+    fn prepend<W: Prepend>(&self, _non_defaults: u8, _mask: u8, _writer: &mut W) {}
 }
 
 impl<Plain: PlainHolder, Mask: MaskHolder, L: Fields> Fields for FieldThen<'_, Plain, Mask, L> {
@@ -184,42 +157,18 @@ impl<Plain: PlainHolder, Mask: MaskHolder, L: Fields> Fields for FieldThen<'_, P
     }
 
     #[inline(always)]
-    fn len(&self, non_defaults: u8, mask: u8) -> Result<Length> {
-        let (default, non_defaults) = split_non_defaults(non_defaults, &self.first, &self.later);
-        let (left_out, mask) = take_mask_bit(default, mask);
-        let later = self.later.len(non_defaults, mask);
-        if left_out {
-            later
-        } else {
-            joined_len(self.first.len(), later)
-        }
-    }
-
-    #[inline(always)]
-    fn quick_len(&self, non_defaults: u8, mask: u8) -> u64 {
-        let (default, non_defaults) = split_non_defaults(non_defaults, &self.first, &self.later);
-        let (left_out, mask) = take_mask_bit(default, mask);
-        let later = self.later.quick_len(non_defaults, mask);
-        if left_out {
-            later
-        } else {
-            later.saturating_add(self.first.quick_len())
-        }
-    }
-
-    #[inline(always)]
     fn append<W: Writer>(&self, non_defaults: u8, mask: u8, writer: &mut W) -> Result<()> {
         let (default, non_defaults) = split_non_defaults(non_defaults, &self.first, &self.later);
         let (left_out, mask) = take_mask_bit(default, mask);
         if left_out {
             return self.later.append(non_defaults, mask, writer);
         }
-        self.first.encode(writer)?;
+        self.first.append(writer)?;
         self.later.append(non_defaults, mask, writer)
     }
 
     #[inline(always)]
-    fn prepend(&self, non_defaults: u8, mask: u8, writer: &mut BackWriter<'_>) {
+    fn prepend<W: Prepend>(&self, non_defaults: u8, mask: u8, writer: &mut W) {
         let (default, non_defaults) = split_non_defaults(non_defaults, &self.first, &self.later);
         let (left_out, mask) = take_mask_bit(default, mask);
         self.later.prepend(non_defaults, mask, writer);

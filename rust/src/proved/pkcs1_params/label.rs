@@ -4,7 +4,7 @@
 
 use crate::proved::pkcs1_params::hash_fields::is_pkcs1;
 use crate::proved::pkcs1_params::oaep::{RsaOaepParams, RsaOaepParamsRef, RsaOaepParamsView};
-use crate::proved::der_core::{Encode, EncodeValue, Length, Memory, Result, Tag, TagNumber, joined_len};
+use crate::proved::der_core::{Encode, EncodeValue, Length, Memory, Result, Tag, TagNumber};
 use crate::proved::spki_core::{
     AlgorithmIdentifier, AlgorithmIdentifierOf, AlgorithmIdentifierRef, AlgorithmView, AnyParams,
     AnyRef, AnyValue, AssociatedOid, IdentifierValue, ObjectIdentifier,
@@ -104,6 +104,11 @@ fn tagged_len(contents: Result<Length>, tag: Tag) -> Result<Length> {
     contents?.for_tlv(tag)
 }
 
+/// The length of two parts.
+fn sum_len(first: Result<Length>, second: Result<Length>) -> Result<Length> {
+    first?.checked_add(second?)
+}
+
 /// The length of what is written for the source of a label of this length.
 fn source_len(len: usize) -> Result<Length> {
     if len == 0 {
@@ -111,12 +116,12 @@ fn source_len(len: usize) -> Result<Length> {
     }
     let identifier = ObjectIdentifier::of::<PSpecified>().encoded_len();
     let octets = tagged_len(Length::try_from(len), Tag::OCTET_STRING);
-    let source = tagged_len(joined_len(identifier, octets), Tag::SEQUENCE);
+    let source = tagged_len(sum_len(identifier, octets), Tag::SEQUENCE);
     tagged_len(source, Tag::context(TagNumber::new(2)))
 }
 
 /// The length of the shortest encoding of parameters with a label of this length.
 fn labelled_len<D: AssociatedOid>(len: usize) -> Result<Length> {
     let hash_fields = RsaOaepParamsRef::new::<D>().value_len();
-    tagged_len(joined_len(hash_fields, source_len(len)), Tag::SEQUENCE)
+    tagged_len(sum_len(hash_fields, source_len(len)), Tag::SEQUENCE)
 }

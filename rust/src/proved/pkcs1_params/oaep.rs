@@ -2,7 +2,7 @@
 //! Parameters of RSAES-OAEP (RFC 8017 A.2.1). `try_from` and `from_der_strict` read them by the functions of
 //! `reading.rt`.
 
-use crate::proved::pkcs1_params::contents::{append_contents, contents_len, prepend_contents, quick_contents_len};
+use crate::proved::pkcs1_params::contents::{append_contents, check_contents, prepend_contents};
 use crate::proved::pkcs1_params::error::{Error, Result, fault_of};
 use crate::proved::pkcs1_params::from_view::ReadParams;
 use crate::proved::pkcs1_params::hash_fields::{MaskGenOf, mgf1_with, with_null};
@@ -11,8 +11,8 @@ use crate::proved::pkcs1_params::label::empty_source;
 use crate::proved::pkcs1_params::reading::read_params;
 use crate::proved::pkcs1_params::spelling::non_defaults_in;
 use crate::proved::der_core::{
-    BackWriter, Contents, EncodeValue, EqualByValue, ErrorKind, Length, Memory, NoMemory,
-    SequenceTag, TaggedBy, TryClone, Writer,
+    Contents, EncodeValue, EqualByValue, ErrorKind, Memory, NoMemory, Prepend, SequenceTag,
+    TaggedBy, TryClone, Writer,
 };
 use crate::proved::spki_core::{
     AlgorithmIdentifierOf, Any, AnyParams, AnyRef, AnyValue, AssociatedOid, IdentifierValue,
@@ -88,21 +88,18 @@ impl<O, P> TaggedBy for OaepParamsOf<O, P> {
 }
 
 impl<O: IdentifierValue, P: AnyValue> EncodeValue for OaepParamsOf<O, P> {
-    fn value_len(&self) -> crate::proved::der_core::Result<Length> {
-        contents_len(self, non_defaults_in(self), 0)
+    #[inline(always)]
+    fn check_value(&self) -> crate::proved::der_core::Result<()> {
+        check_contents(self, 0)
     }
 
     #[inline(always)]
-    fn quick_value_len(&self) -> u64 {
-        quick_contents_len(self, non_defaults_in(self), 0)
+    fn prepend_value<W: Prepend>(&self, writer: &mut W) {
+        prepend_contents(self, non_defaults_in(self), 0, writer);
     }
 
     fn append_value<W: Writer>(&self, writer: &mut W) -> crate::proved::der_core::Result<()> {
         append_contents(self, non_defaults_in(self), 0, writer)
-    }
-
-    fn prepend_value(&self, writer: &mut BackWriter<'_>) {
-        prepend_contents(self, non_defaults_in(self), 0, writer);
     }
 }
 

@@ -1,9 +1,9 @@
 // Made of crates/pkcs1_params/src/shortest.rt by tools/erase/erase.py, and not to be edited.
 //! Parameters as their shortest encoding.
 
-use crate::proved::pkcs1_params::contents::{append_contents, contents_len, prepend_contents, quick_contents_len};
+use crate::proved::pkcs1_params::contents::{append_contents, check_contents, prepend_contents};
 use crate::proved::pkcs1_params::spelling::{EncodeParams, non_defaults_in};
-use crate::proved::der_core::{BackWriter, Contents, EncodeValue, Length, Result, SequenceTag, TaggedBy, Writer};
+use crate::proved::der_core::{Contents, EncodeValue, Prepend, Result, SequenceTag, TaggedBy, Writer};
 use crate::proved::spki_core::{AlgorithmView, AssociatedOid, IdentifierValue, IdentifierView};
 
 /// Borrowed parameters, which are written as their shortest encoding. Which fields differ from their defaults is found
@@ -42,20 +42,17 @@ impl<T: EncodeParams> TaggedBy for Shortest<T> {
 }
 
 impl<T: EncodeParams> EncodeValue for Shortest<T> {
-    fn value_len(&self) -> Result<Length> {
-        contents_len(self.params, self.non_defaults, 0)
+    #[inline(always)]
+    fn check_value(&self) -> Result<()> {
+        check_contents(self.params, 0)
     }
 
     #[inline(always)]
-    fn quick_value_len(&self) -> u64 {
-        quick_contents_len(self.params, self.non_defaults, 0)
+    fn prepend_value<W: Prepend>(&self, writer: &mut W) {
+        prepend_contents(self.params, self.non_defaults, 0, writer);
     }
 
     fn append_value<W: Writer>(&self, writer: &mut W) -> Result<()> {
         append_contents(self.params, self.non_defaults, 0, writer)
-    }
-
-    fn prepend_value(&self, writer: &mut BackWriter<'_>) {
-        prepend_contents(self.params, self.non_defaults, 0, writer);
     }
 }

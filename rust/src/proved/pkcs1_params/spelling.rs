@@ -2,12 +2,11 @@
 //! Spellings of parameters: a mask says which of their defaults are written.
 
 use crate::rattle_std::prelude::{Vec, vec};
-use crate::proved::pkcs1_params::contents::{append_contents, contents_len, prepend_contents, quick_contents_len};
+use crate::proved::pkcs1_params::contents::{append_contents, check_contents, prepend_contents};
 use crate::proved::pkcs1_params::error::Result;
 use crate::proved::pkcs1_params::fields::Fields;
 use crate::proved::der_core::{
-    BackWriter, Contents, Encode, EncodeValue, ErrorKind, Length, SequenceTag, TaggedBy, Writer,
-    write_over,
+    Contents, Encode, EncodeValue, ErrorKind, Prepend, SequenceTag, TaggedBy, Writer, write_over,
 };
 use crate::rattle_std::alloc::Global;
 
@@ -74,21 +73,18 @@ impl<T: EncodeParams> TaggedBy for Spelling<T> {
 }
 
 impl<T: EncodeParams> EncodeValue for Spelling<T> {
-    fn value_len(&self) -> crate::proved::der_core::Result<Length> {
-        contents_len(self.params, self.non_defaults, self.mask)
+    #[inline(always)]
+    fn check_value(&self) -> crate::proved::der_core::Result<()> {
+        check_contents(self.params, self.mask)
     }
 
     #[inline(always)]
-    fn quick_value_len(&self) -> u64 {
-        quick_contents_len(self.params, self.non_defaults, self.mask)
+    fn prepend_value<W: Prepend>(&self, writer: &mut W) {
+        prepend_contents(self.params, self.non_defaults, self.mask, writer);
     }
 
     fn append_value<W: Writer>(&self, writer: &mut W) -> crate::proved::der_core::Result<()> {
         append_contents(self.params, self.non_defaults, self.mask, writer)
-    }
-
-    fn prepend_value(&self, writer: &mut BackWriter<'_>) {
-        prepend_contents(self.params, self.non_defaults, self.mask, writer);
     }
 }
 

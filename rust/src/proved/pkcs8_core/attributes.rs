@@ -2,8 +2,8 @@
 //! The attributes of containers, as opaque bytes.
 
 use crate::proved::pkcs1::der::{
-    BackWriter, Contents, DecodeValue, EncodeValue, Length, Memory, OneContents, Result, Tag,
-    TagMarker, TaggedBy, Writer,
+    Contents, DecodeValue, EncodeValue, Memory, OneContents, Prepend, Result, Tag, TagMarker,
+    TaggedBy, Writer,
 };
 
 /// The tag of attributes.
@@ -43,15 +43,17 @@ impl<'a, M: Memory> DecodeValue<&'a [u8], M> for Attributes<'a> {
 }
 
 impl EncodeValue for Attributes<'_> {
-    fn value_len(&self) -> Result<Length> {
-        Length::try_from(self.bytes.len())
+    #[inline(always)]
+    fn check_value(&self) -> Result<()> {
+        Ok(())
+    }
+
+    #[inline(always)]
+    fn prepend_value<W: Prepend>(&self, writer: &mut W) {
+        writer.prepend(self.bytes);
     }
 
     fn append_value<W: Writer>(&self, writer: &mut W) -> Result<()> {
         writer.write(self.bytes)
-    }
-
-    fn prepend_value(&self, writer: &mut BackWriter<'_>) {
-        writer.prepend(self.bytes);
     }
 }

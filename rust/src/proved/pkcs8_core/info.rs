@@ -3,9 +3,8 @@
 
 use crate::proved::pkcs8_core::attributes::Attributes;
 use crate::proved::pkcs1::der::{
-    BackWriter, Borrowed, Contents, Decode, Encode, EncodeInParts, EncodeValue, Error, Expected,
-    InParts, Last, LastByTag, Length, Memory, OctetStringRef, Result, SequenceTag, TaggedBy,
-    Writer, read_borrowed, write_only,
+    Borrowed, Contents, Decode, EncodeInParts, Error, Expected, InParts, Last, LastByTag, Memory,
+    OctetStringRef, Result, RowOperation, SequenceTag, TaggedBy, read_borrowed, write_only,
 };
 use crate::proved::pkcs1::spki::{
     AlgorithmIdentifierOf, AnyRef, IdentifierValue, IdentifierView, ObjectIdentifier,
@@ -77,28 +76,13 @@ impl<'a, O: ReadIdentifier<'a>> InParts for PrivateKeyInfoOf<'a, O> {
 }
 
 impl<'a, O: ReadIdentifier<'a>> EncodeInParts for PrivateKeyInfoOf<'a, O> {
-    fn parts_len(&self) -> Result<Length> {
+    #[inline(always)]
+    fn with_row<R: RowOperation>(&self, operation: &mut R) -> R::Output {
         let key = (
             Borrowed(&self.private_key),
             LastByTag(Last(self.attributes_encoding())),
         );
-        (Expected::<0>, (Borrowed(&self.algorithm), key)).value_len()
-    }
-
-    fn append_parts<W: Writer>(&self, writer: &mut W) -> Result<()> {
-        let key = (
-            Borrowed(&self.private_key),
-            LastByTag(Last(self.attributes_encoding())),
-        );
-        (Expected::<0>, (Borrowed(&self.algorithm), key)).append_value(writer)
-    }
-
-    fn prepend_parts(&self, writer: &mut BackWriter<'_>) {
-        let key = (
-            Borrowed(&self.private_key),
-            LastByTag(Last(self.attributes_encoding())),
-        );
-        (Expected::<0>, (Borrowed(&self.algorithm), key)).prepend_value(writer);
+        operation.apply(&(Expected::<0>, (Borrowed(&self.algorithm), key)))
     }
 }
 

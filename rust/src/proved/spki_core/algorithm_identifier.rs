@@ -5,8 +5,8 @@ use crate::proved::spki_core::any::{AnyRef, AnyValue};
 use crate::proved::spki_core::identifier_view::{IdentifierValue, IdentifierView};
 use crate::proved::spki_core::object_identifier::{AssociatedOid, ObjectIdentifier};
 use crate::proved::der_core::{
-    BackWriter, Contents, Decode, DecodeParts, DecodeValue, Encode, EncodeValue, Encoding,
-    EqualByValue, Error, ErrorKind, Last, Length, Memory, Result, SequenceTag, TaggedBy, TryClone,
+    BorrowedLast, Contents, Decode, DecodeParts, DecodeValue, Encode, EncodeValue, Encoding,
+    EqualByValue, Error, ErrorKind, Last, Memory, Prepend, Result, SequenceTag, TaggedBy, TryClone,
     Writer,
 };
 use crate::rattle_std::alloc::Global;
@@ -73,25 +73,21 @@ impl<'a, M: Memory, O: ReadIdentifier<'a>, P: Decode<&'a [u8], M>> DecodeValue<&
 pub fn lemma_identifier_alone_takes_no_memory<'a, P: Decode<&'a [u8], M>, M: Memory>() {}
 
 impl<O: IdentifierValue, P: Encode> EncodeValue for AlgorithmIdentifierOf<O, P> {
-    fn value_len(&self) -> Result<Length> {
+    #[inline(always)]
+    fn check_value(&self) -> Result<()> {
         let oid = self.oid.as_identifier_view();
-        (oid, Last::borrowed(&self.parameters)).value_len()
+        (oid, BorrowedLast(&self.parameters)).check_value()
     }
 
     #[inline(always)]
-    fn quick_value_len(&self) -> u64 {
+    fn prepend_value<W: Prepend>(&self, writer: &mut W) {
         let oid = self.oid.as_identifier_view();
-        (oid, Last::borrowed(&self.parameters)).quick_value_len()
+        (oid, BorrowedLast(&self.parameters)).prepend_value(writer);
     }
 
     fn append_value<W: Writer>(&self, writer: &mut W) -> Result<()> {
         let oid = self.oid.as_identifier_view();
-        (oid, Last::borrowed(&self.parameters)).append_value(writer)
-    }
-
-    fn prepend_value(&self, writer: &mut BackWriter<'_>) {
-        let oid = self.oid.as_identifier_view();
-        (oid, Last::borrowed(&self.parameters)).prepend_value(writer);
+        (oid, BorrowedLast(&self.parameters)).append_value(writer)
     }
 }
 

@@ -1,11 +1,10 @@
 // Made of crates/spki_core/src/any.rt by tools/erase/erase.py, and not to be edited.
 //! Encodings of any tag.
 
-use crate::proved::spki_core::context_specific::short_len;
 use crate::proved::spki_core::wide_tag::WideTag;
 use crate::proved::der_core::{
-    BackWriter, Decode, DecodeValue, Encode, Encoding, EqualByValue, Error, ErrorKind, FixedTag,
-    Header, Length, Memory, Reader, Result, Tag, TryClone, Writer, read_contents, split_encoding,
+    Decode, DecodeValue, Encode, Encoding, EqualByValue, Error, ErrorKind, FixedTag, Header,
+    Length, Memory, Prepend, Reader, Result, Tag, TryClone, Writer, read_contents, split_encoding,
 };
 use crate::rattle_std::alloc::Global;
 use crate::rattle_std::fmt;
@@ -116,25 +115,21 @@ fn first_tag(bytes: &[u8]) -> Result<Tag> {
 }
 
 impl Encode for AnyRef<'_> {
-    fn encoded_len(&self) -> Result<Length> {
-        self.header().length.for_tlv(self.tag())
+    #[inline(always)]
+    fn check(&self) -> Result<()> {
+        Ok(())
     }
 
     #[inline(always)]
-    fn quick_len(&self) -> u64 {
-        short_len(self.contents.len() as u64)
+    fn prepend<W: Prepend>(&self, writer: &mut W) {
+        let before = writer.filled_len();
+        writer.prepend(self.contents);
+        writer.prepend_header(self.tag(), before);
     }
 
-    fn encode<W: Writer>(&self, writer: &mut W) -> Result<()> {
-        self.encoded_len()?;
+    fn append<W: Writer>(&self, writer: &mut W) -> Result<()> {
         writer.write(&self.header().to_bytes())?;
         writer.write(self.contents)
-    }
-
-    #[inline(always)]
-    fn prepend(&self, writer: &mut BackWriter<'_>) {
-        writer.prepend(self.contents);
-        writer.prepend_header(self.header());
     }
 }
 

@@ -5,8 +5,7 @@ use crate::proved::spki_core::object_identifier::{
     AssociatedOid, ObjectIdentifier, ObjectIdentifierTag, is_identifier,
 };
 use crate::proved::der_core::{
-    BackWriter, Contents, DecodeValue, EncodeValue, Error, ErrorKind, Length, Memory, Result,
-    TaggedBy, Writer,
+    Contents, DecodeValue, EncodeValue, Error, ErrorKind, Memory, Prepend, Result, TaggedBy, Writer,
 };
 
 /// An object identifier over its contents octets (X.690 8.19). Only `to_object_identifier` copies them.
@@ -35,12 +34,6 @@ impl<'a> IdentifierView<'a> {
     #[inline(always)]
     pub fn as_bytes(&self) -> &'a [u8] {
         self.octets
-    }
-
-    /// How many octets there are.
-    #[inline(always)]
-    fn octet_count(&self) -> u8 {
-        self.octets.len() as u8
     }
 
     /// Copies the octets.
@@ -97,20 +90,17 @@ impl<'a, M: Memory> DecodeValue<&'a [u8], M> for IdentifierView<'a> {
 }
 
 impl EncodeValue for IdentifierView<'_> {
-    fn value_len(&self) -> Result<Length> {
-        Ok(Length::of(self.octet_count() as usize))
+    #[inline(always)]
+    fn check_value(&self) -> Result<()> {
+        Ok(())
     }
 
     #[inline(always)]
-    fn quick_value_len(&self) -> u64 {
-        self.octet_count() as u64
+    fn prepend_value<W: Prepend>(&self, writer: &mut W) {
+        writer.prepend(self.as_bytes());
     }
 
     fn append_value<W: Writer>(&self, writer: &mut W) -> Result<()> {
         writer.write(self.as_bytes())
-    }
-
-    fn prepend_value(&self, writer: &mut BackWriter<'_>) {
-        writer.prepend(self.as_bytes());
     }
 }

@@ -3,8 +3,8 @@
 
 use crate::proved::spki_core::identifier_view::IdentifierView;
 use crate::proved::der_core::{
-    BackWriter, Contents, DecodeValue, EncodeValue, EqualByValue, ErrorKind, Length, Memory,
-    Result, Tag, TagMarker, TaggedBy, Writer,
+    Contents, DecodeValue, EncodeValue, EqualByValue, ErrorKind, Memory, Prepend, Result, Tag,
+    TagMarker, TaggedBy, Writer,
 };
 use crate::rattle_std::hash::{Hash, Hasher};
 
@@ -150,15 +150,17 @@ impl<'a, M: Memory> DecodeValue<&'a [u8], M> for ObjectIdentifier {
 }
 
 impl EncodeValue for ObjectIdentifier {
-    fn value_len(&self) -> Result<Length> {
-        Length::try_from(self.as_bytes().len())
+    #[inline(always)]
+    fn check_value(&self) -> Result<()> {
+        Ok(())
+    }
+
+    #[inline(always)]
+    fn prepend_value<W: Prepend>(&self, writer: &mut W) {
+        writer.prepend(self.as_bytes());
     }
 
     fn append_value<W: Writer>(&self, writer: &mut W) -> Result<()> {
         writer.write(self.as_bytes())
-    }
-
-    fn prepend_value(&self, writer: &mut BackWriter<'_>) {
-        writer.prepend(self.as_bytes());
     }
 }

@@ -4,7 +4,7 @@
 use crate::rattle_std::prelude::Vec;
 use crate::proved::spki_core::any::{AnyParams, AnyRef, AnyValue};
 use crate::proved::der_core::{
-    BackWriter, Decode, Encode, Encoding, EqualByValue, Error, ErrorKind, Length, NoMemory, Reader,
+    Decode, Encode, Encoding, EqualByValue, Error, ErrorKind, Length, NoMemory, Prepend, Reader,
     Result, Tag, TryClone, Writer,
 };
 use crate::rattle_std::alloc::Global;
@@ -64,21 +64,18 @@ impl<'a> Decode<&'a [u8], Global> for Any {
 }
 
 impl Encode for Any {
-    fn encoded_len(&self) -> Result<Length> {
-        self.as_any_ref().encoded_len()
+    #[inline(always)]
+    fn check(&self) -> Result<()> {
+        Ok(())
     }
 
     #[inline(always)]
-    fn quick_len(&self) -> u64 {
-        self.as_any_ref().quick_len()
-    }
-
-    fn encode<W: Writer>(&self, writer: &mut W) -> Result<()> {
-        self.as_any_ref().encode(writer)
-    }
-
-    fn prepend(&self, writer: &mut BackWriter<'_>) {
+    fn prepend<W: Prepend>(&self, writer: &mut W) {
         self.as_any_ref().prepend(writer);
+    }
+
+    fn append<W: Writer>(&self, writer: &mut W) -> Result<()> {
+        self.as_any_ref().append(writer)
     }
 }
 

@@ -3,4 +3,4 @@
 use Rattle.pkcs1_c.proofs.given_primes.prepend_given.Goals as goal
 
 pub returns-in-Err : goal.returns-in-Err
-returns-in-Err c = absurd (c.requires.held _ c.in-Err.ensures.err)
+returns-in-Err g c = absurd (c.requires.held _ c.in-Err.ensures.err)

@@ -110,28 +110,6 @@ pub(crate) fn from_c_mask_gen<'a>(
     Ok(AlgorithmView { oid, parameters })
 }
 
-/// Whether there are parameters with this tag.
-#[inline(always)]
-pub(crate) fn has_tag(algorithm: &Algorithm<'_>, tag: Tag) -> bool {
-    algorithm.has_parameters && algorithm.tag == tag.octet()
-}
-
-/// Whether the parameters are NULL, or if `null` is false, whether there are none.
-#[inline(always)]
-fn has_null(null: bool, algorithm: &Algorithm<'_>) -> bool {
-    if null {
-        has_tag(algorithm, Tag::NULL) && algorithm.parameters.is_empty()
-    } else {
-        !algorithm.has_parameters
-    }
-}
-
-/// Whether both hash functions have NULL, or if `null` is false, whether none has parameters.
-#[inline(always)]
-pub(crate) fn have_null(null: bool, hash: &Algorithm<'_>, mask_gen: &MaskGen<'_>) -> bool {
-    has_null(null, hash) && mask_gen.has_hash && has_null(null, &mask_gen.hash)
-}
-
 /// Whether two identifiers have the same octets, out of line.
 #[inline(never)]
 fn is_same_otherwise(oid: &[u8], other: &[u8]) -> bool {

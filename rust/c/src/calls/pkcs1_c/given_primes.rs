@@ -1,26 +1,23 @@
 // Made of crates/pkcs1_c/src/given_primes.rt by tools/erase/erase.py, and not to be edited.
 //! Other primes that the caller passes, written from the caller's array.
 
-use crate::calls::pkcs1_c::given_number::Number;
-use crate::calls::pkcs1_c::numbers::{number, quick_number};
+use crate::calls::pkcs1_c::numbers::number;
 use crate::calls::pkcs1_c::private_key::OtherPrime;
 use crate::proved::der_core::{
-    BackWriter, Contents, Encode, EncodeValue, Error, ErrorKind, Length, Result, SequenceTag,
-    TaggedBy, UNTOLD, Writer, joined_len,
+    Contents, Encode, EncodeValue, Error, ErrorKind, Prepend, Result, SequenceTag, TaggedBy,
+    UintRef, Writer,
 };
 use crate::proved::pkcs1::OtherPrimeInfo;
 
-/// The other primes of the caller's array: at least one, and each number can be held. Their length is counted once. So
-/// no more octets are written than were counted, even where another thread changes the numbers meanwhile.
+/// The other primes of the caller's array: at least one, and each number can be held.
 #[derive(Clone, Copy)]
 pub struct GivenPrimes<'a> {
     others: &'a [OtherPrime<'a>],
-    len: Result<Length>,
 }
 
 /// The prime with these numbers.
 #[inline(always)]
-fn from_c_other_prime<'a>(other: &OtherPrime<'a>) -> crate::proved::pkcs1::Result<OtherPrimeInfo<Number<'a>>> {
+fn from_c_other_prime<'a>(other: &OtherPrime<'a>) -> crate::proved::pkcs1::Result<OtherPrimeInfo<UintRef<'a>>> {
     Ok(OtherPrimeInfo {
         prime: number(other.prime)?,
         exponent: number(other.exponent)?,
@@ -28,75 +25,21 @@ fn from_c_other_prime<'a>(other: &OtherPrime<'a>) -> crate::proved::pkcs1::Resul
     })
 }
 
-/// The prime with these numbers, as of `quick_number`: `None` says nothing of them.
-#[inline(always)]
-fn quick_other_prime<'a>(other: &OtherPrime<'a>) -> Option<OtherPrimeInfo<Number<'a>>> {
-    Some(OtherPrimeInfo {
-        prime: quick_number(other.prime)?,
-        exponent: quick_number(other.exponent)?,
-        coefficient: quick_number(other.coefficient)?,
-    })
-}
-
-/// The length of a prime's encoding.
-#[inline(always)]
-fn length_of(info: &OtherPrimeInfo<Number<'_>>) -> Result<Length> {
-    info.encoded_len()
-}
-
-/// The total length of the primes' encodings, told quickly: then each number can be held. More than `Length::MAX` says
-/// nothing of them.
-#[inline(never)]
-fn quick_total(others: &[OtherPrime<'_>]) -> u64 {
-    let mut total: u64 = 0;
-    for other in others {
-        let Some(info) = quick_other_prime(other) else {
-            return UNTOLD;
-        };
-        total = total.saturating_add(info.quick_len());
-        if total >= UNTOLD {
-            return UNTOLD;
-        }
+/// Writes a prime in front of what was received, or counts it. It does nothing only if another thread has changed the
+/// octets.
+fn prepend_given<W: Prepend>(other: &OtherPrime<'_>, writer: &mut W) {
+    match from_c_other_prime(other) {
+        Ok(info) => info.prepend(writer),
+        Err(_) => {}
     }
-    total
 }
 
 /// Appends a prime.
 fn append_given<W: Writer>(other: &OtherPrime<'_>, writer: &mut W) -> Result<()> {
     match from_c_other_prime(other) {
-        Ok(info) => info.encode(writer),
+        Ok(info) => info.append(writer),
         Err(_) => Err(Error::new(ErrorKind::Failed)), // another thread changed the octets
     }
-}
-
-/// Whether a bound on the octets of the prime's encoding says that they are no more than `left`.
-#[inline(always)]
-fn is_surely_within(info: &OtherPrimeInfo<Number<'_>>, left: usize) -> bool {
-    let numbers = info.prime.octets_at_most()
-        + info.exponent.octets_at_most()
-        + info.coefficient.octets_at_most();
-    numbers + 6 <= left
-}
-
-/// Writes a prime in front of what is filled, and leaves `least` octets free. It is false only if another thread
-/// changed the octets.
-fn prepend_given(other: &OtherPrime<'_>, least: usize, writer: &mut BackWriter<'_>) -> bool {
-    let info = match quick_other_prime(other) {
-        Some(info) => info,
-        None => match from_c_other_prime(other) {
-            Ok(info) => info,
-            Err(_) => return false,
-        },
-    };
-    let left = writer.free() - least;
-    if !is_surely_within(&info, left) {
-        match length_of(&info) {
-            Ok(length) if length.to_usize() <= left => {}
-            _ => return false,
-        }
-    }
-    info.prepend(writer);
-    true
 }
 
 impl<'a> GivenPrimes<'a> {
@@ -106,26 +49,10 @@ impl<'a> GivenPrimes<'a> {
         if others.is_empty() {
             return Ok(None);
         }
-        let mut len = Ok(Length::ZERO);
         for other in others {
-            let info = from_c_other_prime(other)?;
-            len = joined_len(len, length_of(&info));
+            from_c_other_prime(other)?;
         }
-        Ok(Some(GivenPrimes { others, len }))
-    }
-
-    /// The primes of the array, or `None` if it is empty. The outer `None` says nothing of them.
-    #[inline(always)]
-    pub(crate) fn quick(others: &'a [OtherPrime<'a>]) -> Option<Option<GivenPrimes<'a>>> {
-        if others.is_empty() {
-            return Some(None);
-        }
-        let total = quick_total(others);
-        if total >= UNTOLD {
-            return None;
-        }
-        let len = Ok(Length::of(total as usize));
-        Some(Some(GivenPrimes { others, len }))
+        Ok(Some(GivenPrimes { others }))
     }
 }
 
@@ -136,15 +63,16 @@ impl TaggedBy for GivenPrimes<'_> {
 }
 
 impl EncodeValue for GivenPrimes<'_> {
-    fn value_len(&self) -> Result<Length> {
-        self.len
+    #[inline(always)]
+    fn check_value(&self) -> Result<()> {
+        Ok(())
     }
 
-    #[inline(always)]
-    fn quick_value_len(&self) -> u64 {
-        match self.value_len() {
-            Ok(length) => length.to_usize() as u64,
-            Err(_) => UNTOLD,
+    fn prepend_value<W: Prepend>(&self, writer: &mut W) {
+        let mut left = self.others.len();
+        while left > 0 {
+            left -= 1;
+            prepend_given(&self.others[left], writer);
         }
     }
 
@@ -153,19 +81,5 @@ impl EncodeValue for GivenPrimes<'_> {
             append_given(other, writer)?;
         }
         Ok(())
-    }
-
-    fn prepend_value(&self, writer: &mut BackWriter<'_>) {
-        let Ok(length) = self.len else {
-            return;
-        };
-        let least = writer.free() - length.to_usize();
-        let mut left = self.others.len();
-        while left > 0 {
-            left -= 1;
-            if !prepend_given(&self.others[left], least, writer) {
-                return;
-            }
-        }
     }
 }

@@ -2,16 +2,15 @@
 //! Parameters of RSAES-OAEP.
 
 use crate::calls::pkcs1_c::algorithm::{
-    Algorithm, MaskGen, from_c_algorithm, from_c_mask_gen, has_tag, have_null, to_c_algorithm,
-    to_c_mask_gen,
+    Algorithm, MaskGen, from_c_algorithm, from_c_mask_gen, to_c_algorithm, to_c_mask_gen,
 };
 use crate::calls::pkcs1_c::bytes::Bytes;
 use crate::calls::pkcs1_c::filled::fill;
 use crate::calls::pkcs1_c::status::{OK, status};
-use crate::calls::pkcs1_c::written::{write_algorithm, write_params, written_status};
+use crate::calls::pkcs1_c::written::write_params;
 use crate::proved::der_core::Tag;
-use crate::proved::pkcs1::{RsaOaepParamsView, RsaesOaep};
-use crate::proved::pkcs1_params::{Place, Written, encode_known_oaep, is_p_specified};
+use crate::proved::pkcs1::RsaOaepParamsView;
+use crate::proved::pkcs1_params::is_p_specified;
 
 /// Parameters of RSAES-OAEP.
 #[repr(C)]
@@ -70,60 +69,6 @@ pub extern "C" fn pkcs1_c_oaep_params_decode_strict<'a>(
     )
 }
 
-/// Writes the shortest encoding of the parameters, alone or in an algorithm identifier, if it is known, and both hash
-/// functions have NULL, or if `null` is false, none has parameters.
-#[inline(always)]
-pub(crate) fn write_known(
-    null: bool,
-    params: &OaepParams<'_>,
-    place: Place,
-    out: &mut [u8],
-) -> Option<Written> {
-    let source = &params.p_source;
-    if !have_null(null, &params.hash, &params.mask_gen) || !has_tag(source, Tag::OCTET_STRING) {
-        return None;
-    }
-    let mask_gen = &params.mask_gen;
-    let (hash, under) = (params.hash.oid, mask_gen.hash.oid);
-    encode_known_oaep(
-        null,
-        hash,
-        mask_gen.oid,
-        under,
-        source.oid,
-        source.parameters,
-        place,
-        out,
-    )
-}
-
-/// Writes the shortest encoding of the parameters, alone or in their algorithm identifier, field by field.
-#[inline(always)]
-fn write_fields(params: &OaepParams<'_>, place: Place, out: &mut [u8], len: &mut usize) -> u32 {
-    match from_c_oaep(params) {
-        Ok(made) => match place {
-            None => write_params(&made, out, len),
-            Some(_) => write_algorithm::<RsaesOaep, _>(&made, out, len),
-        },
-        Err(failure) => status(&failure),
-    }
-}
-
-/// Writes the shortest encoding of the parameters, alone or in their algorithm identifier, at once if it is known and no
-/// hash function has parameters, else field by field.
-#[inline(never)]
-pub(crate) fn write_others(
-    params: &OaepParams<'_>,
-    place: Place,
-    out: &mut [u8],
-    len: &mut usize,
-) -> u32 {
-    match write_known(false, params, place, out) {
-        Some(written) => written_status(written, len),
-        None => write_fields(params, place, out, len),
-    }
-}
-
 /// Puts the shortest encoding of parameters of RSAES-OAEP to the front of `out`. What it returns and leaves is as of
 /// `pkcs1_c_pss_params_encode`, but there is no trailer field.
 #[unsafe(no_mangle)]
@@ -133,9 +78,9 @@ pub extern "C" fn pkcs1_c_oaep_params_encode(
     len: &mut usize,
 ) -> u32 {
     let out = unsafe { core::slice::from_raw_parts_mut(out, out_len) };
-    match write_known(true, params, None, out) {
-        Some(written) => written_status(written, len),
-        None => write_others(params, None, out, len),
+    match from_c_oaep(params) {
+        Ok(made) => write_params(&made, out, len),
+        Err(failure) => status(&failure),
     }
 }
 

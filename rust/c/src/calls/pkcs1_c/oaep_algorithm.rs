@@ -2,11 +2,10 @@
 //! The algorithm identifier of RSAES-OAEP with its parameters.
 
 use crate::calls::pkcs1_c::filled::fill;
-use crate::calls::pkcs1_c::oaep::{OaepParams, to_c_oaep, write_known, write_others};
+use crate::calls::pkcs1_c::oaep::{OaepParams, from_c_oaep, to_c_oaep};
 use crate::calls::pkcs1_c::status::{OK, status};
-use crate::calls::pkcs1_c::written::written_status;
-use crate::proved::pkcs1::{FromAlgorithm, RsaOaepParamsView};
-use crate::proved::pkcs1_params::RSAES_OAEP;
+use crate::calls::pkcs1_c::written::write_algorithm;
+use crate::proved::pkcs1::{FromAlgorithm, RsaOaepParamsView, RsaesOaep};
 
 /// Decodes the algorithm identifier of RSAES-OAEP with its parameters, as `pkcs1_c_oaep_params_decode` does the
 /// parameters. Another algorithm is rejected with status 7, one without parameters with status 10.
@@ -47,8 +46,8 @@ pub extern "C" fn pkcs1_c_oaep_algorithm_encode(
     len: &mut usize,
 ) -> u32 {
     let out = unsafe { core::slice::from_raw_parts_mut(out, out_len) };
-    match write_known(true, params, Some(RSAES_OAEP), out) {
-        Some(written) => written_status(written, len),
-        None => write_others(params, Some(RSAES_OAEP), out, len),
+    match from_c_oaep(params) {
+        Ok(made) => write_algorithm::<RsaesOaep, _>(&made, out, len),
+        Err(failure) => status(&failure),
     }
 }

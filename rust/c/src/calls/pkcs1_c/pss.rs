@@ -2,14 +2,13 @@
 //! Parameters of RSASSA-PSS.
 
 use crate::calls::pkcs1_c::algorithm::{
-    Algorithm, MaskGen, from_c_algorithm, from_c_mask_gen, have_null, to_c_algorithm, to_c_mask_gen,
+    Algorithm, MaskGen, from_c_algorithm, from_c_mask_gen, to_c_algorithm, to_c_mask_gen,
 };
 use crate::calls::pkcs1_c::filled::fill;
 use crate::calls::pkcs1_c::status::{OK, status};
-use crate::calls::pkcs1_c::written::{write_algorithm, write_params, written_status};
+use crate::calls::pkcs1_c::written::write_params;
 use crate::proved::der_core::{ErrorKind, Tag};
-use crate::proved::pkcs1::{Error, RsaPssParamsView, RsassaPss, TrailerField};
-use crate::proved::pkcs1_params::{Place, Written, encode_known_pss};
+use crate::proved::pkcs1::{Error, RsaPssParamsView, TrailerField};
 
 /// Parameters of RSASSA-PSS.
 #[repr(C)]
@@ -78,52 +77,6 @@ pub extern "C" fn pkcs1_c_pss_params_decode_strict<'a>(
     )
 }
 
-/// Writes the shortest encoding of the parameters, alone or in an algorithm identifier, if it is known, and both hash
-/// functions have NULL, or if `null` is false, none has parameters.
-#[inline(always)]
-pub(crate) fn write_known(
-    null: bool,
-    params: &PssParams<'_>,
-    place: Place,
-    out: &mut [u8],
-) -> Option<Written> {
-    if params.trailer_field != 1 || !have_null(null, &params.hash, &params.mask_gen) {
-        return None;
-    }
-    let hash = params.hash.oid;
-    let under = params.mask_gen.hash.oid;
-    let salt_len = params.salt_len;
-    let mask_gen = params.mask_gen.oid;
-    encode_known_pss(null, hash, mask_gen, under, salt_len, place, out)
-}
-
-/// Writes the shortest encoding of the parameters, alone or in their algorithm identifier, field by field.
-#[inline(always)]
-fn write_fields(params: &PssParams<'_>, place: Place, out: &mut [u8], len: &mut usize) -> u32 {
-    match from_c_pss(params) {
-        Ok(made) => match place {
-            None => write_params(&made, out, len),
-            Some(_) => write_algorithm::<RsassaPss, _>(&made, out, len),
-        },
-        Err(failure) => status(&failure),
-    }
-}
-
-/// Writes the shortest encoding of the parameters, alone or in their algorithm identifier, at once if it is known and no
-/// hash function has parameters, else field by field.
-#[inline(never)]
-pub(crate) fn write_others(
-    params: &PssParams<'_>,
-    place: Place,
-    out: &mut [u8],
-    len: &mut usize,
-) -> u32 {
-    match write_known(false, params, place, out) {
-        Some(written) => written_status(written, len),
-        None => write_fields(params, place, out, len),
-    }
-}
-
 /// Puts the shortest encoding of parameters of RSASSA-PSS to the front of `out`. `len` and the rest of `out` are as of
 /// `pkcs1_c_public_key_encode`. `NO_ROOM`: all parts of `params` can be held, and `out` is shorter than the encoding.
 /// `OVERFLOW`: all can be, and no encoding is within the limit. Else the status of the first part that can't be held:
@@ -136,8 +89,8 @@ pub extern "C" fn pkcs1_c_pss_params_encode(
     len: &mut usize,
 ) -> u32 {
     let out = unsafe { core::slice::from_raw_parts_mut(out, out_len) };
-    match write_known(true, params, None, out) {
-        Some(written) => written_status(written, len),
-        None => write_others(params, None, out, len),
+    match from_c_pss(params) {
+        Ok(made) => write_params(&made, out, len),
+        Err(failure) => status(&failure),
     }
 }

@@ -2,11 +2,10 @@
 //! The algorithm identifier of RSASSA-PSS with its parameters.
 
 use crate::calls::pkcs1_c::filled::fill;
-use crate::calls::pkcs1_c::pss::{PssParams, to_c_pss, write_known, write_others};
+use crate::calls::pkcs1_c::pss::{PssParams, from_c_pss, to_c_pss};
 use crate::calls::pkcs1_c::status::{OK, status};
-use crate::calls::pkcs1_c::written::written_status;
-use crate::proved::pkcs1::{FromAlgorithm, RsaPssParamsView};
-use crate::proved::pkcs1_params::RSASSA_PSS;
+use crate::calls::pkcs1_c::written::write_algorithm;
+use crate::proved::pkcs1::{FromAlgorithm, RsaPssParamsView, RsassaPss};
 
 /// Decodes the algorithm identifier of RSASSA-PSS with its parameters, as `pkcs1_c_pss_params_decode` does the
 /// parameters. Another algorithm is rejected with status 7, one without parameters with status 10.
@@ -47,8 +46,8 @@ pub extern "C" fn pkcs1_c_pss_algorithm_encode(
     len: &mut usize,
 ) -> u32 {
     let out = unsafe { core::slice::from_raw_parts_mut(out, out_len) };
-    match write_known(true, params, Some(RSASSA_PSS), out) {
-        Some(written) => written_status(written, len),
-        None => write_others(params, Some(RSASSA_PSS), out, len),
+    match from_c_pss(params) {
+        Ok(made) => write_algorithm::<RsassaPss, _>(&made, out, len),
+        Err(failure) => status(&failure),
     }
 }

@@ -1,11 +1,10 @@
 // Made of crates/pkcs1_c/src/public_key.rt by tools/erase/erase.py, and not to be edited.
 //! Public keys.
 
-use crate::calls::pkcs1_c::given_number::Number;
 use crate::calls::pkcs1_c::numbers::number;
 use crate::calls::pkcs1_c::status::{OK, status};
 use crate::calls::pkcs1_c::written::write_encoding;
-use crate::proved::pkcs1::{RsaPublicKey, RsaPublicKeyRef};
+use crate::proved::pkcs1::{RsaPublicKey, RsaPublicKeyRef, UintRef};
 
 /// The numbers of a public key, most significant byte first.
 #[repr(C)]
@@ -33,7 +32,7 @@ pub extern "C" fn pkcs1_c_public_key_decode<'a>(encoding: *const u8, encoding_le
 }
 
 /// The key with these numbers.
-fn from_c_key<'a>(key: &PublicKey<'a>) -> crate::proved::pkcs1::Result<RsaPublicKey<Number<'a>>> {
+fn from_c_key<'a>(key: &PublicKey<'a>) -> crate::proved::pkcs1::Result<RsaPublicKey<UintRef<'a>>> {
     Ok(RsaPublicKey {
         modulus: number(key.modulus)?,
         public_exponent: number(key.public_exponent)?,

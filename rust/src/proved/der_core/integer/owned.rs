@@ -3,13 +3,13 @@
 
 use crate::rattle_std::prelude::Vec;
 use super::uint::{AsUintRef, UintEncoding, UintRef};
-use crate::proved::der_core::back_writer::BackWriter;
 use crate::proved::der_core::decode::DecodeValue;
 use crate::proved::der_core::encode::EncodeValue;
 use crate::proved::der_core::error::{ErrorKind, Result};
 use crate::proved::der_core::grammar::{Contents, EqualByValue, IntegerTag, TaggedBy};
 use crate::proved::der_core::length::Length;
 use crate::proved::der_core::memory::copy_of;
+use crate::proved::der_core::prepend::Prepend;
 use crate::proved::der_core::try_clone::TryClone;
 use crate::proved::der_core::writer::Writer;
 use crate::rattle_std::alloc::Global;
@@ -76,20 +76,17 @@ impl<'a> DecodeValue<&'a [u8], Global> for Uint {
 }
 
 impl EncodeValue for Uint {
-    fn value_len(&self) -> Result<Length> {
-        self.as_uint_ref().value_len()
+    #[inline(always)]
+    fn check_value(&self) -> Result<()> {
+        Ok(())
     }
 
     #[inline(always)]
-    fn quick_value_len(&self) -> u64 {
-        self.as_uint_ref().quick_value_len()
+    fn prepend_value<W: Prepend>(&self, writer: &mut W) {
+        self.as_uint_ref().prepend_value(writer);
     }
 
     fn append_value<W: Writer>(&self, writer: &mut W) -> Result<()> {
         self.as_uint_ref().append_value(writer)
-    }
-
-    fn prepend_value(&self, writer: &mut BackWriter<'_>) {
-        self.as_uint_ref().prepend_value(writer);
     }
 }

@@ -1,14 +1,13 @@
 // Made of crates/der_core/src/integer/small.rt by tools/erase/erase.py, and not to be edited.
 //! INTEGER from 0 to 255, as `u8`.
 
-use crate::proved::der_core::back_writer::BackWriter;
 use crate::proved::der_core::decode::DecodeValue;
 use crate::proved::der_core::encode::EncodeValue;
 use crate::proved::der_core::error::{Error, ErrorKind, Result};
 use crate::proved::der_core::grammar::{Contents, EqualByValue, IntegerTag, TaggedBy};
 use crate::proved::der_core::integer::uint::integer;
-use crate::proved::der_core::length::Length;
 use crate::proved::der_core::memory::Memory;
+use crate::proved::der_core::prepend::Prepend;
 use crate::proved::der_core::tag::Tag;
 use crate::proved::der_core::writer::Writer;
 
@@ -41,13 +40,18 @@ impl<'a, M: Memory> DecodeValue<&'a [u8], M> for u8 {
 }
 
 impl EncodeValue for u8 {
-    fn value_len(&self) -> Result<Length> {
-        Length::try_from(if *self < 0x80 { 1 } else { 2 })
+    #[inline(always)]
+    fn check_value(&self) -> Result<()> {
+        let _octet = *self; // which says that the number is below 256
+        Ok(())
     }
 
     #[inline(always)]
-    fn quick_value_len(&self) -> u64 {
-        if *self < 0x80 { 1 } else { 2 }
+    fn prepend_value<W: Prepend>(&self, writer: &mut W) {
+        writer.prepend(&[*self]);
+        if *self >= 0x80 {
+            writer.prepend(&[0]);
+        }
     }
 
     fn append_value<W: Writer>(&self, writer: &mut W) -> Result<()> {
@@ -55,13 +59,6 @@ impl EncodeValue for u8 {
             writer.write(&[*self])
         } else {
             writer.write(&[0, *self])
-        }
-    }
-
-    fn prepend_value(&self, writer: &mut BackWriter<'_>) {
-        writer.prepend(&[*self]);
-        if *self >= 0x80 {
-            writer.prepend(&[0]);
         }
     }
 }

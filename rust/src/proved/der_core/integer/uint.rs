@@ -1,13 +1,13 @@
 // Made of crates/der_core/src/integer/uint.rt by tools/erase/erase.py, and not to be edited.
 //! Unsigned numbers that borrow their bytes.
 
-use crate::proved::der_core::back_writer::BackWriter;
 use crate::proved::der_core::decode::DecodeValue;
 use crate::proved::der_core::encode::EncodeValue;
 use crate::proved::der_core::error::{Error, ErrorKind, Result};
 use crate::proved::der_core::grammar::{Contents, Encoding, EqualByValue, IntegerTag, TaggedBy};
 use crate::proved::der_core::length::Length;
 use crate::proved::der_core::memory::Memory;
+use crate::proved::der_core::prepend::Prepend;
 use crate::proved::der_core::tag::Tag;
 use crate::proved::der_core::try_clone::TryClone;
 use crate::proved::der_core::writer::Writer;
@@ -80,13 +80,6 @@ impl<'a> UintRef<'a> {
         self.bytes
     }
 
-    /// How many octets the contents are: the bytes, behind a zero if the first is 128 or more.
-    #[inline(always)]
-    fn size(&self) -> usize {
-        let zeros = if self.bytes[0] < 0x80 { 0 } else { 1 };
-        self.bytes.len() as u32 as usize + zeros
-    }
-
     /// The bit length of the number, as 2048 of the modulus of an RSA-2048 key: the least n with it below 2^n, 0 of 0.
     pub fn bit_len(&self) -> u64 {
         8 * self.bytes.len() as u64 - self.bytes[0].leading_zeros() as u64
@@ -133,13 +126,16 @@ impl<'a, M: Memory> DecodeValue<&'a [u8], M> for UintRef<'a> {
 
 impl EncodeValue for UintRef<'_> {
     #[inline(always)]
-    fn value_len(&self) -> Result<Length> {
-        Length::try_from(self.size())
+    fn check_value(&self) -> Result<()> {
+        Ok(())
     }
 
     #[inline(always)]
-    fn quick_value_len(&self) -> u64 {
-        self.size() as u64
+    fn prepend_value<W: Prepend>(&self, writer: &mut W) {
+        writer.prepend(self.bytes);
+        if self.bytes[0] >= 0x80 {
+            writer.prepend(&[0]);
+        }
     }
 
     fn append_value<W: Writer>(&self, writer: &mut W) -> Result<()> {
@@ -147,13 +143,5 @@ impl EncodeValue for UintRef<'_> {
             writer.write(&[0])?;
         }
         writer.write(self.bytes)
-    }
-
-    #[inline(always)]
-    fn prepend_value(&self, writer: &mut BackWriter<'_>) {
-        writer.prepend(self.bytes);
-        if self.bytes[0] >= 0x80 {
-            writer.prepend(&[0]);
-        }
     }
 }

@@ -2,9 +2,8 @@
 //! Decoding private keys from whole slices; encoding them into slices.
 
 use super::RsaPrivateKey;
-use super::other_prime_info::lists_none;
-use crate::proved::der_core::{Decode, Encode, ErrorKind, OctetStringRef, Tag, Uint, UintEncoding, UintRef};
-use crate::proved::pkcs1_params::Error;
+use super::other_prime_info::require_listed;
+use crate::proved::der_core::{Decode, Encode, ErrorKind, OctetStringRef, Uint, UintEncoding, UintRef};
 use crate::rattle_std::alloc::Global;
 
 impl<U> RsaPrivateKey<U> {
@@ -46,10 +45,7 @@ impl<U: Encode + UintEncoding> RsaPrivateKey<U> {
     /// if the list of other primes is there but empty, which is looked at first, `Overflow` exactly if the encoding is
     /// longer than `Length::MAX`, else `NoRoom` exactly if it is longer than the slice.
     pub fn encode_key(&self, out: &mut [u8]) -> crate::proved::pkcs1::Result<usize> {
-        if lists_none(&self.other_prime_infos) {
-            let kind = ErrorKind::Value { tag: Tag::SEQUENCE };
-            return Err(Error::Asn1(crate::proved::der_core::Error::new(kind)));
-        }
+        require_listed(&self.other_prime_infos)?;
         Ok(self.encode_into(out)?)
     }
 }

@@ -4,8 +4,8 @@
 use crate::rattle_std::prelude::Vec;
 use crate::proved::pkcs1::version::Version;
 use crate::proved::der_core::{
-    BackWriter, Borrowed, Decode, Encode, EncodeInParts, EncodeValue, Encoding, Error, ErrorKind,
-    Length, Record, Result, SequenceTag, Tag, TaggedBy, TryClone, Writer, read_optional,
+    Borrowed, Decode, Encode, EncodeInParts, Encoding, Error, ErrorKind, Record, Result,
+    RowOperation, SequenceTag, Tag, TaggedBy, TryClone, read_optional,
 };
 use crate::rattle_std::alloc::{AllocError, Global};
 
@@ -66,49 +66,24 @@ impl<U: TryClone> OtherPrimeInfo<U> {
 }
 
 impl<U: Encode> EncodeInParts for OtherPrimeInfo<U> {
-    fn parts_len(&self) -> Result<Length> {
-        let coefficient = (Borrowed(&self.coefficient), ());
-        (
-            Borrowed(&self.prime),
-            (Borrowed(&self.exponent), coefficient),
-        )
-            .value_len()
-    }
-
     #[inline(always)]
-    fn quick_parts_len(&self) -> u64 {
+    fn with_row<O: RowOperation>(&self, operation: &mut O) -> O::Output {
         let coefficient = (Borrowed(&self.coefficient), ());
-        (
+        operation.apply(&(
             Borrowed(&self.prime),
             (Borrowed(&self.exponent), coefficient),
-        )
-            .quick_value_len()
-    }
-
-    fn append_parts<W: Writer>(&self, writer: &mut W) -> Result<()> {
-        let coefficient = (Borrowed(&self.coefficient), ());
-        (
-            Borrowed(&self.prime),
-            (Borrowed(&self.exponent), coefficient),
-        )
-            .append_value(writer)
-    }
-
-    fn prepend_parts(&self, writer: &mut BackWriter<'_>) {
-        let coefficient = (Borrowed(&self.coefficient), ());
-        (
-            Borrowed(&self.prime),
-            (Borrowed(&self.exponent), coefficient),
-        )
-            .prepend_value(writer);
+        ))
     }
 }
 
-/// Whether the list is there but empty.
-pub(crate) fn lists_none<U>(others: &Option<OtherPrimeInfos<U>>) -> bool {
+/// Rejects a list that is there but empty: `Value` of SEQUENCE.
+#[inline(always)]
+pub(crate) fn require_listed<U>(others: &Option<OtherPrimeInfos<U>>) -> Result<()> {
     match others {
-        Some(infos) => infos.is_empty(),
-        None => false,
+        Some(infos) if infos.is_empty() => {
+            Err(Error::new(ErrorKind::Value { tag: Tag::SEQUENCE }))
+        }
+        _ => Ok(()),
     }
 }
 

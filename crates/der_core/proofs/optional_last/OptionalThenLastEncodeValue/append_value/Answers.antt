@@ -5,21 +5,21 @@ use Rattle.der_core.specs.Words.{err_from_is_err_and}
 use Rattle.der_core.proofs.Writing.{appends_behind, appends_in_front, receives_none, takes_none}
 use Rattle.der_core.proofs.optional_last.OptionalThenLastEncodeValue.append_value.Goals as goal
 
--- At the `?` behind `part.encode`: the writing stops in the part, so that of the contents does.
-pub returns-in_err-encode-in-Some-clause-appends : goal.returns-in_err-encode-in-Some-clause-appends
-returns-in_err-encode-in-Some-clause-appends g c =
+-- At the `?` behind `part.append`: the writing stops in the part, so that of the contents does.
+pub returns-in_err-append-in-Some-clause-appends : goal.returns-in_err-append-in-Some-clause-appends
+returns-in_err-append-in-Some-clause-appends g c =
     let p = err_from_is_err_and c.from_residual.result c.from_residual.ensures.1 in
     let has = rw c.in-Some.is at c.requires.has in
     let fits = rw c.in-Some.is at c.requires.fits in
-    rw (p.1, p.2, c.in-Some.is) (appends_in_front _ _ _ has.0 has refl fits c.in_err-encode-in-Some.ensures.appends)
+    rw (p.1, p.2, c.in-Some.is) (appends_in_front _ _ _ has.0 has refl fits c.in_err-append-in-Some.ensures.appends)
 
--- At the end of the arm `Some`: the part was written, and the rest is written behind it.
-pub returns-in_ok-encode-in-Some-clause-appends : goal.returns-in_ok-encode-in-Some-clause-appends
-returns-in_ok-encode-in-Some-clause-appends g c =
+-- At the end of the arm `Some`: the part was written, and the rest is written after it.
+pub returns-in_ok-append-in-Some-clause-appends : goal.returns-in_ok-append-in-Some-clause-appends
+returns-in_ok-append-in-Some-clause-appends g c =
     let has = rw c.in-Some.is at c.requires.has in
     let fits = rw c.in-Some.is at c.requires.fits in
-    rw c.in-Some.is (appends_behind _ _ _ has.1.1 has refl fits c.in_ok-encode-in-Some.ensures.appends.written
-    c.in_ok-encode-in-Some.ensures.appends.room c.append_value.ensures.appends)
+    rw c.in-Some.is (appends_behind _ _ _ has.1.1 has refl fits c.in_ok-append-in-Some.ensures.appends.written
+    c.in_ok-append-in-Some.ensures.appends.room c.append_value.ensures.appends)
 
 -- At the end of the arm `None`: nothing is written for the part, so what the call says of the rest holds of all.
 pub returns-in-None-clause-appends : goal.returns-in-None-clause-appends

@@ -1,15 +1,15 @@
--- `append_value` of `Vec<T>`. The trait speaks of the spelling of a list, and `encode_items` of the items of a slice.
+-- `append_value` of `Vec<T>`. The trait speaks of the spelling of a list, and `append_items` of the items of a slice.
 -- `AllHave-map` and `encodings_map` say that it is the same.
 use Rattle.der_core.proofs.Items.{AllHave-map, encodings_map}
 use Rattle.der_core.proofs.sequence_of.VecEncodeValue.append_value.Goals as goal
 
-pub encode_items-requires-clause-has : goal.encode_items-requires-clause-has
-encode_items-requires-clause-has g c =
+pub append_items-requires-clause-has : goal.append_items-requires-clause-has
+append_items-requires-clause-has g c =
     rw (c.as_slice.ensures.value, ← AllHave-map g.T.Encoding.value g.T.Encoding.written g.T.Encoding.valid c.args.self.now.items)
     c.requires.has
 
-pub encode_items-requires-clause-fits : goal.encode_items-requires-clause-fits
-encode_items-requires-clause-fits g c =
+pub append_items-requires-clause-fits : goal.append_items-requires-clause-fits
+append_items-requires-clause-fits g c =
     rw (
       c.as_slice.ensures.value,
       ← encodings_map g.T.Encoding.value g.T.Encoding.written g.T.Encoding.printed
@@ -23,4 +23,4 @@ returns-clause-appends g c =
       encodings_map g.T.Encoding.value g.T.Encoding.written g.T.Encoding.printed c.args.self.now.items,
       ← c.as_slice.ensures.value,
     )
-    c.encode_items.ensures.appends
+    c.append_items.ensures.appends

@@ -1,20 +1,13 @@
 -- `to_pkcs1_der` of `EncodeRsaPrivateKey` for `RsaPrivateKey<U>`. It calls `encode_msg`, which speaks of the encodings
 -- that U states. `number_key_encodes` says that they are those of `PrivateKeyEncoding`, for the key that the numbers of
 -- U mean.
-use Rattle.std.proofs.Common.{ap, ◌∙◌, refl}
-use Rattle.der_core.specs.Words.{err_from_is_err_and, tagged_shortest, same_tag}
-use Rattle.der_core.specs.declared.error.ErrorKind.TheVariants as kind
+use Rattle.der_core.specs.Words.{err_from_is_err_and, tagged_shortest}
 use Rattle.pkcs1.specs.Words.{IsPrivateKey, PrivateIsWritten, PrivateSpells, held_private_key, private_key_with, private_shortest}
 use Rattle.pkcs1.proofs.NumberKeys.{number_key_encodes, number_key_written}
 use Rattle.pkcs1.proofs.WritingStated.{unencoded_unmade, unmade_carried}
 use Rattle.pkcs1_params.proofs.Masks.{shortest_as}
 use Rattle.standard.specs.Statement.{PrivateKeyEncoding}
 use Rattle.pkcs1.proofs.traits.RsaPrivateKeyEncodeRsaPrivateKey.to_pkcs1_der.Goals as goal
-
--- The list of other primes is there but empty: the error was made with this tag.
-pub returns-then-lists_none-clause-no_primes : goal.returns-then-lists_none-clause-no_primes
-returns-then-lists_none-clause-no_primes g c =
-    λ _. ap (λ e. e.kind) c.new-rejected.ensures ∙ ap kind.Value (same_tag _ _ refl)
 
 -- The document holds the shortest encoding that U states, so the shortest of the key.
 pub returns-clause-encoding : goal.returns-clause-encoding
@@ -35,7 +28,7 @@ returns-in_err-encode_msg-clause-err g c =
     let key = c.args.self.now in
     let number = g.U.AsUintRef.number in
     let law = g.met.U.UintEncoding.encodes_number in
-    let p = err_from_is_err_and c.from_residual.result c.from_residual.ensures.1 in
+    let p = err_from_is_err_and c.from_residual-in_err-encode_msg.result c.from_residual-in_err-encode_msg.ensures.1 in
     rw (p.1, p.2) (unmade_carried (PrivateIsWritten e.valid e.written) (PrivateSpells e.valid e.printed e.means)
     IsPrivateKey PrivateKeyEncoding (private_key_with e.value key) (held_private_key number key)
     (number_key_written e.valid e.printed e.means e.value number law e.shortest key)

@@ -1,16 +1,22 @@
--- `EncodeValue` for `GivenKey`, whose field 0 is the key. `append_row` writes it as a row: a version, the numbers, the
--- list. What is printed of this row are the contents of the key, so its facts are those of the key.
-use Rattle.pkcs1_c.proofs.GivenRows.{given_appended, given_room, given_valid}
+-- `append_value` of `GivenKey`, whose field 0 is the key. It appends the row of the key's parts, which has the same octets
+-- as the contents of the key.
+use Rattle.std.proofs.Common.{◌≤◌, length, subst, sym}
+use Rattle.standard.specs.Statement.{integer}
+use Rattle.der_core.specs.Words.{limit}
+use Rattle.pkcs1.specs.Words.{AnyNumber}
+use Rattle.pkcs1.proofs.KeyRows.{key_appended, private_row_is}
+use Rattle.pkcs1_c.specs.Words.{given_key}
+use Rattle.pkcs1_c.proofs.GivenRows.{given_row}
 use Rattle.pkcs1_c.proofs.given_key.GivenKeyEncodeValue.append_value.Goals as goal
 
-pub append_row-requires-clause-has : goal.append_row-requires-clause-has
-append_row-requires-clause-has g c = given_valid c.args.self.now.0 c.requires.has
+pub append_value-requires-clause-fits : goal.append_value-requires-clause-fits
+append_value-requires-clause-fits g c =
+    let key = c.args.self.now.0 in
+    subst (λ o. length o ≤ limit) (sym (private_row_is AnyNumber integer (given_key key) _ (given_row key _ c.row.ensures)))
+    c.requires.fits
 
-pub append_row-requires-clause-fits : goal.append_row-requires-clause-fits
-append_row-requires-clause-fits g c = given_room c.args.self.now.0 c.requires.fits
-
--- `append_row` has written what is printed of the row, or its error says why not.
 pub returns-clause-appends : goal.returns-clause-appends
 returns-clause-appends g c =
-    given_appended c.args.self.now.0 g.W.Writer.room g.W.Writer.written c.args.writer.now c.append_row.new.writer
-    c.append_row.result c.requires.has c.append_row.ensures.appends
+    let key = c.args.self.now.0 in
+    key_appended AnyNumber integer (given_key key) _ (given_row key _ c.row.ensures) g.W.Writer.room g.W.Writer.written
+    c.args.writer.now c.append_value.new.writer c.append_value.result c.requires.has c.append_value.ensures.appends

@@ -9,16 +9,28 @@ use Rattle.pkcs1_c.proofs.GivenKeys.{empty_prime, given_encodings_are, given_pri
 use Rattle.pkcs1_c.proofs.StructErrors.{numbers_held_at}
 use Rattle.pkcs1_c.proofs.given_primes.GivenPrimesEncodeValue.append_value.Goals as goal
 
--- The numbers of all primes can be held, so those of this one can.
+-- The numbers of all primes can be held, so those of this one can. Its encoding is within the limit, as all are.
 pub append_given-requires : goal.append_given-requires
 append_given-requires g c =
     let given = c.args.self.now in
-    record {
-      held = numbers_held_at given.others.now c.loop-other.other-index empty_prime c.loop-other-test.true
-          given.held;
+    let others = given.others.now in
+    let i = c.loop-other.other-index in
+    let here = given_encoded (get_or others i empty_prime) in
+    let rest = all_encodings given_encoded (drop (i + 1) others) in
+    let whole = sym (given_encodings_are others)
+    ∙ encodings_around (λ _. Unit {0}) given_encoded others i empty_prime c.loop-other-test.true in record {
+      held = numbers_held_at others i empty_prime c.loop-other-test.true given.held;
+      fits =
+          omega (
+            arith,
+            c.requires.fits,
+            ap length whole,
+            length-append (all_encodings given_encoded (take i others)) (here ++ rest),
+            length-append here rest,
+          );
     }
 
--- The encoding of this prime stands behind those before it.
+-- The encoding of this prime stands after those before it.
 pub loop-other-preserved : goal.loop-other-preserved
 loop-other-preserved g c =
     let others = c.args.self.now.others.now in
@@ -36,7 +48,7 @@ loop-other-preserved g c =
       kept = search rules;
     }
 
--- At the `?` behind `append_given`, whose error `from_residual` hands on: the encodings before this prime are written,
+-- At the `?` after `append_given`, whose error `from_residual` hands on: the encodings before this prime are written,
 -- and writing this one failed, so writing all did.
 pub returns-in_err-append_given-clause-appends : goal.returns-in_err-append_given-clause-appends
 returns-in_err-append_given-clause-appends g c =

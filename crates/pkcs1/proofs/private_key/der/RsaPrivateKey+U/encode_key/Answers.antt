@@ -1,18 +1,13 @@
 -- `encode_key` of `RsaPrivateKey<U>`. It calls `encode_into`, which speaks of the encodings that U states. `same` says
 -- that they are those of `PrivateKeyEncoding`, for the key that the numbers of U mean. 48 is the tag octet of SEQUENCE.
-use Rattle.std.proofs.Common.{ℕ, length, ap, ◌∙◌, refl, Ok, Err, Some, None}
-use Rattle.der_core.specs.Words.{err_from_is_err_and, tagged_shortest, same_tag}
+use Rattle.std.proofs.Common.{ℕ, length, Ok, Err, Some, None}
+use Rattle.der_core.specs.Words.{err_from_is_err_and, tagged_shortest}
 use Rattle.der_core.proofs.Writing.{encode_into_encodes, encode_into_unwritten}
-use Rattle.der_core.specs.declared.error.ErrorKind.TheVariants as kind
 use Rattle.pkcs1.specs.Words.{IsPrivateKey, PrivateIsWritten, PrivateSpells, held_private_key, private_key_with, private_shortest}
 use Rattle.pkcs1.proofs.NumberKeys.{number_key_encodes, number_key_written}
 use Rattle.pkcs1_params.proofs.Masks.{encodes_as, unwritten_of_same_encodings}
 use Rattle.standard.specs.Statement.{PrivateKeyEncoding}
 use Rattle.pkcs1.proofs.private_key.der.RsaPrivateKey+U.encode_key.Goals as goal
-
--- The list of other primes is there but empty: the error was made with this tag.
-pub returns-then-lists_none-clause-no_primes : goal.returns-then-lists_none-clause-no_primes
-returns-then-lists_none-clause-no_primes g c = λ _. ap (λ e. e.kind) c.new.ensures ∙ ap kind.Value (same_tag _ _ refl)
 
 -- `encode_into` returned a length, `field-0`. In front of the slice is the shortest encoding of the key.
 pub returns-clause-written : goal.returns-clause-written
@@ -35,7 +30,7 @@ returns-in_err-encode_into-clause-written g c =
     let key = c.args.self.now in
     let number = g.U.AsUintRef.number in
     let same = number_key_encodes e.valid e.printed e.means e.value number g.met.U.UintEncoding.encodes_number e.shortest key in
-    let p = err_from_is_err_and c.from_residual.result c.from_residual.ensures.1 in
+    let p = err_from_is_err_and c.from_residual-in_err-encode_into.result c.from_residual-in_err-encode_into.ensures.1 in
     let told = c.in_err-encode_into.ensures in
     rw p.1 (encodes_as (PrivateSpells e.valid e.printed e.means) PrivateKeyEncoding (private_key_with e.value key)
     (held_private_key number key) same c.args.out.now _ None
@@ -50,7 +45,7 @@ returns-in_err-encode_into-clause-err g c =
     let key = c.args.self.now in
     let number = g.U.AsUintRef.number in
     let law = g.met.U.UintEncoding.encodes_number in
-    let p = err_from_is_err_and c.from_residual.result c.from_residual.ensures.1 in
+    let p = err_from_is_err_and c.from_residual-in_err-encode_into.result c.from_residual-in_err-encode_into.ensures.1 in
     rw (p.1, p.2) (unwritten_of_same_encodings (PrivateSpells e.valid e.printed e.means) PrivateKeyEncoding
     (private_key_with e.value key) (held_private_key number key)
     (number_key_encodes e.valid e.printed e.means e.value number law e.shortest key)

@@ -2,7 +2,7 @@
 //! What `finish` of both writers leaves of the slice.
 use crate::rattle_std::prelude::HostRuntime;
 use crate::tool::pkcs1_tool::tests::checks::equal;
-use crate::proved::der_core::{BackWriter, SliceWriter, Writer};
+use crate::proved::der_core::{BackWriter, Prepend, SliceWriter, Writer};
 
 #[test]
 fn the_rest_of_a_slice_is_kept() { let rt = HostRuntime;
