@@ -1,7 +1,7 @@
 // What is otherwise in the releases 0.7 of `der` and `spki`, and 0.10 of `pkcs8`: the names of types too.
 
 use der::asn1::UintRef;
-use der::{Header, Length, TagNumber};
+use der::{Error, ErrorKind, Header, Length, Reader, Tag, TagNumber};
 
 /// An RSA public key.
 pub type RsaPublicKey<'a> = crate::RsaPublicKeyRef<'a>;
@@ -24,6 +24,19 @@ pub(crate) use error;
 
 pub(crate) fn length(header: &Header) -> Length {
     header.length
+}
+
+/// Whether RustCrypto's crate refuses an empty list of other primes.
+pub(crate) const REFUSES_EMPTY: bool = false;
+
+/// The error of a number that is none of its type's.
+pub(crate) fn value_error<'r>(_: &mut impl Reader<'r>, tag: Tag) -> Error {
+    ErrorKind::Value { tag }.into()
+}
+
+/// The cause of an error: none is named.
+pub(crate) fn source(_: &Error) -> Option<&(dyn core::error::Error + 'static)> {
+    None
 }
 
 pub(crate) fn number(number: u8) -> TagNumber {

@@ -1,17 +1,17 @@
 //! Types are read and written by the proved functions. These write whole encodings, and the traits of `der` contents
 //! without a header.
 
+use crate::fault::{Fault, fault, later, refused};
 use crate::keys::{OtherPrimeInfo, RsaPrivateKey, RsaPublicKey, Version};
 use crate::mirror::Mirror;
 use crate::params::{RsaOaepParams, RsaPssParams, TrailerField};
-use crate::release::{self, length, number};
+use crate::release::{self, length};
 #[cfg(feature = "alloc")]
 use der::asn1::{Any, Uint};
-use der::asn1::{AnyRef, ContextSpecific, UintRef};
-use der::{Decode, DecodeValue, Encode, EncodeValue, Error, ErrorKind, FixedTag};
-use der::{Header, Length, Reader, SliceReader, Tag, Writer};
+use der::asn1::{AnyRef, UintRef};
+use der::{DecodeValue, Encode, EncodeValue, Error, ErrorKind, FixedTag};
+use der::{Header, Length, Reader, Tag, Writer};
 use proved::der::DecodeContents;
-use spki::{AlgorithmIdentifier, AlgorithmIdentifierRef as Hash};
 
 #[cfg(feature = "alloc")]
 type Memory = der::zeroize::Zeroizing<alloc::vec::Vec<u8>>;
@@ -25,16 +25,6 @@ fn room(size: usize) -> der::Result<Memory> {
     #[cfg(not(feature = "alloc"))]
     let memory = [0; 5120];
     if size > memory.len() { Err(ErrorKind::Overflow.into()) } else { Ok(memory) }
-}
-
-/// The error of what only a proved function refuses.
-fn refused<T: FixedTag>() -> Error {
-    ErrorKind::Value { tag: T::TAG }.into()
-}
-
-/// Reads a whole encoding as `der` does, for the error alone: it has a kind of `der` and a position.
-trait Fault: FixedTag {
-    fn fault(whole: &[u8]) -> der::Result<()>;
 }
 
 /// A whole encoding in memory of its own.
@@ -77,16 +67,10 @@ impl Whole {
 
     /// The fault that `der` finds, where the contents began at this position.
     fn fault<T: Fault>(&self, start: Length) -> Error {
-        let error = T::fault(self.octets()).err().unwrap_or_else(refused::<T>);
         let front = Length::try_from(self.header).unwrap_or(Length::ZERO);
-        match error.position().map(|position| start.saturating_sub(front) + position) {
-            Some(Ok(position)) => error.kind().at(position),
-            _ => error,
-        }
+        later(fault::<T>(self.octets()), start.saturating_sub(front)).unwrap_or_else(|error| error)
     }
 }
-
-type MaskGen<'r> = AlgorithmIdentifier<Hash<'r>>;
 
 /// How many octets of so long an encoding are contents.
 fn contents_len(end: usize) -> Option<usize> {
@@ -107,32 +91,35 @@ where
 }
 
 /// `DecodeValue` of a type that borrows from the contents.
-fn borrowed<'a, T, R: Reader<'a>>(reader: &mut R, length: Length) -> der::Result<T>
+fn borrowed<'a, T, R: Reader<'a>>(reader: &mut R, header: Header) -> der::Result<T>
 where
     T: Mirror<'a, Proved: DecodeContents<'a>> + Fault,
 {
-    let start = reader.position();
+    let (start, length) = (reader.position(), length(&header));
     reader.read_nested(length, |contents| value(contents.read_slice(length)?, start))
 }
 
 /// `DecodeValue` of a type that owns what it holds.
 #[cfg(feature = "alloc")]
-fn owned<'a, T, R: Reader<'a>>(reader: &mut R, length: Length) -> der::Result<T>
+fn owned<'a, T, R: Reader<'a>>(reader: &mut R, header: Header) -> der::Result<T>
 where
     T: for<'w> Mirror<'w, Proved: DecodeContents<'w>> + Fault,
 {
-    let (start, size) = (reader.position(), usize::try_from(length)?);
+    let (start, length) = (reader.position(), length(&header));
+    let size = usize::try_from(length)?;
     reader.read_nested(length, |contents| value(contents.read_into(&mut room(size)?[..size])?, start))
 }
 
 /// `DecodeValue` of an INTEGER of one octet. As in `der` there may be another before it.
-fn small<'a, T, R: Reader<'a>>(reader: &mut R, length: Length) -> der::Result<T>
+fn small<'a, T, R: Reader<'a>>(reader: &mut R, header: Header) -> der::Result<T>
 where
     T: for<'w> Mirror<'w, Proved: DecodeContents<'w>> + Fault,
 {
     let (start, mut memory) = (reader.position(), [0; 2]);
-    let octets = memory.get_mut(..usize::try_from(length)?).ok_or(ErrorKind::Noncanonical { tag: T::TAG })?;
-    value(reader.read_into(octets)?, start)
+    match memory.get_mut(..usize::try_from(length(&header))?) {
+        Some(octets) => value(reader.read_into(octets)?, start),
+        None => Err(T::fault(reader, header).err().unwrap_or_else(refused::<T>)),
+    }
 }
 
 /// The value of a whole encoding.
@@ -154,7 +141,7 @@ macro_rules! coded {
             release::error!();
 
             fn decode_value<R: Reader<'a>>(reader: &mut R, header: Header) -> der::Result<Self> {
-                $decode(reader, length(&header))
+                $decode(reader, header)
             }
         }
 
@@ -177,12 +164,6 @@ macro_rules! integers {
             const TAG: Tag = Tag::Integer;
         }
 
-        impl Fault for $name {
-            fn fault(whole: &[u8]) -> der::Result<()> {
-                u8::from_der(whole).map(|_| ())
-            }
-        }
-
         coded! { $name, small }
     )* };
 }
@@ -200,7 +181,7 @@ macro_rules! sequence {
                 Length::try_from(bytes.len())?;
                 match whole(bytes) {
                     Some(value) => Ok(value),
-                    None => Ok(Self::from_der(bytes)?),
+                    None => Err(fault::<Self>(bytes).into()),
                 }
             }
         }
@@ -208,65 +189,17 @@ macro_rules! sequence {
         coded! { $name, $decode }
     };
 }
-macro_rules! explicit {
-    ($contents:ident, $($number:literal $field:ty),*) => {{
-        $(ContextSpecific::<$field>::decode_explicit($contents, number($number))?;)*
-        Ok(())
-    }};
-}
 macro_rules! sequences {
-    ($($name:ident, $borrowed:ident $owned:ident, $contents:ident => $fault:expr;)*) => { $(
+    ($($name:ident, $borrowed:ident $owned:ident;)*) => { $(
         sequence! { $name<$borrowed<'a>>, borrowed }
         #[cfg(feature = "alloc")]
         sequence! { $name<$owned>, owned }
-
-        impl<T> Fault for $name<T> where $name<T>: FixedTag {
-            fn fault(whole: &[u8]) -> der::Result<()> {
-                let mut reader = SliceReader::new(whole)?;
-                let length = length(&Header::decode(&mut reader)?);
-                reader.read_nested(length, |$contents| $fault)
-            }
-        }
     )* };
 }
 sequences! {
-    RsaPublicKey, UintRef Uint, contents => numbers(contents, 2);
-    OtherPrimeInfo, UintRef Uint, contents => numbers(contents, 3);
-    RsaPrivateKey, UintRef Uint, contents => private_key(contents);
-    RsaPssParams, AnyRef Any, contents => explicit!(contents, 0 Hash<'_>, 1 MaskGen<'_>, 2 u8, 3 TrailerField);
-    RsaOaepParams, AnyRef Any, contents => explicit!(contents, 0 Hash<'_>, 1 MaskGen<'_>, 2 Hash<'_>);
-}
-
-fn numbers<'r>(contents: &mut impl Reader<'r>, count: usize) -> der::Result<()> {
-    (0..count).try_for_each(|_| contents.decode::<UintRef<'r>>().map(|_| ()))
-}
-
-fn private_key<'r>(contents: &mut impl Reader<'r>) -> der::Result<()> {
-    let version = Version::decode(contents)?;
-    numbers(contents, 8)?;
-    let others = contents.decode::<Option<Others>>()?.is_some();
-    if version.is_multi() == others { Ok(()) } else { Err(contents.error(ErrorKind::Value { tag: Tag::Integer })) }
-}
-
-/// A list of other primes, of which nothing is held. Without the feature `alloc` none is read.
-struct Others;
-
-impl FixedTag for Others {
-    const TAG: Tag = Tag::Sequence;
-}
-
-impl<'a> DecodeValue<'a> for Others {
-    release::error!();
-
-    fn decode_value<R: Reader<'a>>(reader: &mut R, header: Header) -> der::Result<Self> {
-        if cfg!(not(feature = "alloc")) {
-            return Err(reader.error(ErrorKind::Value { tag: Tag::Integer }));
-        }
-        reader.read_nested(length(&header), |list| {
-            while !list.is_finished() {
-                list.sequence(|prime| numbers(prime, 3))?;
-            }
-            Ok(Others)
-        })
-    }
+    RsaPublicKey, UintRef Uint;
+    OtherPrimeInfo, UintRef Uint;
+    RsaPrivateKey, UintRef Uint;
+    RsaPssParams, AnyRef Any;
+    RsaOaepParams, AnyRef Any;
 }

@@ -27,7 +27,7 @@ impl fmt::Display for Error {
         match self {
             Error::Asn1(error) => write!(f, "PKCS#1 ASN.1 error: {error}"),
             Error::Crypto => f.write_str("PKCS#1 cryptographic error"),
-            Error::KeyMalformed => f.write_str("PKCS#1 malformed key"),
+            Error::KeyMalformed => f.write_str("PKCS#1 cryptographic key data malformed"),
             #[cfg(feature = "pkcs8")]
             Error::Pkcs8(error) => error.fmt(f),
             Error::Version => f.write_str("PKCS#1 version error"),
@@ -35,7 +35,14 @@ impl fmt::Display for Error {
     }
 }
 
-impl core::error::Error for Error {}
+impl core::error::Error for Error {
+    fn source(&self) -> Option<&(dyn core::error::Error + 'static)> {
+        match self {
+            Error::Asn1(error) => crate::release::source(error),
+            _ => None,
+        }
+    }
+}
 
 macro_rules! made_of {
     ($($(#[$if:meta])? $to:ty, $error:ident: $from:ty => $made:expr;)*) => { $(

@@ -13,6 +13,7 @@ mod coding;
 #[cfg(feature = "pkcs8")]
 mod containers;
 mod error;
+mod fault;
 mod keys;
 mod mirror;
 mod params;

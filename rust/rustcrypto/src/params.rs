@@ -91,14 +91,17 @@ impl<'a> RsaOaepParamsRef<'a> {
     }
 }
 
-impl Default for RsaPssParamsRef<'_> {
-    fn default() -> Self {
-        Mirror::of(&proved::RsaPssParamsRef::default()).expect("the defaults are held here too")
-    }
+/// `Default` of parameters that borrow or own.
+macro_rules! defaults {
+    ($($name:ident $proved:ident;)*) => { $(
+        impl<'a, P: Mirror<'a, Proved = proved::der::asn1::AnyRef<'a>>> Default for $name<P> {
+            fn default() -> Self {
+                Mirror::of(&proved::$proved::default()).expect("the defaults are held here too")
+            }
+        }
+    )* };
 }
-
-impl Default for RsaOaepParamsRef<'_> {
-    fn default() -> Self {
-        Mirror::of(&proved::RsaOaepParamsRef::default()).expect("the defaults are held here too")
-    }
+defaults! {
+    RsaPssParams RsaPssParamsRef;
+    RsaOaepParams RsaOaepParamsRef;
 }

@@ -111,6 +111,8 @@ fn parameters() {
     assert_eq!(RsaPssParamsRef::from_der(&der).unwrap(), params);
     assert_eq!(RsaPssParamsRef::default().to_der().unwrap(), [0x30, 0]);
     assert_eq!(RsaPssParamsRef::try_from(&[0x30, 0][..]).unwrap(), RsaPssParamsRef::default());
+    assert_eq!(RsaPssParamsOwned::default(), RsaPssParamsOwned::from_der(&[0x30, 0]).unwrap());
+    assert_eq!(RsaOaepParamsOwned::default(), RsaOaepParamsOwned::from_der(&[0x30, 0]).unwrap());
     assert_eq!(RsaPssParamsRef::SALT_LEN_DEFAULT, RsaPssParamsRef::default().salt_len);
     assert_eq!(RsaPssParamsRef::try_from(&PSS[..]).unwrap().hash.parameters, None);
     assert_eq!(RsaOaepParamsRef::default().to_der().unwrap(), [0x30, 0]);

@@ -1,0 +1,28 @@
+//! Faulty encodings are refused with the errors of RustCrypto's pkcs1 0.8: kind, lengths and position. What only this
+//! crate refuses, or says otherwise, stands below.
+include!("shared/faults.rs");
+
+#[test]
+fn refused() {
+    for (name, row) in READ_THERE {
+        let der = octets(row);
+        let (whole, decoded) = errors(name, der, &mut SliceReader::new(der).unwrap());
+        let said = decoded.unwrap();
+        assert_eq!(said.to_string(), "malformed ASN.1 DER value for SEQUENCE", "{name} {row}");
+        assert_eq!(whole, Some(said.into()), "{name} {row}");
+    }
+    for error in left() {
+        let said = "trailing data at end of DER message: decoded 8 bytes, 2 bytes remaining at DER byte 8";
+        assert_eq!(error.unwrap().to_string(), said);
+    }
+}
+
+/// Of what is left, `from_der` counts what the SEQUENCE has. It doesn't look at what follows an encoding that only this
+/// crate refuses.
+#[test]
+fn behind() {
+    let error = RsaPublicKeyRef::from_der(octets("30080201070201030500ff")).unwrap_err();
+    assert!(error.to_string().contains("8 bytes, 2 bytes remaining"));
+    let error = RsaOaepParamsRef::from_der(octets("300ea20c300a06052b8003021a04016100")).unwrap_err();
+    assert_eq!(error.to_string(), "malformed ASN.1 DER value for SEQUENCE");
+}
