@@ -2,17 +2,23 @@
 # Builds and tests the crate with the names of RustCrypto's pkcs1, 0.7 over the crates of Debian 13, 0.8 over those of
 # forky, and nothing of another registry:
 #
-#     rust/rustcrypto/check.sh
+#     rust/rustcrypto/check.sh [UPSTREAM]
 #
 #     each feature, without a warning of clippy; layout; documentation; its own tests
 #     over 0.7, each with not a line changed: the tests of keys of rsa 0.9, and those of RustCrypto's pkcs1
 #     inputs by damage, beside RustCrypto's pkcs1 0.7
 #     programs with the types of other crates, and with x509-cert
+#     with UPSTREAM, over 0.8: the tests of RustCrypto's pkcs1 0.8, with not a line changed; what tests/faults.rs says, and
+#     inputs by damage, beside that crate itself
+#
+# Debian has no package of RustCrypto's pkcs1 0.8. UPSTREAM is a folder with its src and tests, or with these as text and
+# a list INDEX.md, in which a line `- NAME: PATH` stands for each file.
 #
 # What is made stands in out/rust, or below OUT. It needs cargo with clippy and rustfmt, apt-get, and Debian's packages
 # from the network or the folder DEBIAN, ~/.cache/pkcs1-gate/debian unless said, into which they were unpacked. Nothing
 # is installed. forky isn't released: where it has no der 0.8 any more, 0.8 isn't tried, and a line says so.
 set -eu
+theirs=${1:+$(realpath "$1")}
 cd "$(dirname "$0")/../.."
 . tools/shell.sh
 . tools/debian_rust.sh
@@ -35,8 +41,12 @@ crates() {
     local root=$DEBIAN/crates-$1 packages=("${@:2}")
     packages=("${packages[@]/#/librust-}")
     [ -d "$root" ] || unpack "$root" "$1" '"amd64";' "${packages[@]/%/-dev}" || return
+    take "$1" "$root/usr/share/cargo/registry"
+}
+# take NAME FOLDER: cargo takes crates from this folder alone.
+take() {
     export CARGO_HOME=$OUT/$1/home CARGO_TARGET_DIR=$OUT/$1/target
-    registry=$root/usr/share/cargo/registry
+    registry=$2
     mkdir -p "$CARGO_HOME"
     printf '[source.crates-io]\nreplace-with = "debian"\n[source.debian]\ndirectory = "%s"\n' "$registry" \
         > "$CARGO_HOME/config.toml"
@@ -68,8 +78,44 @@ of_debian() {
     rm -rf "$OUT/check"
     mkdir -p "$OUT/check/tests"
     cp -r "${@:2}" "$OUT/check/tests"
-    sed "s|HERE|$here|" "$here/check/$1.toml" > "$OUT/check/Cargo.toml"
+    sed "s|HERE|$here|; s|UPSTREAM|$OUT/upstream|" "$here/check/$1.toml" > "$OUT/check/Cargo.toml"
     tested "$1" --manifest-path "$OUT/check/Cargo.toml"
+}
+
+# upstream FOLDER: RustCrypto's pkcs1 0.8, so that it is built over Debian's crates, and its tests.
+upstream() {
+    local to=$OUT/upstream name path
+    rm -rf "$to"
+    mkdir -p "$to/tests"
+    if [ -d "$1/src" ]; then
+        cp -r "$1"/{src,tests} "$to"
+    else
+        while read -r _ name path _; do
+            mkdir -p "$(dirname "$to/$path")"
+            cp --no-preserve=mode "$1/${name%:}" "$to/$path"
+        done < <(grep -h '^- ' "$1"/*INDEX.md)
+        # Several tests in one file, each below a line with its path.
+        (cd "$to" && awk '/^\/\/ ===== tests\/.* =====$/ { to = $3 } to { print > to }' tests/part*.rs && rm tests/part*.rs)
+    fi
+    cp -r "$DEBIAN"/crates-trixie/usr/share/cargo/registry/pkcs1-0.7.*/tests/examples "$to/tests"
+    cp "$here/check/upstream.toml" "$to/Cargo.toml"
+    cp "$here/check/later.rs" "$to/src"
+    sed -i '/README.md/d; $a mod later;' "$to/src/lib.rs"
+    sed -i 's/AsUintRef, O/O/; $a use crate::later::AsUintRef;' "$to/src/private_key.rs"
+    sed -i 's/, AsAlgorithmIdentifierRef}/}/; $a use crate::later::AsAlgorithmIdentifierRef;' "$to/src/params.rs"
+}
+
+# beside_upstream FOLDER: this crate, by the tests of that in the folder, and beside it. Some crates of the tests are
+# unpacked for Debian 13 alone.
+beside_upstream() {
+    rm -rf "$OUT/both"
+    mkdir -p "$OUT/both"
+    ln -s "$DEBIAN"/crates-trixie/usr/share/cargo/registry/* "$OUT/both"
+    ln -sf "$DEBIAN"/crates-forky/usr/share/cargo/registry/* "$OUT/both"
+    take both_suites "$OUT/both"
+    upstream "$1"
+    of_debian newer "$OUT"/upstream/tests/*
+    of_debian newer "$here"/{check/{beside,upstream}.rs,tests/shared}
 }
 
 # In a copy of what it reads, as cargo writes Cargo.lock.
@@ -86,6 +132,7 @@ if crates forky "${forky[@]}" && compgen -G "$registry/der-0.8.*" > "$OUT/log"; 
     itself "$here"
     tested "rustcrypto, faults" --manifest-path "$here/Cargo.toml" --features std,pem --test faults
     of_debian forky "$here"/check/{programs,x509}.rs
+    [ -z "$theirs" ] || beside_upstream "$theirs"
 else
     echo "rustcrypto: Debian's forky has no der 0.8, so pkcs1 0.8 isn't tried"
 fi
