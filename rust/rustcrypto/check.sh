@@ -11,8 +11,9 @@
 #     with UPSTREAM, over 0.8: the tests of RustCrypto's pkcs1 0.8, with not a line changed; what tests/faults.rs says, and
 #     inputs by damage, beside that crate itself
 #
-# Debian has no package of RustCrypto's pkcs1 0.8. UPSTREAM is a folder with its src and tests, or with these as text and
-# a list INDEX.md, in which a line `- NAME: PATH` stands for each file.
+# Debian has no package of RustCrypto's pkcs1 0.8. UPSTREAM is a folder with its src and tests. Or it has its files as
+# text, a list INDEX.md with a line `- NAME: PATH` for each, and in tests/part1.rs the tests, each below a line with its
+# path.
 #
 # What is made stands in out/rust, or below OUT. It needs cargo with clippy and rustfmt, apt-get, and Debian's packages
 # from the network or the folder DEBIAN, ~/.cache/pkcs1-gate/debian unless said, into which they were unpacked. Nothing
@@ -88,14 +89,15 @@ upstream() {
     rm -rf "$to"
     mkdir -p "$to/tests"
     if [ -d "$1/src" ]; then
-        cp -r "$1"/{src,tests} "$to"
+        cp -r --no-preserve=mode "$1"/{src,tests} "$to"
     else
         while read -r _ name path _; do
             mkdir -p "$(dirname "$to/$path")"
             cp --no-preserve=mode "$1/${name%:}" "$to/$path"
-        done < <(grep -h '^- ' "$1"/*INDEX.md)
-        # Several tests in one file, each below a line with its path.
-        (cd "$to" && awk '/^\/\/ ===== tests\/.* =====$/ { to = $3 } to { print > to }' tests/part*.rs && rm tests/part*.rs)
+        done < <(cat "$1"/*INDEX.md | grep '^- ')
+        [ -e "$to/src/lib.rs" ] || stop "$1 has neither src nor a list of its files"
+        (cd "$to" && awk '/^\/\/ ===== tests\/.* =====$/ { path = $3 } path { print > path }' tests/part1.rs)
+        rm "$to/tests/part1.rs"
     fi
     cp -r "$DEBIAN"/crates-trixie/usr/share/cargo/registry/pkcs1-0.7.*/tests/examples "$to/tests"
     cp "$here/check/upstream.toml" "$to/Cargo.toml"

@@ -10,4 +10,5 @@ fn read() {
         assert_eq!(errors(name, der, &mut SliceReader::new(der).unwrap()), (None, None), "{name} {row}");
     }
     assert_eq!(left(), [None, None]);
+    assert_eq!(RsaPublicKeyOwned::from_der(octets(NEGATIVE)).unwrap_err().position(), None);
 }

@@ -91,10 +91,11 @@ impl<'a> RsaOaepParamsRef<'a> {
     }
 }
 
-/// `Default` of parameters that borrow or own.
+/// `Default` of parameters, as a proved function has them.
 macro_rules! defaults {
-    ($($name:ident $proved:ident;)*) => { $(
-        impl<'a, P: Mirror<'a, Proved = proved::der::asn1::AnyRef<'a>>> Default for $name<P> {
+    ($($(#[$if:meta])? $name:ty, $proved:ident;)*) => { $(
+        $(#[$if])?
+        impl Default for $name {
             fn default() -> Self {
                 Mirror::of(&proved::$proved::default()).expect("the defaults are held here too")
             }
@@ -102,6 +103,10 @@ macro_rules! defaults {
     )* };
 }
 defaults! {
-    RsaPssParams RsaPssParamsRef;
-    RsaOaepParams RsaOaepParamsRef;
+    RsaPssParamsRef<'_>, RsaPssParamsRef;
+    RsaOaepParamsRef<'_>, RsaOaepParamsRef;
+    #[cfg(feature = "alloc")]
+    RsaPssParamsOwned, RsaPssParamsRef;
+    #[cfg(feature = "alloc")]
+    RsaOaepParamsOwned, RsaOaepParamsRef;
 }

@@ -11,10 +11,21 @@ fn refused() {
         assert_eq!(said.to_string(), "malformed ASN.1 DER value for SEQUENCE", "{name} {row}");
         assert_eq!(whole, Some(said.into()), "{name} {row}");
     }
-    for error in left() {
-        let said = "trailing data at end of DER message: decoded 8 bytes, 2 bytes remaining at DER byte 8";
-        assert_eq!(error.unwrap().to_string(), said);
+    let mut reader = SliceReader::new(octets("02010730080201070201030500")).unwrap();
+    reader.read_slice(3u8.into()).unwrap();
+    let within = RsaPublicKeyRef::decode(&mut reader).err();
+    for (error, at) in left().into_iter().zip([8, 8]).chain([(within, 11)]) {
+        let said = format!("decoded {at} bytes, 2 bytes remaining at DER byte {at}");
+        assert!(error.unwrap().to_string().ends_with(&said));
     }
+}
+
+/// An error in a number has its position in a key that owns its numbers too.
+#[test]
+fn owned() {
+    let (der, borrowed) = (octets(NEGATIVE), RsaPublicKeyRef::try_from(octets(NEGATIVE)).unwrap_err());
+    assert_eq!(RsaPublicKeyOwned::try_from(der).unwrap_err(), borrowed);
+    assert_eq!(RsaPublicKeyOwned::from_der(der).unwrap_err().position(), Some(8u8.into()));
 }
 
 /// Of what is left, `from_der` counts what the SEQUENCE has. It doesn't look at what follows an encoding that only this

@@ -105,6 +105,9 @@ const READ_THERE: &[(&str, &str)] = &[
 /// A public key with octets after its fields. RustCrypto's crate reads it wherever nobody looks for what is left.
 const LEFT: &str = "30080201070201030500";
 
+/// A public key with a negative exponent.
+const NEGATIVE: &str = "3006020107020183";
+
 /// What `LEFT` is, read in a slice that may have more, and from PEM.
 fn left() -> [Option<der::Error>; 2] {
     let text = der::pem::encode_string("RSA PUBLIC KEY", der::pem::LineEnding::LF, octets(LEFT)).unwrap();

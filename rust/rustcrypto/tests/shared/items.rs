@@ -148,6 +148,8 @@ fn refused() {
     assert!(RsaPssParamsRef::from_der(&[0x30, 10, 0xa3, 3, 2, 1, 1, 0xa2, 3, 2, 1, 32]).is_err());
     let late = RsaPublicKeyRef::from_der(&[0x30, 6, 2, 1, 7, 2, 2, 3]).unwrap_err();
     assert!(matches!(late.kind(), ErrorKind::Incomplete { .. }) && late.position().is_some());
+    let full = RsaPublicKeyRef::from_der(&SMALL).unwrap().encode_to_slice(&mut [0; 5]).unwrap_err();
+    assert_eq!(full, ErrorKind::Overlength.at(8u8.into()));
     let key = RsaPrivateKeyRef { other_prime_infos: Some(Vec::new()), ..RsaPrivateKeyRef::from_der(PRIVATE).unwrap() };
     assert_eq!(key.to_der().unwrap_err().kind(), sequence);
 }
