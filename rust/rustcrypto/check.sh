@@ -132,7 +132,11 @@ of_debian trixie "$registry"/rsa-0.9.*/tests/{pkcs1.rs,pkcs8.rs,examples} "$regi
 of_debian beside "$here/check/beside.rs"
 if crates forky "${forky[@]}" && compgen -G "$registry/der-0.8.*" > "$OUT/log"; then
     itself "$here"
-    tested "rustcrypto, faults" --manifest-path "$here/Cargo.toml" --features std,pem --test faults
+    if [ -d "$registry/der-0.8.1" ]; then
+        tested "rustcrypto, faults" --manifest-path "$here/Cargo.toml" --features std,pem --test faults
+    else
+        echo "rustcrypto: Debian's forky has no der 0.8.1 any more, so its errors aren't compared"
+    fi
     of_debian forky "$here"/check/{programs,x509}.rs
     [ -z "$theirs" ] || beside_upstream "$theirs"
 else

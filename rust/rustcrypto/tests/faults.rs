@@ -1,5 +1,5 @@
-//! Faulty encodings are refused with the errors of RustCrypto's pkcs1 0.8: kind, lengths and position. What only this
-//! crate refuses, or says otherwise, stands below.
+//! Faulty encodings are refused with the errors of RustCrypto's pkcs1 0.8 over der 0.8.1: kind, lengths and position.
+//! What only this crate refuses, or says otherwise, stands below.
 include!("shared/faults.rs");
 
 #[test]
