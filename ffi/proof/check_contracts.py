@@ -1,12 +1,12 @@
 #!/usr/bin/env python3
 """Compares what ffi/proof/pkcs1.acsl.h says of each proved call with its Rattle function. What it requires is what the
 types of the Rattle signature require: the exports have no clause `requires`. Each clause that it promises is named as
-the Rattle clause that says the same, and that one has the words for what it says. And Rattle says what it said when
-somebody last read both: ffi/proof/clauses has the signature and the clauses of each function, and each definition of
-Structs.antt. So a clause that gets weaker, or stronger, is read again. The types of each call are those of pkcs1_c.h,
-and the fields of structs and the statuses those of ffi/tests/abi. What differs is printed; the status is 1 then.
+the Rattle clause that says the same, and that one has the words for what it says. A clause of Rattle that gets weaker,
+or stronger, is a line of tools/docs/promises.txt, and its ACSL is read again then. The types of each call are those of
+pkcs1_c.h, and the fields of structs and the statuses those of ffi/tests/abi. What differs is printed; the status is 1
+then.
 
-    check_contracts.py [--write] [ACSL]     ACSL: other contracts. --write: writes `clauses`, once both were read"""
+    check_contracts.py [ACSL]     ACSL: other contracts"""
 import difflib
 import glob
 import os
@@ -17,9 +17,6 @@ TOP = os.path.join(os.path.dirname(os.path.abspath(__file__)), "..", "..")
 sys.path.insert(0, f"{TOP}/ffi/proof/seam")
 import acsl  # noqa: E402
 
-CLAUSES = f"{TOP}/ffi/proof/clauses"
-CALL = r'#\[unsafe\(no_mangle\)\]\s*pub extern "C" fn (\w+)(.*?)\{\n'
-DEFINITION = r"^(?:abbrev pub|pub record|pub data) .*?(?=\n\n|\Z)"
 EXPORT = r'#\[unsafe\(no_mangle\)\]\s*pub extern "C" fn (\w+)(?:<[^>]*>)?\((.*?)\)(?: -> (\w+))?\n(.*?)\n?\{\n'
 STRUCT = r"#\[repr\(C\)\]\s*#\[derive\([^)]*\)\]\s*pub struct (\w+)(?:<'a>)? \{(.*?)\n\}"
 C_TYPES = {"u8": "uint8_t", "u32": "uint32_t", "u64": "uint64_t", "usize": "size_t", "bool": "bool", "": "void"}
@@ -53,17 +50,6 @@ SAYS = {
 def read(path):
     with open(path, encoding="utf-8") as it:
         return it.read()
-
-
-def one_line(text):
-    return " ".join(re.sub(r"^\s*--.*\n?", "", text, flags=re.M).split()) + "\n"
-
-
-def lines_of(source, structs):
-    """A line for the signature of each Rattle function, for each of its clauses, and for each definition."""
-    for name, said in re.findall(CALL, source, re.M | re.S):
-        yield from (f"{name}: {one_line(it)}" for it in re.split(r"^\s*(?=requires|ensures)", said, flags=re.M))
-    yield from map(one_line, re.findall(DEFINITION, structs, re.M | re.S))
 
 
 def split(text, by):
@@ -213,7 +199,7 @@ def differing(what, old, new):
 
 
 def main():
-    path = next((it for it in sys.argv[1:] if it != "--write"), f"{TOP}/ffi/proof/pkcs1.acsl.h")
+    path = sys.argv[1] if len(sys.argv) > 1 else f"{TOP}/ffi/proof/pkcs1.acsl.h"
     text, (named, calls) = acsl.expanded(path), acsl.read(path)
     structs = read(f"{TOP}/crates/pkcs1_c/specs/Structs.antt")
     records = dict(re.findall(r"pub (\w+) : (.*)", re.search(r"record WritesOrTells .*? where\n(.*?)\n\n", structs, re.S)[1]))
@@ -231,16 +217,11 @@ def main():
         wrong += [f"{name}: {it}" for it in seen]
     more = {it for it in calls if it.startswith("pkcs1_c_")} - {name for name, *_ in exports}
     wrong += [f"{name}: isn't in Rattle" for name in sorted(more)]
-    now = [*lines_of(source, structs)]
-    if "--write" in sys.argv:
-        with open(CLAUSES, "w", encoding="utf-8") as it:
-            it.writelines(now)
-    wrong += differing("ffi/proof/clauses", [*open(CLAUSES, encoding="utf-8")], now)
     in_order = lambda lines: sorted(lines, key=lambda it: it.split(":")[0])  # the fields of a struct in theirs
     declared = in_order(layout(source, exports))
     wrong += differing("C (-) and Rattle (+)", in_order(layout_in_c()), declared)
-    print("\n".join([*wrong, f"{len(exports)} calls of {len(now)} clauses and {len(declared)} declarations, in which "
-                             f"{len(wrong)} things differ"]))
+    print("\n".join([*wrong, f"{len(exports)} calls and {len(declared)} declarations, in which {len(wrong)} things "
+                             "differ"]))
     sys.exit(len(wrong) > 0)
 
 
