@@ -1,5 +1,5 @@
 -- Worked rows of `Held.antt` of `pkcs1`: what keys hold whose numbers are octets, and which may be written.
-use Rattle.std.proofs.Common.{ℕ, List, [], ◌∷◌, ◌≡◌, ap, arith, length, map, refl, Option, Some, None}
+use Rattle.std.proofs.Common.{◌++◌, ℕ, List, [], ◌∷◌, ◌≡◌, ap, arith, length, map, refl, Option, Some, None}
 use Rattle.der_core.specs.Words.{bytes_of, number_from_digits}
 use Rattle.pkcs1.specs.Held.{HoldsNone, IsPrivateKey, held_other_prime, held_other_primes, held_private_key, held_public_key, held_view, number_in, primes_encoded}
 use Rattle.pkcs1.specs.Keys as keys
@@ -101,3 +101,16 @@ with_primes = omega arith
 
 empty_list : IsPrivateKey (meant_private_key (Some [])) → ⊥
 empty_list p = omega (arith, p)
+
+-- == Of any view, each number; and of two other primes, both ==
+view_numbers : (view : RsaPrivateKeyView)
+    → ((held_view view).modulus ≡ number_from_digits 256 (bytes_of view.key.modulus))
+    × (((held_view view).public_exponent ≡ number_from_digits 256 (bytes_of view.key.public_exponent))
+    × (((held_view view).private_exponent ≡ number_from_digits 256 (bytes_of view.key.private_exponent))
+    × ((held_view view).coefficient ≡ number_from_digits 256 (bytes_of view.key.coefficient))))
+view_numbers view = (refl, (refl, (refl, refl)))
+
+each_prime_encoded : primes_encoded (meant_other_prime ∷ meant_other_prime ∷ [])
+    ≡ primes_encoded (meant_other_prime ∷ []) ++ primes_encoded (meant_other_prime ∷ [])
+unfolding length_octets
+each_prime_encoded = refl

@@ -4,5 +4,6 @@ pub mod HeldRows
 pub mod OaepValueRows
 pub mod PssValueRows
 pub mod ReadingRows
+pub mod StatementLimitRows
 pub mod StatementPromiseRows
 pub mod StatementRows

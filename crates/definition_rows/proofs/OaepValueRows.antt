@@ -1,14 +1,14 @@
 -- Worked rows of `OaepValue.antt` of `pkcs1_params`: what parameters hold, which of them are copied without memory, and
 -- for which labels there is an encoding.
+use Rattle.spki_core.specs.Words.{any_of, algorithm_in, identifier_octets, own_octets_of}
 use Rattle.std.proofs.Common.{ℕ, List, [], ◌∷◌, ◌≡◌, codes, inl, inr, length, refl, subst, sym, Some}
 use Rattle.der_core.specs.Words.{AreBytes}
 use Rattle.spki_core.specs.declared.any.AnyRef.{AnyRef}
 use Rattle.spki_core.specs.declared.identifier_view.IdentifierView.{IdentifierView}
 use Rattle.spki_core.specs.declared.object_identifier.ObjectIdentifier.{ObjectIdentifier}
-use Rattle.spki_core.specs.Words.{identifier_octets, own_octets_of}
 use Rattle.pkcs1_params.specs.OaepValue.{IsBareOaep, LabelFits, NoLabelFits, OwnedOaepAllocates, labelled, oaep_in, oaep_of, oaep_viewed, oaep_with}
 use Rattle.pkcs1_params.specs.declared.oaep.OaepParamsOf.{OaepParamsOf}
-use Rattle.standard.proofs.Rows.{digit, hex}
+use Rattle.standard.specs.Hex.{digit, hex}
 use Rattle.standard.specs.Statement.{Algorithm, Fields, IfPresent, IsBare, IsOaep, OaepEncoding, OaepParameters, TagAndContents, empty_label, length_octets, mgf1_sha1, oaep_fields, sha1}
 
 -- == What they hold ==
@@ -103,3 +103,7 @@ oaep_octet_takes_memory is = (
   inl (refl, inr (hex (codes "a2083006060101050100"), refl, inr ([], refl, refl))),
   oaep_octet_in_source,
 )
+
+oaep_view_tags : (p : OaepParamsOf IdentifierView AnyRef)
+    → (oaep_viewed p).p_source ≡ algorithm_in identifier_octets any_of p.p_source
+oaep_view_tags p = refl

@@ -1,12 +1,12 @@
 -- Worked rows of `PssValue.antt` of `pkcs1_params`: what parameters hold, and which of them are copied without memory.
+use Rattle.spki_core.specs.Words.{any_of, algorithm_in, identifier_octets, own_octets_of}
 use Rattle.std.proofs.Common.{ℕ, List, [], ◌∷◌, ◌≡◌, codes, inl, inr, refl, subst, sym, Some}
 use Rattle.spki_core.specs.declared.any.AnyRef.{AnyRef}
 use Rattle.spki_core.specs.declared.identifier_view.IdentifierView.{IdentifierView}
 use Rattle.spki_core.specs.declared.object_identifier.ObjectIdentifier.{ObjectIdentifier}
-use Rattle.spki_core.specs.Words.{identifier_octets, own_octets_of}
 use Rattle.pkcs1_params.specs.PssValue.{IsBarePss, OwnedPssAllocates, pss_in, pss_of, pss_viewed, pss_with}
 use Rattle.pkcs1_params.specs.declared.pss.PssParamsOf.{PssParamsOf}
-use Rattle.standard.proofs.Rows.{digit, hex}
+use Rattle.standard.specs.Hex.{digit, hex}
 use Rattle.standard.specs.Statement.{Algorithm, Fields, IfPresent, IsBare, IsPss, PssParameters, TagAndContents, length_octets, pss_fields, sha1}
 
 -- == What they hold ==
@@ -80,3 +80,10 @@ pss_octet_takes_memory is = (
   inr (hex (codes "a110300e060101300906052b0e03021a0500"), refl, inr ([], refl, inl (refl, inl (refl, refl)))),
   pss_octet_in_hash,
 )
+
+pss_view_tags : (p : PssParamsOf IdentifierView AnyRef)
+    → (pss_viewed p).hash ≡ algorithm_in identifier_octets any_of p.hash
+pss_view_tags p = refl
+
+pss_owned_tags : (p : PssParamsOf ObjectIdentifier AnyRef) → (pss_of p).hash ≡ algorithm_in own_octets_of any_of p.hash
+pss_owned_tags p = refl

@@ -5,7 +5,7 @@ use Rattle.der_core.specs.declared.error.ErrorKind.TheVariants.{OidMalformed, Ta
 use Rattle.spki_core.specs.Words.{any_front, identifier_read}
 use Rattle.pkcs1_params.specs.Words.{rsa_pss_params}
 use Rattle.pkcs8_core.specs.Words.{private_key_info}
-use Rattle.standard.proofs.Rows.{digit, hex}
+use Rattle.standard.specs.Hex.{digit, hex}
 use Rattle.standard.specs.Statement.{mgf1_sha1, sha1}
 
 attributes_read : private_key_info (hex (codes "300f020100300406022a030402050aa000")) ≡ Ok (record {

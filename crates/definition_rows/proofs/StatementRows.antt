@@ -2,7 +2,7 @@
 use Rattle.std.proofs.Common.{ℕ, List, [], ◌∷◌, ◌++◌, ◌≡◌, ◌≢◌, ◌≤◌, ◌<◌, ◌∙◌, length, refl, ap, sym, arith, Some, None, inl, inr, codes, map, replicate, drop}
 use Rattle.std.specs.Prelude.{slice_index}
 use Rattle.std.specs.List.{AllByRecursion, concat}
-use Rattle.standard.proofs.Rows.{digit, hex}
+use Rattle.standard.specs.Hex.{digit, hex}
 use Rattle.standard.specs.Statement.{Algorithm, AreOctets, ContainedKeyEncoding, Container, ContainerEncoding, Fields, FieldsUnder, IsAny, IsBare, IsIdentifier, IsOaep, IsPss, OaepAlgorithmEncoding, OaepEncoding, OaepParameters, PrivateKey, PrivateKeyEncoding, PssAlgorithmEncoding, PssEncoding, PssParameters, PublicKey, PublicKeyEncoding, TagAndContents, empty_label, id_rsaes_oaep, integer, length_octets, mgf1_sha1, pss_fields, rsa_encryption, sequence, sha1, tlv}
 
 -- == Lengths, numbers ==

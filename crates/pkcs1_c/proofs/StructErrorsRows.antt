@@ -1,9 +1,10 @@
 -- Worked rows of `StructErrors.antt`: the status of a struct that isn't written.
-use Rattle.std.proofs.Common.{ℕ, List, [], ◌∷◌, ◌≡◌, arith, refl, inl, inr, false, None, replicate, ap, length, sym, ◌∙◌, Result, Ok, Err}
+use Rattle.std.proofs.Common.{◌++◌, ◌<◌, ℕ, List, [], ◌∷◌, ◌≡◌, arith, refl, inl, inr, false, None, replicate, ap, length, sym, ◌∙◌, Result, Ok, Err}
+use Rattle.der_core.specs.Words.{limit, header_at, length_at}
+use Rattle.standard.specs.Statement.{TagAndContents, IsIdentifier, PssParameters, mgf1_sha1, octets, sha1}
 use Rattle.std.specs.Borrow.{Bor}
 use Rattle.pkcs1_c.specs.Status.{NoStatus, kind_number}
 use Rattle.pkcs1_c.specs.StructErrors.{AnyError, FieldsError, HashFieldsThen, InfoError, Miscounted, NumberError, NumbersError, OaepFieldError, OidError, OptionError, PartThen, PrivateKeyError, PssFieldError, PublicKeyError, UnwrittenStatus, given_numbers, two_numbers}
-use Rattle.der_core.specs.Words.{header_at, length_at}
 use Rattle.der_core.specs.declared.error.ErrorKind.{ErrorKind}
 use Rattle.pkcs1.specs.Words.{rsa_private_key}
 use Rattle.der_core.specs.declared.error.ErrorKind.TheVariants.{Incomplete}
@@ -12,7 +13,6 @@ use Rattle.pkcs1_c.specs.declared.private_key.OtherPrime.{OtherPrime}
 use Rattle.pkcs1_c.specs.declared.private_key.PrivateKey.{PrivateKey}
 use Rattle.pkcs1_c.specs.declared.public_key.PublicKey.{PublicKey}
 use Rattle.pkcs1_c.specs.Structs.{number_seen}
-use Rattle.standard.specs.Statement.{IsIdentifier, PssParameters, mgf1_sha1, octets, sha1}
 
 abbrev borrowed_at : List ℕ → Bor (List ℕ)
 borrowed_at octets = record { ref_ptr = (0, 0); now = octets }
@@ -192,3 +192,11 @@ source_last = inl (inl oid_of_forty_octets)
 
 field_first : FieldsError (λ (v status : ℕ). status ≡ 6) OneOctet 0 0 6
 field_first = inl refl
+
+contents_overflow : (v : TagAndContents) → AnyError v 8 → limit < length v.contents
+contents_overflow v (inl p) = absurd (omega (arith, p.0))
+contents_overflow v (inr p) = p.2
+
+numbers_of_two_primes : given_numbers (key_of_three_primes 2) (third_prime ∷ third_prime ∷ [])
+    ≡ given_numbers (key_of_three_primes 2) (third_prime ∷ []) ++ (17 ∷ []) ∷ (8 ∷ []) ∷ (9 ∷ []) ∷ []
+numbers_of_two_primes = refl

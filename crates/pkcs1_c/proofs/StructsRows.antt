@@ -1,14 +1,15 @@
 -- Worked rows of `Structs.antt`: what structs hold, and what a call that writes says and leaves.
-use Rattle.std.proofs.Common.{ℕ, List, [], ◌∷◌, ◌≡◌, arith, refl, Bool, true, false, Option, Some, None}
+use Rattle.std.proofs.Common.{length, ℕ, List, [], ◌∷◌, ◌≡◌, arith, refl, Bool, true, false, Option, Some, None}
+use Rattle.pkcs1.specs.Words.{listed_others, primes_encoded}
+use Rattle.standard.specs.Statement.{Decodes, PrivateKeyEncoding, Algorithm, OtherPrime, PrivateKey, PublicKey, TagAndContents, rsa_encryption}
+use Rattle.pkcs1_c.specs.Structs.{DecodesPrivateKey, PssIsTidy, AlgorithmIsTidy, ArePlaced, EncodingIfHeld, HasPrivateNumbers, HasPublicNumbers, HaveBytes, HoldsPrivateKey, HoldsPublicKey, InfoHasKey, InfoIsTidy, MaskGenIsTidy, OaepIsTidy, WritesOrTells, algorithm_seen, mask_gen_seen, numbers_of_key, oaep_seen, octets_of_key, private_key_info_seen, private_key_seen, pss_seen, public_key_seen}
 use Rattle.std.specs.Borrow.{Bor}
-use Rattle.pkcs1_c.specs.Structs.{AlgorithmIsTidy, ArePlaced, EncodingIfHeld, HasPrivateNumbers, HasPublicNumbers, HaveBytes, HoldsPrivateKey, HoldsPublicKey, InfoHasKey, InfoIsTidy, MaskGenIsTidy, OaepIsTidy, WritesOrTells, algorithm_seen, mask_gen_seen, numbers_of_key, oaep_seen, octets_of_key, private_key_info_seen, private_key_seen, pss_seen, public_key_seen}
 use Rattle.pkcs1_c.specs.declared.algorithm.Algorithm as algorithms
 use Rattle.pkcs1_c.specs.declared.algorithm.MaskGen.{MaskGen}
 use Rattle.pkcs1_c.specs.declared.container.PrivateKeyInfo.{PrivateKeyInfo}
 use Rattle.pkcs1_c.specs.declared.private_key.OtherPrime as prime_structs
 use Rattle.pkcs1_c.specs.declared.private_key.PrivateKey as key_structs
 use Rattle.pkcs1_c.specs.declared.public_key.PublicKey as public_structs
-use Rattle.standard.specs.Statement.{Algorithm, OtherPrime, PrivateKey, PublicKey, TagAndContents, rsa_encryption}
 
 -- What a pointer and a length point to.
 abbrev lent_at : List ℕ → Bor (List ℕ)
@@ -212,3 +213,31 @@ untidy_info p = let same = p refl in cc
 
 no_key : InfoHasKey (info_struct true) → ⊥
 no_key p = let same = p.1.2 in cc
+
+-- == What is claimed of any struct ==
+another_exponent : HoldsPublicKey
+    (record { modulus = lent_at (1 ∷ 0 ∷ []); public_exponent = lent_at (4 ∷ []) }) public_meant → ⊥
+another_exponent p = let same = p.1 in cc
+
+holds_says : (key : key_structs.PrivateKey) (v : PrivateKey) → HoldsPrivateKey key v
+    → (numbers_of_key key ≡ octets_of_key v) × (key.other_primes ≡ length (listed_others v.other_primes))
+holds_says key v p = (p.0, p.1)
+
+decodes_says : (bytes list : List ℕ) (key : key_structs.PrivateKey) → DecodesPrivateKey bytes key list
+    → (v : PrivateKey) × (Decodes PrivateKeyEncoding bytes (Some v) × (HoldsPrivateKey key v
+    × (list ≡ primes_encoded (listed_others v.other_primes))))
+decodes_says bytes list key p = (p.0, (p.1, (p.2, p.3)))
+
+another_coefficient_not_placed : ArePlaced (prime_meant ∷ []) (record {
+  prime = lent_at (17 ∷ []);
+  exponent = lent_at (8 ∷ []);
+  coefficient = lent_at (10 ∷ []);
+} ∷ []) → ⊥
+another_coefficient_not_placed p = cc
+
+untidy_hash_of_mask : MaskGenIsTidy (record { oid = lent_at []; has_hash = true; hash = bare_algorithm_struct }) → ⊥
+untidy_hash_of_mask p = omega (arith, (p.1 refl).0)
+
+untidy_hash_of_pss : PssIsTidy (record
+    { hash = bare_algorithm_struct; mask_gen = mask_gen_struct; salt_len = 32; trailer_field = 1 }) → ⊥
+untidy_hash_of_pss p = omega (arith, (p.0 refl).0)

@@ -4,7 +4,7 @@ use Rattle.std.proofs.Common.{ℕ, List, [], ◌∷◌, ◌++◌, ◌≡◌, ◌
 use Rattle.der_core.specs.Words.{header_at, length_at, integer_tag, null_tag, object_identifier_tag, octet_string_tag, sequence_tag, FrontReading, Reading, alone, tagged}
 use Rattle.der_core.specs.declared.error.ErrorKind.{ErrorKind}
 use Rattle.der_core.specs.declared.error.ErrorKind.TheVariants.{Incomplete, IndefiniteLength, Length, Noncanonical, OidMalformed, OidUnknown, Overflow, Overlength, ParametersMissing, TagUnexpected, TagUnknown, TrailingData, Value}
-use Rattle.standard.proofs.Rows.{digit, hex}
+use Rattle.standard.specs.Hex.{digit, hex}
 use Rattle.standard.specs.Statement.{PublicKey, PrivateKey, OtherPrime, PssParameters, OaepParameters, Algorithm, TagAndContents, Container, rsa_encryption, sha1, mgf1_sha1, empty_label}
 use Rattle.spki_core.specs.Words.{algorithm_read, any_front, identifier_read}
 use Rattle.pkcs1.specs.Words.{rsa_private_key, rsa_public_key}

@@ -1,18 +1,8 @@
 -- Worked rows: what the definitions say of single values. Each is computed, so a mistake in a definition is a row that
 -- isn't proved.
-use Rattle.std.proofs.Common.{ℕ, List, [], ◌∷◌, ◌++◌, ◌≡◌, ◌<◌, ◌+◌, ◌*◌, ◌∙◌, length, refl, subst, ap, arith, Some, None, inl, codes, nat_lt, if◌then◌else◌, ◌-◌, ◌^◌}
+use Rattle.std.proofs.Common.{ℕ, List, [], ◌∷◌, ◌++◌, ◌≡◌, ◌<◌, ◌+◌, ◌∙◌, length, refl, subst, ap, arith, Some, None, inl, codes, ◌^◌}
+use Rattle.standard.specs.Hex.{digit, hex}
 use Rattle.standard.specs.Statement.{AlgorithmEncoding, Container, ContainerEncoding, Defaults, IfPresent, IsAny, IsPss, OtherPrime, PrivateKey, PrivateKeyEncoding, PssParameters, algorithm, any, empty_label, id_rsassa_pss, integer, length_octets, limit, longest, mgf1_sha1, oaep_fields, pss_fields, rsa_encryption, sequence, sha1, tlv, version}
-
--- A hexadecimal digit.
-unfoldable pub digit : ℕ → ℕ
-digit c = if nat_lt c 58 then c - 48 else c - 87
-
--- The octets with these hexadecimal digits.
-unfoldable pub hex : List ℕ → List ℕ
-unfolding digit
-hex [] = []
-hex (a ∷ []) = []
-hex (a ∷ b ∷ digits) = (16 * digit a + digit b) ∷ hex digits
 
 limit_is : limit + 1 ≡ 256 ^ 4
 limit_is = refl
