@@ -3,13 +3,11 @@
 use Rattle.std.proofs.Common.{◌≡◌, ℕ, List, [], ap, ◌∙◌, inl, inr, Some, None, Ok, Err, subst, ◌++◌, ◌≤◌, length, sym, arith, append-nil}
 use Rattle.der_core.specs.declared.error.ErrorKind.{ErrorKind}
 use Rattle.der_core.specs.Words.{AreBytes, front_reading_reads, ReadsFrontAlike, ReadsFrontPrinted, FrontReading, ◌>>=◌, made, tagged_law, made_tells, whole, value_in, FaultOrMemory, NoValueOrMemory, Reading, prints_one, limit, PrintsOne}
-use Rattle.pkcs1.specs.Words.{AllocatesInKey, front_read, eight_numbers_before, others_read, private_key_read, EightNumbersThen, eight_numbers_as, fronts_alike, front_law, version_number, number_front, whole_private_key, public_read, rsa_private_key, rsa_public_key, integer_law, private_law, public_law, private_stated, public_stated, AreDelimited, public_encoding, private_key_back, private_encoding, private_spells, private_as, AnyNumber, PrivateIsValid, PublicIsValid, public_from}
+use Rattle.pkcs1.specs.Words.{AllocatesInKey, front_read, eight_numbers_before, others_read, private_key_read, EightNumbersThen, eight_numbers_as, fronts_alike, front_law, version_number, number_front, whole_private_key, public_read, rsa_private_key, rsa_public_key, integer_law, private_law, public_law, private_stated, public_stated, AreDelimited, public_encoding, private_key_back, private_encoding, private_spells, private_as, AnyNumber, PrivateIsValid, PublicIsValid, public_from, printed_front_unique}
 use Rattle.pkcs1.specs.declared.version.Version.{Version}
 use Rattle.der_core.specs.Tags as tags
-use Rattle.pkcs1_params.specs.Words.{FaultsTell}
-use Rattle.pkcs1_params.proofs.Faults.{whole_tells}
+use Rattle.pkcs1_params.specs.Words.{FaultsTell, whole_tells, same_by_shortest}
 use Rattle.standard.specs.Statement.{Decodes, AtMostOne, PrivateKey, PrivateKeyEncoding, PublicKey, PublicKeyEncoding, SameByShortest}
-use Rattle.pkcs1_params.proofs.Masks.{same_by_shortest}
 
 -- What a version and eight numbers mean.
 abbrev pub version_and_numbers : {U V : Type 0} → (U → V) → Version → EightNumbersThen U (Unit {0}) → ℕ
@@ -36,16 +34,6 @@ key_fails_at_others law alike may wants e front i rest bytes read (inl w) =
     inl (w.0, inr (front, (s.0, rest, s.2, w.1, s.1)))
 key_fails_at_others {at = at} law alike may wants e front i rest bytes read (inr f) =
     inr (fault_at_others at front i rest read e f)
-
--- The faults of keys are about the bytes.
-pub public_tells : FaultsTell rsa_public_key
-public_tells bytes k e =
-    made_tells public_stated (whole public_read bytes) (whole_tells public_law bytes k) e
-
-pub private_tells : FaultsTell rsa_private_key
-private_tells bytes k e =
-    made_tells private_stated (whole_private_key number_front bytes)
-    (whole_tells (tagged_law (private_law integer_law) tags.sequence_tag) bytes k) e
 
 -- What is made of a value that a function gives; and its faults.
 module _ {V W : Type 0} (make : V → W) (read : Reading V) (bytes : List ℕ) where
@@ -84,16 +72,6 @@ public_key_at_most_one v a b p q = p.1 ∙ sym q.1
 
 pub private_key_at_most_one : AtMostOne PrivateKeyEncoding
 private_key_at_most_one v a b p q = p.2 ∙ sym q.2
-
--- A whole encoding is that of one spelling, and no beginning of another.
-pub printed_front_unique : {S : Type 0} (valid : S → Type 0) (printed : S → List ℕ) → PrintsOne valid printed
-    → (s t : S)
-    → valid s → valid t → (bytes rest : List ℕ) → length (bytes ++ rest) ≤ limit → bytes ≡ printed s
-    → bytes ++ rest ≡ printed t → (s ≡ t) × (rest ≡ [])
-printed_front_unique valid printed one s t p q bytes rest few is same =
-    let whole : printed s ++ rest ≡ printed t ++ [] =
-    ap (λ b. b ++ rest) (sym is) ∙ same ∙ sym (append-nil (printed t)) in
-    one s t rest [] p q (omega (arith, ap (λ b. length (b ++ rest)) is)) whole
 
 public_follow : (v w : PublicKey) (bytes rest : List ℕ) → PublicKeyEncoding v bytes
     → PublicKeyEncoding w (bytes ++ rest)

@@ -3,14 +3,12 @@
 use Rattle.std.proofs.Common.{ℕ, List, sym, Result, Ok, Err, IfErr, IfOk, ◌≡◌, ◌⊎◌, ◌∙◌, inl, inr, ap, arith, [], ◌∷◌, ◌++◌, ◌≤◌, length, append_assoc, length-append}
 use Rattle.der_core.specs.Words.{EncodeError, no_encoding, too_long, no_room, another, Reading, ◌>>=◌, encode_error, Excludes, tlv_fit, prints_one, limit}
 use Rattle.pkcs1.specs.Words.{Withholds, IsEncoded, Rejects, Unmade, bytes_if_read, integer_law}
-use Rattle.pkcs1_params.proofs.Masks.{oaep_fields_begin_high, pss_fields_begin_high, record_differs}
+use Rattle.pkcs1_params.specs.Words.{oaep_fields_begin_high, pss_fields_begin_high, record_differs, AnswersAsn1OrAsks, same_contents}
 use Rattle.standard.specs.Statement.{IsShortest, PrivateKeyEncoding, PublicKeyEncoding, integer, AtMostOne, IsOaep, IsPss, OaepEncoding, PssEncoding, oaep_fields, pss_fields, integers, optional, other_primes, sequence, version}
 use Rattle.der_core.specs.declared.error.ErrorKind.{ErrorKind}
 use Rattle.der_core.specs.declared.error.ErrorKind.TheVariants.{OutOfMemory}
-use Rattle.pkcs1_params.specs.Words.{AnswersAsn1OrAsks}
 use Rattle.pkcs1_params.specs.declared.error.Error.{Error}
 use Rattle.pkcs1_params.specs.declared.error.Error.TheVariants as error
-use Rattle.pkcs1_params.proofs.Wrapped.{same_contents}
 
 -- Keys that are read from an encoding and written again.
 module _ {V : Type 0} (Is : V → Type 0) {Encoding : V → List ℕ → Type 0} (one : AtMostOne Encoding) (v : V)

@@ -13,9 +13,11 @@ pub use Rattle.pkcs1.specs.RsaEncryption.{null_only, rsa_only}
 pub use Rattle.pkcs1.specs.StatedKeys.{other_from, other_stated, private_from, private_stated, public_from, public_part, public_stated}
 pub use Rattle.pkcs1.specs.Versions.{IsVersionOf, version_number}
 pub use Rattle.pkcs1.specs.ViewParts.{listed_others, viewed_encodes, viewed_encoding}
+pub use Rattle.pkcs1.specs.Laws.KeyFaults.{printed_front_unique, private_tells, public_tells}
 pub use Rattle.pkcs1.specs.Laws.KeysAlike.{fronts_alike, private_alike}
 pub use Rattle.pkcs1.specs.Laws.PrimesHeld.{PrimesAreCounted, all_primes_counted, held_primes_are_one, held_primes_are_read, held_primes_behind_first, held_primes_have_first, item_shorter, next_law, next_some, no_primes_counted, one_more_prime_counted, prime_fault_counted}
 pub use Rattle.pkcs1.specs.Laws.PrintedKeys.{PublicIsValid, integer_law, primes_law, public_as_stated, public_decodes, public_encoding, public_key_decides, public_law, version_law}
 pub use Rattle.pkcs1.specs.Laws.PrintedPrivateKeys.{eight_numbers_behind, front_law, private_law, private_row, read_valid}
+pub use Rattle.pkcs1.specs.Laws.RsaAlgorithms.{rsa_gives, rsa_only_tells, rsa_other, rsa_taken}
 pub use Rattle.pkcs1.specs.Laws.ShortestKeys.{private_shortest, version_shortest}
 pub use Rattle.pkcs1.specs.Laws.StatedPrivateKeys.{listed_printed, private_as_stated, private_decodes, private_encoding, private_itself, private_key_back, private_same_encoding, private_spells, private_valid, some_stated, stated_some}

@@ -5,7 +5,7 @@ use Rattle.der_core.specs.Tags as tags
 use Rattle.der_core.specs.declared.error.ErrorKind.{ErrorKind}
 use Rattle.der_core.specs.declared.error.ErrorKind.TheVariants.{Overflow}
 use Rattle.pkcs1.specs.Words.{number_front, private_key_read, rsa_private_key, integer_law, private_law, private_key_back, private_itself, private_spells, private_stated}
-use Rattle.pkcs1_params.proofs.Faults.{whole_tells}
+use Rattle.pkcs1_params.specs.Words.{whole_tells}
 use Rattle.pkcs8_core.proofs.ContainedKeys.{key_tells}
 use Rattle.pkcs8_core.specs.ContainerReadings as readings
 use Rattle.pkcs8_core.specs.Words.{rsa_held, rsa_private_key_info, container_law}

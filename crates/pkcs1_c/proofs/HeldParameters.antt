@@ -5,7 +5,7 @@ use Rattle.spki_core.specs.Words.{viewed_with, any_of, viewed_held, identifier_o
 use Rattle.spki_core.specs.declared.algorithm_identifier.AlgorithmIdentifierOf.{AlgorithmIdentifierOf}
 use Rattle.spki_core.specs.declared.any.AnyRef.{AnyRef}
 use Rattle.spki_core.specs.declared.identifier_view.IdentifierView.{IdentifierView}
-use Rattle.pkcs1_params.specs.Words.{oaep_viewed, pss_viewed, FaultsTell}
+use Rattle.pkcs1_params.specs.Words.{oaep_viewed, pss_viewed, FaultsTell, whole_tells}
 use Rattle.pkcs1_params.specs.declared.oaep.OaepParamsOf.{OaepParamsOf}
 use Rattle.pkcs1_params.specs.declared.pss.PssParamsOf.{PssParamsOf}
 use Rattle.standard.specs.Statement.{Algorithm, IsIdentifier, OaepParameters, PssParameters, TagAndContents, Field}
@@ -13,7 +13,6 @@ use Rattle.pkcs1_c.specs.Words.{NoStatus, OidError, AnyError, OptionError, Algor
 use Rattle.pkcs1_c.proofs.StructErrors.{part_none}
 use Rattle.der_core.specs.Words.{tagged_alike, whole_alike, made_tells, tagged, whole}
 use Rattle.der_core.specs.Tags as tags
-use Rattle.pkcs1_params.proofs.Faults.{whole_tells}
 
 abbrev AlgorithmView : Type 0 → Type 0
 AlgorithmView = AlgorithmIdentifierOf IdentifierView

@@ -7,14 +7,14 @@ use Rattle.der_core.specs.declared.tag.Tag.{Tag}
 use Rattle.der_core.specs.Words.{cond_cases, alone_law, bind_err, unexpected_tells, limit, ReadsFrontPrinted, TellsOfBytes, FrontReading, checked, tagged, whole, context_octet, is_allowed, ok_of, value_in, ◌>>=◌, whole_takes, is_next}
 use Rattle.der_core.specs.Tags as tags
 use Rattle.spki_core.specs.Words.{FieldRecord, first_written, record_means, record_strictly, spelling_read, strict_whole, record_front_law, record_law, noncanonical, unless_found, AreLawful, AreNumbered, Kind, Spelling, Values, fields_of, spelling_means, field_printed, spelling_printed, strict_value, spelled_from, spelled_not_next, is_identifier}
-use Rattle.pkcs1_params.specs.Words.{identified, parameters_as, whole_algorithm, plain_law, FaultsTell, plain_front, Error, IsAsn1, AnswersAsn1, IsEncoded, fault_in, fault_told, NamesFirstDefaultIn, FirstWritten, NamesFirstDefault}
+use Rattle.pkcs1_params.specs.Words.{identified, parameters_as, whole_algorithm, plain_law, FaultsTell, plain_front, Error, IsAsn1, AnswersAsn1, IsEncoded, fault_in, fault_told, NamesFirstDefaultIn, FirstWritten, NamesFirstDefault, same_contents, whole_tells}
 use Rattle.standard.specs.Statement.{Algorithm, Field, TagAndContents, Decodes, Fields, SequenceOf, sequence}
 use Rattle.der_core.specs.declared.error.Error as der
 use Rattle.pkcs1_params.specs.declared.error.Error.TheVariants as error
 use Rattle.std.proofs.Math.Seq.{drop-append_seam}
 use Rattle.spki_core.proofs.StrictFields.{noncanonical_is}
 use Rattle.pkcs1_params.proofs.Algorithms.{strict_algorithm_in}
-use Rattle.pkcs1_params.proofs.Wrapped.{same_contents, wrapped_one}
+use Rattle.pkcs1_params.proofs.Wrapped.{wrapped_one}
 
 -- A default that is written.
 noncanonical_tells : (n : ℕ) → TellsOfBytes (noncanonical n)
@@ -28,13 +28,6 @@ noncanonical_tells n = go (is_allowed (context_octet n)) (λ ok. record { octet 
 found_tells : {V : Type 0} (found : Option ℕ) (v : V) (k : ErrorKind) → unless_found found v ≡ Err k → TellsOfBytes k
 found_tells None v k e = cc
 found_tells (Some n) v k e = let same : noncanonical n ≡ k = cc in rw same at (noncanonical_tells n)
-
--- A fault of a whole slice.
-pub whole_tells : {S : Type 0} {valid : S → Type 0} {printed : S → List ℕ} {at : FrontReading S}
-    → ReadsFrontPrinted valid printed at → FaultsTell (whole at)
-whole_tells law bytes k e =
-    ⊎_elim (λ w. (λ no. cc, λ no. cc, λ no. cc))
-    (λ w. (alone_law law).tells bytes k w.1) (cond_cases (nat_lt limit (length bytes)) _ _ _ e)
 
 module _ {V : Type 0} {Is : V → Type 0} {fields : V → List Field} (r : FieldRecord Is fields) where
   -- One of strict reading, of contents and of a whole slice.
@@ -79,34 +72,8 @@ pub if_err_as : {T E : Type 0} {P Q : E → Type 0} (r : Result T E) → ((e : E
 if_err_as (Ok x) f p = tt
 if_err_as (Err e) f p = f e p
 
--- The same of the error of der_core.
-pub asn1_as : {P Q : der.Error → Type 0} → ((a : der.Error) → P a → Q a) → (e : Error) → IsAsn1 P e → IsAsn1 Q e
-asn1_as f (error.Asn1 a) p = f a p
-asn1_as f error.Crypto p = absurd p
-asn1_as f error.KeyMalformed p = absurd p
-asn1_as f error.Version p = absurd p
-
--- == What is done with a value that was read ==
-
--- A value is read, and the rest of the function is asked.
-pub answers_asn1_behind : {X A B : Type 0} (value : X → B) (first : Result A ErrorKind)
-    (behind : A → Result B ErrorKind)
-    (a : A) → first ≡ Ok a → (r : Result X Error) → AnswersAsn1 value (behind a) r
-    → AnswersAsn1 value (first >>= behind) r
-answers_asn1_behind value first behind a is (Ok x) p = ap (λ r. r >>= behind) is ∙ p
-answers_asn1_behind value first behind a is (Err e) p = asn1_as (λ k f. ap (λ r. r >>= behind) is ∙ f) e p
-
--- A call that returns what a function gives decodes what the function does.
-pub answers_asn1_decode : {X V B : Type 0} (E : V → B → Type 0) (bytes : B) (value : X → V) (given : Result V ErrorKind)
-    → Decodes E bytes (value_in given) → (r : Result X Error) → AnswersAsn1 value given r
-    → Decodes E bytes (ok_of value r)
-answers_asn1_decode E bytes value given d (Ok x) p = subst (λ g. Decodes E bytes (value_in g)) p d
-answers_asn1_decode E bytes value given d (Err (error.Asn1 e)) p = subst (λ g. Decodes E bytes (value_in g)) p d
-answers_asn1_decode E bytes value given d (Err error.Crypto) p = absurd p
-answers_asn1_decode E bytes value given d (Err error.KeyMalformed) p = absurd p
-answers_asn1_decode E bytes value given d (Err error.Version) p = absurd p
-
--- The fault of such a call is that of the function, and there is none exactly of bytes that encode a value.
+-- The fault of a call that returns what a function gives is that of the function, and there is none exactly of bytes
+-- that encode a value.
 pub fault_told_given : {X V : Type 0} (value : X → V) (given : Result V ErrorKind) (r : Result X Error)
     (fault : Option ErrorKind) → fault ≡ fault_told r → AnswersAsn1 value given r → fault ≡ fault_in given
 fault_told_given value given (Ok x) fault told p = told ∙ sym (ap fault_in p)
@@ -124,12 +91,6 @@ fault_told_encoded E bytes value given (Err (error.Asn1 e)) fault told p d =
 fault_told_encoded E bytes value given (Err error.Crypto) fault told p d = absurd p
 fault_told_encoded E bytes value given (Err error.KeyMalformed) fault told p d = absurd p
 fault_told_encoded E bytes value given (Err error.Version) fault told p d = absurd p
-
--- There is no fault exactly of bytes that encode a value.
-pub fault_in_none : {V : Type 0} (E : V → List ℕ → Type 0) (bytes : List ℕ) (given : Result V ErrorKind)
-    → Decodes E bytes (value_in given) → (fault_in given ≡ None) ↔ IsEncoded E bytes
-fault_in_none E bytes (Ok v) d = (λ _. (v, d.0), λ _. refl)
-fault_in_none E bytes (Err k) d = (λ no. cc, λ p. absurd (d p.0 p.1))
 
 -- == Strict reading names the first default that is written ==
 

@@ -7,33 +7,11 @@ use Rattle.der_core.specs.declared.error.Error as errors
 use Rattle.der_core.specs.declared.error.ErrorKind.{ErrorKind}
 use Rattle.der_core.specs.declared.error.ErrorKind.TheVariants.{Overflow}
 use Rattle.der_core.specs.declared.error.ErrorKind.TheVariants as kinds
-use Rattle.pkcs1_params.specs.Words.{Refuses, Error, bit_of, bits_of, EncodingOfFields, EncodingUnderMask, MaskIsInRange, IsMask, AreDelimited, EachHasMaskZero, DefaultsAreCounted, EachHasOneMask, EachMaskHasOne, ShortestHasNoDefaults, PlainEncoding}
+use Rattle.pkcs1_params.specs.Words.{Refuses, Error, bit_of, bits_of, EncodingOfFields, EncodingUnderMask, MaskIsInRange, IsMask, AreDelimited, EachHasMaskZero, DefaultsAreCounted, EachHasOneMask, EachMaskHasOne, ShortestHasNoDefaults, PlainEncoding, asn1_as, same_contents, encodes_as, refuses_as, shortest_as, oaep_fields_begin_high, pss_fields_begin_high, record_differs}
 use Rattle.standard.specs.Statement.{AlgorithmEncoding, Encodes, IsShortest, Field, sequence, Fields, SameByShortest, SequenceOf, IsOaep, IsPss, OaepAlgorithmEncoding, OaepEncoding, OaepParameters, PssEncoding, PssAlgorithmEncoding, PssParameters, id_rsaes_oaep, id_rsassa_pss, length_octets, oaep_fields, pss_fields, tlv}
 use Rattle.spki_core.specs.Words.{AreSpelled, FieldRecord, WrittenField, are_defaults, octets_under, out_under, record_fields, record_under, rest_under, spelling_printed, Spelling, under_valid, octets_spelled, record_means, record_front_law, spelled_from}
 use Rattle.spki_core.proofs.RecordEncodings.{default_count_only, default_count_there, default_count, encoding_under, mask_below_count, under_spelled, zero_least, zero_shortest, encoding_has_one_mask, encoding_under_only, under_is_one}
-use Rattle.pkcs1_params.proofs.Faults.{asn1_as}
-use Rattle.pkcs1_params.proofs.Wrapped.{same_contents, wrapped_front}
-
--- A value, and another that has the same encodings.
-module _ {V W : Type 0} (Encoding : V → List ℕ → Type 0) (Other : W → List ℕ → Type 0) (v : V) (w : W)
-    (same : (bytes : List ℕ) → Encoding v bytes ↔ Other w bytes) where
-  pub shortest_as : (bytes : List ℕ) → IsShortest Encoding v bytes → IsShortest Other w bytes
-  shortest_as bytes s = ((same bytes).0 s.0, λ other p. s.1 other ((same other).1 p))
-
-  pub encodes_as : (old new : List ℕ) (n : Option ℕ) → Encodes Encoding v old new n → Encodes Other w old new n
-  encodes_as old new (Some n) e = (e.0, shortest_as (take n new) e.1, e.2)
-  encodes_as old new None e = (e.0, λ bytes p. e.1 bytes ((same bytes).1 p))
-
-  module _ (Is : V → Type 0) (Valid : W → Type 0) (valid : Is v ↔ Valid w) where
-    pub unwritten_of_same_encodings : (room : ℕ) (k : EncodeError) → Unwritten Is Encoding v room k
-        → Unwritten Valid Other w room k
-    unwritten_of_same_encodings room no_encoding h = λ ok. h (valid.1 ok)
-    unwritten_of_same_encodings room too_long h = (valid.0 h.0, λ bytes p. h.1 bytes ((same bytes).1 p))
-    unwritten_of_same_encodings room no_room h = (h.0, shortest_as h.0 h.1, h.2)
-    unwritten_of_same_encodings room another h = h
-
-    pub refuses_as : (room : ℕ) (e : Error) → Refuses Is Encoding v room e → Refuses Valid Other w room e
-    refuses_as room = asn1_as (λ e. unwritten_of_same_encodings room (encode_error e.kind))
+use Rattle.pkcs1_params.proofs.Wrapped.{wrapped_front}
 
 -- The same octets, of a value with an encoding.
 module _ (Has Is : Type 0) (has : Has) (is : Is) where
@@ -230,49 +208,7 @@ module _ {V : Type 0} {Is : V → Type 0} {fields : V → List Field} (r : Field
   pub each_has_mask_zero : EachHasMaskZero Is fields
   each_has_mask_zero v bytes p = let z = zero_least r v bytes p in (encoding_under r v 0, z.0, z.1)
 
-module _ {V : Type 0} (Encoding : V → List ℕ → Type 0) where
-  one_shortest : (v : V) (s t : List ℕ) → IsShortest Encoding v s → IsShortest Encoding v t → s ≡ t
-  one_shortest v s t p q = elim (p.1 t q.0) [
-    | inl e ↦ sym e
-    | inr l ↦ elim (q.1 s p.0) [ inl e ↦ e | inr k ↦ absurd (omega arith) ]
-  ]
-
-  pub same_by_shortest : AreDelimited Encoding → SameByShortest Encoding
-  same_by_shortest delimited v w a b s t p q x y = (
-    λ e. one_shortest w s t (subst (λ u. IsShortest Encoding u s) e x) y,
-    λ e. (delimited.1 v w t [] (subst (Encoding v) e x.0) (subst (Encoding w) (sym (append-nil t)) y.0)).0,
-  )
-
 -- == No bytes encode parameters and something with another tag, or identifiers of two algorithms ==
-
--- The fields of parameters have tags from 160 on.
-abbrev pub FieldsBeginHigh : List Field → Type 0
-FieldsBeginHigh [] = Unit {0}
-FieldsBeginHigh (f ∷ fields) = (160 ≤ slice_index f.written 0) × FieldsBeginHigh fields
-
-pub fields_begin_high : (fields : List Field) (tag : ℕ) (rest : List ℕ) → tag < 160 → FieldsBeginHigh fields
-    → Fields fields (tag ∷ rest) → ⊥
-fields_begin_high [] tag rest low ok e = cc
-fields_begin_high (f ∷ fields) tag rest low ok (inl p) = fields_begin_high fields tag rest low ok.1 p.1
-fields_begin_high (f ∷ fields) tag rest low ok (inr (later, is, more)) = go f.written ok.0 is
-  where
-    go : (w : List ℕ) → 160 ≤ slice_index w 0 → tag ∷ rest ≡ w ++ later → ⊥
-    go [] high e = omega arith
-    go (x ∷ xs) high e = let same : tag ≡ x = ap (λ b. slice_index b 0) e in omega arith
-
-pub pss_fields_begin_high : (v : PssParameters) → FieldsBeginHigh (pss_fields v)
-pss_fields_begin_high v = (omega arith, (omega arith, (omega arith, (omega arith, tt))))
-
-pub oaep_fields_begin_high : (v : OaepParameters) → FieldsBeginHigh (oaep_fields v)
-oaep_fields_begin_high v = (omega arith, (omega arith, (omega arith, tt)))
-
--- A SEQUENCE that begins with a lower tag, of such fields.
-pub record_differs : {V : Type 0} (Is : V → Type 0) (fields : V → List Field) (v : V) (tag : ℕ) (bytes rest : List ℕ)
-    → tag < 160 → FieldsBeginHigh (fields v) → bytes ≡ sequence (tag ∷ rest) → SequenceOf Is fields Fields v bytes → ⊥
-record_differs Is fields v tag bytes rest low ok is (valid, few, c, holds, same) =
-    fields_begin_high (fields v) tag rest low ok
-    (subst (Fields (fields v))
-    (same_contents c (tag ∷ rest) (omega (arith, ap length same)) (sym same ∙ is)) holds)
 
 pub pss_no_identifier : Excludes PssEncoding PlainEncoding
 pss_no_identifier v a bytes p q =

@@ -10,8 +10,7 @@ use Rattle.spki_core.specs.Words.{FieldRecord, noted_accepted, record_noted, rec
 use Rattle.spki_core.proofs.Noting.{slice_noted, unless_strict, value_accepted, value_rejected}
 use Rattle.spki_core.proofs.RecordEncodings.{record_decodes}
 use Rattle.spki_core.proofs.StrictFields.{strict_decodes}
-use Rattle.pkcs1_params.specs.Words.{AnswersAsn1, EncodingOfFields, Error}
-use Rattle.pkcs1_params.proofs.Faults.{answers_asn1_decode}
+use Rattle.pkcs1_params.specs.Words.{AnswersAsn1, EncodingOfFields, Error, answers_asn1_decode}
 use Rattle.standard.specs.Statement.{Decodes, Field, IsShortest}
 
 -- The exits of reading a slice whose SEQUENCE has these contents, strictly or not.

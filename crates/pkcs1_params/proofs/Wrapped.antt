@@ -5,20 +5,8 @@ use Rattle.std.proofs.Math.Seq.{drop-append_seam}
 use Rattle.std.proofs.lemmas.Bool.{cases_lt}
 use Rattle.std.proofs.lemmas.List.{get_or-map, length-map}
 use Rattle.der_core.specs.Words.{octets_grow, tlv_fit, tlv_made, tlv_split, limit}
+use Rattle.pkcs1_params.specs.Words.{front_contents}
 use Rattle.standard.specs.Statement.{AlgorithmEncoding, AreAll, Decodes, Field, Fields, FieldsUnder, IsShortest, SequenceOf, length_octets, longest, sequence, tlv}
-
--- A SEQUENCE is no proper beginning of another, and the same one has the same contents.
-front_contents : (c d x y : List ℕ) → length (sequence c) ≤ limit → length (sequence d) ≤ limit
-    → sequence c ++ x ≡ sequence d ++ y → (c ≡ d) × (x ≡ y)
-front_contents c d x y few less is =
-    let s =
-    tlv_split (sequence c) x (sequence d) y (tlv_made {P = λ z. c ≡ z} 48 c refl few) (tlv_made {P = λ z. z ≡ d} 48 d refl less)
-    is in
-    (s.4 ∙ s.5, s.2)
-
-pub same_contents : (c d : List ℕ) → length (sequence c) ≤ limit → sequence c ≡ sequence d → c ≡ d
-same_contents c d few is =
-    (front_contents c d [] [] few (omega (arith, ap length is)) (ap (λ x. x ++ []) is)).0
 
 module _ (oid : List ℕ) where
   abbrev pub wrapped : List ℕ → List ℕ

@@ -11,5 +11,8 @@ pub use Rattle.pkcs1_params.specs.Parameters.{OaepParameters, PssParameters, id_
 pub use Rattle.pkcs1_params.specs.PssValue.{IsBarePss, OwnedPssAllocates, pss_in, pss_of, pss_viewed, pss_with}
 pub use Rattle.pkcs1_params.specs.Spellings.{DefaultsAreCounted, EachHasMaskZero, EachHasOneMask, EachMaskHasOne, EncodingOfFields, EncodingUnderMask, FirstWritten, IsListingError, IsMask, MaskIsInRange, NamesFirstDefault, ShortestHasNoDefaults, encodings_in}
 pub use Rattle.pkcs1_params.specs.declared.error.Error.{Error}
+pub use Rattle.pkcs1_params.specs.Laws.Answers.{answers_asn1_behind, answers_asn1_decode, asn1_as, fault_in_none, whole_tells}
 pub use Rattle.pkcs1_params.specs.Laws.Equality.{mask_decides, oaep_decides, plain_decides, pss_decides}
+pub use Rattle.pkcs1_params.specs.Laws.FieldTags.{fields_begin_high, FieldsBeginHigh, front_contents, oaep_fields_begin_high, pss_fields_begin_high, record_differs, same_contents}
 pub use Rattle.pkcs1_params.specs.Laws.Records.{mgf1_identifier, oaep_identifier, oaep_record, plain_law, pss_identifier, pss_lawful, pss_record, source_identifier, trailer_law}
+pub use Rattle.pkcs1_params.specs.Laws.SameEncodings.{encodes_as, refuses_as, same_by_shortest, shortest_as, unwritten_of_same_encodings}

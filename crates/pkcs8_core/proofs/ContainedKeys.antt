@@ -3,17 +3,13 @@ use Rattle.std.proofs.Common.{ℕ, List, [], ◌≡◌, refl, sym, ap, ◌∙◌
 use Rattle.der_core.specs.declared.error.ErrorKind.{ErrorKind}
 use Rattle.der_core.specs.declared.tag.Tag.{Tag}
 use Rattle.der_core.specs.Words.{bind_err, TellsOfBytes, AreBytes, prints_one, tagged_law, value_in, ◌>>=◌, Excludes, tlv_fit, ok_injective, limit, ReadsPrinted, number_contents, octets_of_all}
-use Rattle.pkcs1_params.specs.Words.{AnswersAsn1OrAsks, AreDelimited}
-use Rattle.pkcs1.proofs.KeyReads.{private_tells, printed_front_unique}
-use Rattle.pkcs1.proofs.RsaEncryption.{rsa_gives, rsa_only_tells, rsa_taken}
+use Rattle.pkcs1_params.specs.Words.{AnswersAsn1OrAsks, AreDelimited, asn1_as, oaep_fields_begin_high, pss_fields_begin_high, record_differs}
+use Rattle.pkcs1.specs.Words.{private_tells, printed_front_unique, rsa_gives, rsa_only_tells, rsa_taken, MayAllocate, Rejects, rsa_only, rsa_private_key, private_decodes, viewed_encoding}
 use Rattle.pkcs8_core.specs.Words.{Container, key_in, rsa_encryption, private_key_info, rsa_held, rsa_private_key_info, container_encoded, container_law, containers_decode, IsContainer, container_printed, ContainedKey}
 use Rattle.der_core.specs.Tags as tags
-use Rattle.pkcs1.specs.Words.{MayAllocate, Rejects, rsa_only, rsa_private_key, private_decodes, viewed_encoding}
 use Rattle.pkcs1.specs.declared.view.RsaPrivateKeyView.{RsaPrivateKeyView}
-use Rattle.pkcs1_params.proofs.Faults.{asn1_as}
 use Rattle.pkcs1_params.specs.declared.error.Error.{Error}
 use Rattle.standard.specs.Statement.{ContainedKeyEncoding, Container, ContainerEncoding, Decodes, PrivateKey, PrivateKeyEncoding, sequence, IsOaep, IsPss, OaepEncoding, PssEncoding, PublicKeyEncoding, algorithm, any, integer, integers, oaep_fields, optional, other_primes, pss_fields, tlv, version}
-use Rattle.pkcs1_params.proofs.Masks.{oaep_fields_begin_high, pss_fields_begin_high, record_differs}
 
 -- Faults of a key in a container are about the bytes.
 pub key_tells : (c : Container) (octets : List ℕ) (k : ErrorKind) → key_in c octets ≡ Err k → TellsOfBytes k

@@ -2,7 +2,7 @@
 use Rattle.std.proofs.Common.{ℕ, Option, Some, None, option_map, Result, Ok, Err, IfErr}
 use Rattle.der_core.specs.Words.{are_bytes, Unwritten, encode_error}
 use Rattle.der_core.specs.declared.error.Error.{Error}
-use Rattle.pkcs1_params.proofs.Masks.{unwritten_of_same_encodings}
+use Rattle.pkcs1_params.specs.Words.{unwritten_of_same_encodings}
 use Rattle.pkcs8_core.specs.Words.{Container, ContainerSpells, attributes_of, container_stated, IsContainer}
 use Rattle.pkcs8_core.specs.declared.attributes.Attributes.{Attributes}
 use Rattle.standard.specs.Statement.{AreOctets, ContainerEncoding, IfPresent}

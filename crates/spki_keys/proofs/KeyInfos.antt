@@ -3,8 +3,7 @@ use Rattle.std.proofs.Common.{ℕ, List, [], ◌∷◌, ◌++◌, ◌≡◌, ◌
 use Rattle.der_core.specs.Words.{EncodeError, StatedAs, Unwritten, another, no_encoding, no_room, stated, Spells, too_long, optional_itself, tlv_fit, ◌>>=◌}
 use Rattle.spki_core.specs.Words.{algorithm_map, is_identifier-sound}
 use Rattle.der_core.specs.declared.error.ErrorKind.{ErrorKind}
-use Rattle.pkcs1.proofs.RsaEncryption.{rsa_taken}
-use Rattle.pkcs1.specs.Words.{public_stated, rsa_only}
+use Rattle.pkcs1.specs.Words.{rsa_taken, public_stated, rsa_only}
 use Rattle.standard.specs.Statement.{Algorithm, Decodes, Encodes, IsAlgorithm, IsAny, IsShortest, PublicKey, TagAndContents, algorithm, any, integers, limit, rsa_encryption, sequence, tlv}
 use Rattle.spki_keys.specs.KeyInfo.{KeyInfoRow, RsaKeyInfoEncoding, key_info_read, rsa_key_in, rsa_key_info_read}
 

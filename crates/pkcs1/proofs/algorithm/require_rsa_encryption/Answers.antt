@@ -5,7 +5,7 @@ use Rattle.std.proofs.Common.{◌∙◌, sym, ap, Err, Some, option_map, bytes_e
 use Rattle.der_core.specs.declared.error.Error.{Error}
 use Rattle.spki_core.specs.Words.{algorithm_in, any_of}
 use Rattle.pkcs1_params.specs.Words.{id_rsa_encryption}
-use Rattle.pkcs1.proofs.RsaEncryption.{rsa_other}
+use Rattle.pkcs1.specs.Words.{rsa_other}
 use Rattle.pkcs1.proofs.algorithm.require_rsa_encryption.Goals as goal
 
 pub returns-else-is_alone-clause-exact : goal.returns-else-is_alone-clause-exact

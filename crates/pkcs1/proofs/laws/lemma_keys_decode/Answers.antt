@@ -1,7 +1,6 @@
 -- The first two say that the functions give a key exactly of its encodings, the others that their faults are about the
 -- bytes.
-use Rattle.pkcs1.specs.Words.{public_decodes, private_decodes}
-use Rattle.pkcs1.proofs.KeyReads.{private_tells, public_tells}
+use Rattle.pkcs1.specs.Words.{public_decodes, private_decodes, private_tells, public_tells}
 use Rattle.pkcs1.proofs.laws.lemma_keys_decode.Goals as goal
 
 pub returns : goal.returns

@@ -1,7 +1,6 @@
 -- `pkcs1_c_private_key_info_encode`: it writes the container that the struct means, or the status says why not.
 use Rattle.std.proofs.Common.{length, arith, rules, inl, inr}
-use Rattle.pkcs1.proofs.KeyReads.{private_tells}
-use Rattle.pkcs1.specs.Words.{rsa_private_key}
+use Rattle.pkcs1.specs.Words.{private_tells, rsa_private_key}
 use Rattle.pkcs8_core.specs.Words.{ContainerSpells, container_stated}
 use Rattle.standard.specs.Statement.{ContainerEncoding}
 use Rattle.pkcs1_c.specs.Words.{InfoError, UnwrittenStatus, InfoHasKey, private_key_info_seen}

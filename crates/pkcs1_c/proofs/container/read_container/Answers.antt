@@ -3,7 +3,8 @@ use Rattle.std.proofs.Common.{rules, ap, subst, None, Ok, Err}
 use Rattle.der_core.specs.Words.{err_from_is_err_and, ◌>>=◌}
 use Rattle.pkcs1.specs.Words.{held_view}
 use Rattle.pkcs1.specs.declared.view.RsaPrivateKeyView.{RsaPrivateKeyView}
-use Rattle.pkcs1_params.proofs.Faults.{answers_asn1_behind, err_holds}
+use Rattle.pkcs1_params.proofs.Faults.{err_holds}
+use Rattle.pkcs1_params.specs.Words.{answers_asn1_behind}
 use Rattle.pkcs8_core.specs.Words.{private_key_info, rsa_held, ContainedKey}
 use Rattle.standard.specs.Statement.{ContainedKeyEncoding, Decodes}
 use Rattle.pkcs1_c.proofs.container.read_container.Goals as goal

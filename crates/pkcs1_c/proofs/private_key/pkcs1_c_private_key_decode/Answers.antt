@@ -1,6 +1,5 @@
 -- `pkcs1_c_private_key_decode`: struct and list hold the key, or the status is that of the first fault.
-use Rattle.pkcs1.proofs.KeyReads.{private_tells}
-use Rattle.pkcs1.specs.Words.{rsa_private_key}
+use Rattle.pkcs1.specs.Words.{private_tells, rsa_private_key}
 use Rattle.pkcs1_c.proofs.Writes.{status_exact}
 use Rattle.pkcs1_c.proofs.private_key.pkcs1_c_private_key_decode.Goals as goal
 

@@ -1,6 +1,5 @@
 -- `pkcs1_c_public_key_decode`: the struct holds the key, or the status is that of the first fault.
-use Rattle.pkcs1.proofs.KeyReads.{public_tells}
-use Rattle.pkcs1.specs.Words.{held_public_key, rsa_public_key}
+use Rattle.pkcs1.specs.Words.{public_tells, held_public_key, rsa_public_key}
 use Rattle.der_core.specs.Words.{bytes_of}
 use Rattle.pkcs1_c.proofs.HeldKeys.{octets_held}
 use Rattle.pkcs1_c.proofs.Writes.{status_exact}

@@ -4,10 +4,9 @@ use Rattle.std.proofs.Common.{ℕ, length, subst, Ok, Err, Some, None}
 use Rattle.der_core.specs.Words.{err_from_is_err_and}
 use Rattle.der_core.proofs.Writing.{encode_into_encodes, encode_into_unwritten}
 use Rattle.spki_core.specs.Words.{algorithm_map, viewed_with, AreSpelled, record_under, viewed_held}
-use Rattle.pkcs1_params.specs.Words.{Refuses, with_parameters, EncodingOfFields}
+use Rattle.pkcs1_params.specs.Words.{Refuses, with_parameters, EncodingOfFields, encodes_as, refuses_as}
 use Rattle.pkcs1_params.specs.declared.error.Error.TheVariants as error
 use Rattle.pkcs1_params.proofs.Algorithms.{AlgorithmSpelled, algorithm_spelled, algorithm_valid, algorithm_written}
-use Rattle.pkcs1_params.proofs.Masks.{encodes_as, refuses_as}
 use Rattle.standard.specs.Statement.{Algorithm, AlgorithmEncoding, Encodes, IsAlgorithm, IsIdentifier}
 use Rattle.pkcs1_params.proofs.algorithm.encode_identifier.Goals as goal
 

@@ -1,10 +1,10 @@
 -- `lemma_algorithms`: each clause is a law of identifiers with parameters that are a record of fields: `pss_record` and
 -- `oaep_record` are these fields with their laws. `refl` is that the object identifier passes the test of identifiers.
 use Rattle.std.proofs.Common.{refl}
-use Rattle.pkcs1_params.specs.Words.{oaep_identifier, oaep_record, pss_identifier, pss_record}
+use Rattle.pkcs1_params.specs.Words.{oaep_identifier, oaep_record, pss_identifier, pss_record, same_by_shortest}
 use Rattle.pkcs1_params.proofs.Algorithms.{algorithm_counted, algorithm_decodes, strict_algorithm_decodes}
 use Rattle.pkcs1_params.proofs.Faults.{strictly_tells, whole_algorithm_tells, first_named_in}
-use Rattle.pkcs1_params.proofs.Masks.{algorithm_delimited, same_by_shortest}
+use Rattle.pkcs1_params.proofs.Masks.{algorithm_delimited}
 use Rattle.standard.specs.Statement.{OaepAlgorithmEncoding, PssAlgorithmEncoding, id_rsaes_oaep, id_rsassa_pss}
 use Rattle.pkcs1_params.proofs.laws.lemma_algorithms.Goals as goal
 

@@ -1,8 +1,8 @@
 -- `lemma_oaep_spellings`: each clause is a law of records of fields. `oaep_record` is the fields of RSAES-OAEP
 -- parameters with their laws.
 use Rattle.spki_core.proofs.RecordEncodings.{two_to_the_defaults}
-use Rattle.pkcs1_params.specs.Words.{oaep_record}
-use Rattle.pkcs1_params.proofs.Masks.{defaults_counted, each_has_mask_zero, each_has_one_mask, each_mask_has_one, record_delimited, same_by_shortest, shortest_has_no_defaults}
+use Rattle.pkcs1_params.specs.Words.{oaep_record, same_by_shortest}
+use Rattle.pkcs1_params.proofs.Masks.{defaults_counted, each_has_mask_zero, each_has_one_mask, each_mask_has_one, record_delimited, shortest_has_no_defaults}
 use Rattle.standard.specs.Statement.{OaepEncoding}
 use Rattle.pkcs1_params.proofs.laws.lemma_oaep_spellings.Goals as goal
 

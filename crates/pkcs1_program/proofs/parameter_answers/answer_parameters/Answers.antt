@@ -3,8 +3,7 @@
 -- call, of which `claim` holds. `s` is T as `Encoding`, `t` is T as `Parameters`.
 use Rattle.std.proofs.Common.{arith, refl}
 use Rattle.der_core.specs.Words.{Spells, encode_error}
-use Rattle.pkcs1_params.proofs.Masks.{shortest_as}
-use Rattle.pkcs1_params.specs.Words.{EncodingOfFields}
+use Rattle.pkcs1_params.specs.Words.{shortest_as, EncodingOfFields}
 use Rattle.pkcs1_program.proofs.AppendedOutput.{answer_put}
 use Rattle.pkcs1_program.proofs.Verdicts.{is_written}
 use Rattle.pkcs1_program.proofs.parameter_answers.answer_parameters.Goals as goal

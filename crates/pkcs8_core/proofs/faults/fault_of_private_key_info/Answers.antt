@@ -1,7 +1,7 @@
 -- The result is `None` exactly if the bytes encode a container: by what `try_from` says of them, in its arms `Ok` and
 -- `Err`.
 use Rattle.std.proofs.Common.{Ok, Err}
-use Rattle.pkcs1_params.proofs.Faults.{fault_in_none}
+use Rattle.pkcs1_params.specs.Words.{fault_in_none}
 use Rattle.standard.specs.Statement.{Container, ContainerEncoding}
 use Rattle.pkcs8_core.proofs.faults.fault_of_private_key_info.Goals as goal
 

@@ -1,5 +1,5 @@
 -- `lemma_containers_have_one_encoding`: a container has one encoding, and an encoding is that of one container.
-use Rattle.pkcs1_params.proofs.Masks.{same_by_shortest}
+use Rattle.pkcs1_params.specs.Words.{same_by_shortest}
 use Rattle.pkcs8_core.proofs.ContainedKeys.{containers_delimited}
 use Rattle.pkcs8_core.specs.Words.{containers_have_one}
 use Rattle.pkcs8_core.proofs.info.lemma_containers_have_one_encoding.Goals as goal

@@ -4,8 +4,7 @@ use Rattle.std.proofs.Common.{refl, rules}
 use Rattle.der_core.specs.Words.{are_bytes}
 use Rattle.spki_core.specs.Words.{identifier_octets}
 use Rattle.pkcs1.specs.Words.{held_view}
-use Rattle.pkcs1_params.proofs.Faults.{answers_asn1_behind, answers_asn1_decode}
-use Rattle.pkcs1_params.specs.Words.{AnswersAsn1}
+use Rattle.pkcs1_params.specs.Words.{answers_asn1_behind, answers_asn1_decode, AnswersAsn1}
 use Rattle.pkcs8_core.proofs.ContainedKeys.{contained_keys_decode, viewed_in}
 use Rattle.pkcs8_core.specs.Words.{private_key_info, rsa_held, rsa_private_key_info, info_in}
 use Rattle.standard.specs.Statement.{ContainedKeyEncoding}

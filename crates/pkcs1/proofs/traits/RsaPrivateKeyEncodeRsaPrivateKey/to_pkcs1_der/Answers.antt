@@ -5,7 +5,7 @@ use Rattle.der_core.specs.Words.{err_from_is_err_and, tagged_shortest}
 use Rattle.pkcs1.specs.Words.{IsPrivateKey, PrivateIsWritten, PrivateSpells, held_private_key, private_key_with, private_shortest}
 use Rattle.pkcs1.proofs.NumberKeys.{number_key_encodes, number_key_written}
 use Rattle.pkcs1.proofs.WritingStated.{unencoded_unmade, unmade_carried}
-use Rattle.pkcs1_params.proofs.Masks.{shortest_as}
+use Rattle.pkcs1_params.specs.Words.{shortest_as}
 use Rattle.standard.specs.Statement.{PrivateKeyEncoding}
 use Rattle.pkcs1.proofs.traits.RsaPrivateKeyEncodeRsaPrivateKey.to_pkcs1_der.Goals as goal
 

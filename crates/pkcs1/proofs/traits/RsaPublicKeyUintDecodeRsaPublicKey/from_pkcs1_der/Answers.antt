@@ -2,8 +2,8 @@
 -- what the function `whole public_read` gives of the bytes. `public_stated` says the key in the words of the statement.
 use Rattle.std.proofs.Common.{rules}
 use Rattle.der_core.specs.Words.{err_from_is_err_and, are_bytes, whole}
-use Rattle.pkcs1.specs.Words.{public_decodes, public_read, public_stated}
-use Rattle.pkcs1.proofs.KeyReads.{made_reading_faulty, public_tells, read_rejected, reading_decodes_some}
+use Rattle.pkcs1.specs.Words.{public_decodes, public_read, public_stated, public_tells}
+use Rattle.pkcs1.proofs.KeyReads.{made_reading_faulty, read_rejected, reading_decodes_some}
 use Rattle.pkcs1.proofs.KeyMemory.{owned_parts_ask, faulty_as}
 use Rattle.standard.specs.Statement.{PublicKeyEncoding}
 use Rattle.pkcs1.proofs.traits.RsaPublicKeyUintDecodeRsaPublicKey.from_pkcs1_der.Goals as goal

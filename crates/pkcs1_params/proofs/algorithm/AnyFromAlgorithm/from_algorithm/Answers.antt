@@ -3,9 +3,8 @@ use Rattle.std.proofs.Common.{Option, Some, None, option_map}
 use Rattle.der_core.specs.Words.{are_bytes}
 use Rattle.spki_core.specs.Words.{any_of}
 use Rattle.spki_core.specs.declared.any.AnyRef.{AnyRef}
-use Rattle.pkcs1_params.specs.Words.{Identifies}
+use Rattle.pkcs1_params.specs.Words.{Identifies, answers_asn1_decode}
 use Rattle.pkcs1_params.proofs.Algorithms.{AreHeld, identified_decodes}
-use Rattle.pkcs1_params.proofs.Faults.{answers_asn1_decode}
 use Rattle.standard.specs.Statement.{IfPresent}
 use Rattle.pkcs1_params.proofs.algorithm.AnyFromAlgorithm.from_algorithm.Goals as goal
 

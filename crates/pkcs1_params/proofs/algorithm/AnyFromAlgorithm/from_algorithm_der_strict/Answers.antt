@@ -4,10 +4,9 @@
 use Rattle.std.proofs.Common.{ap, subst, rules}
 use Rattle.der_core.specs.Words.{err_from_is_err_and, are_bytes, value_in, ◌>>=◌}
 use Rattle.spki_core.specs.Words.{record_strictly}
-use Rattle.pkcs1_params.specs.Words.{identified, EncodingOfFields}
+use Rattle.pkcs1_params.specs.Words.{identified, EncodingOfFields, answers_asn1_behind, answers_asn1_decode}
 use Rattle.pkcs1_params.proofs.Algorithms.{strict_algorithm_decodes}
 use Rattle.der_core.proofs.ReadSteps.{fault_without_memory}
-use Rattle.pkcs1_params.proofs.Faults.{answers_asn1_behind, answers_asn1_decode}
 use Rattle.pkcs1_params.proofs.ParameterReads.{plain_never}
 use Rattle.standard.specs.Statement.{AlgorithmEncoding, Decodes, IsShortest}
 use Rattle.pkcs1_params.proofs.algorithm.AnyFromAlgorithm.from_algorithm_der_strict.Goals as goal

@@ -3,8 +3,7 @@
 use Rattle.std.proofs.Common.{rules, subst, sym}
 use Rattle.der_core.specs.Words.{are_bytes}
 use Rattle.pkcs1.specs.Words.{held_view}
-use Rattle.pkcs1_params.proofs.Faults.{answers_asn1_decode}
-use Rattle.pkcs1_params.specs.Words.{AnswersAsn1}
+use Rattle.pkcs1_params.specs.Words.{answers_asn1_decode, AnswersAsn1}
 use Rattle.pkcs8_core.proofs.ContainedKeys.{contained_decode, rsa_held_read}
 use Rattle.pkcs8_core.specs.Words.{rsa_held, info_in, ContainedKey}
 use Rattle.pkcs8_core.proofs.info.PrivateKeyInfoOf.rsa_view.Goals as goal

@@ -5,7 +5,7 @@ use Rattle.der_core.specs.Words.{err_from_is_err_and, tagged_shortest}
 use Rattle.der_core.proofs.Writing.{encode_into_encodes, encode_into_unwritten}
 use Rattle.pkcs1.specs.Words.{IsPrivateKey, PrivateIsWritten, PrivateSpells, held_private_key, private_key_with, private_shortest}
 use Rattle.pkcs1.proofs.NumberKeys.{number_key_encodes, number_key_written}
-use Rattle.pkcs1_params.proofs.Masks.{encodes_as, unwritten_of_same_encodings}
+use Rattle.pkcs1_params.specs.Words.{encodes_as, unwritten_of_same_encodings}
 use Rattle.standard.specs.Statement.{PrivateKeyEncoding}
 use Rattle.pkcs1.proofs.private_key.der.RsaPrivateKey+U.encode_key.Goals as goal
 

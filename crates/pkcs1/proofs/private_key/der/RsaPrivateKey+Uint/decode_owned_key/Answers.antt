@@ -2,8 +2,8 @@
 -- `whole_private_key` gives of the bytes. `private_stated` says the key in the words of the statement.
 use Rattle.std.proofs.Common.{rules}
 use Rattle.der_core.specs.Words.{err_from_is_err_and, are_bytes}
-use Rattle.pkcs1.specs.Words.{number_front, private_decodes, private_stated, whole_private_key}
-use Rattle.pkcs1.proofs.KeyReads.{made_reading_faulty, made_reading_ok, private_tells, read_rejected, reading_decodes_some}
+use Rattle.pkcs1.specs.Words.{number_front, private_decodes, private_stated, whole_private_key, private_tells}
+use Rattle.pkcs1.proofs.KeyReads.{made_reading_faulty, made_reading_ok, read_rejected, reading_decodes_some}
 use Rattle.pkcs1.proofs.KeyMemory.{owned_key_asks, faulty_as}
 use Rattle.standard.specs.Statement.{PrivateKeyEncoding}
 use Rattle.pkcs1.proofs.private_key.der.RsaPrivateKey+Uint.decode_owned_key.Goals as goal

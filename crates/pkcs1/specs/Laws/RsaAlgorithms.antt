@@ -6,7 +6,7 @@ use Rattle.der_core.specs.declared.tag.Tag.{Tag}
 use Rattle.der_core.specs.Words.{bytes_decide, checked_as, same_tag, TellsOfBytes, checked, is_allowed}
 use Rattle.spki_core.specs.Words.{Algorithm, same_any, TagAndContents, null_value, any_decides}
 use Rattle.pkcs1_params.specs.Words.{id_rsa_encryption}
-use Rattle.pkcs1.specs.Words.{null_only, rsa_only}
+use Rattle.pkcs1.specs.RsaEncryption.{null_only, rsa_only}
 use Rattle.standard.specs.Statement.{rsa_encryption}
 
 -- Algorithms that the function rejects.
