@@ -1,9 +1,9 @@
 //! Laws of the grammars of keys and parameters: functions that do nothing, each with a law as its contract.
-ghost use Rattle.std.specs.Prelude.{◌≡◌, ℕ, List, Decides};
+ghost use Rattle.std.specs.Prelude.{◌≡◌, ℕ, List, Decides, None};
 ghost use Rattle.pkcs1.specs.Words.{AreDelimited, AreStated, held_other_primes, held_public_key, held_view, private_stated, public_stated, rsa_private_key, rsa_public_key, viewed_encoding};
-ghost use Rattle.der_core.specs.Words.{AreBytes, Excludes, bytes_of, value_in};
+ghost use Rattle.der_core.specs.Words.{AllocatesAtFront, AreBytes, Excludes, bytes_of, value_in};
 ghost use Rattle.pkcs1_params.specs.Words.{FaultsTell, oaep_of, pss_of};
-ghost use Rattle.standard.specs.Statement.{AtMostOne, Decodes, PrivateKeyEncoding, PublicKeyEncoding, SameByShortest, OaepEncoding, PssEncoding};
+ghost use Rattle.standard.specs.Statement.{AtMostOne, Decodes, PrivateKey, PrivateKeyEncoding, PublicKeyEncoding, SameByShortest, OaepEncoding, PssEncoding};
 ghost use Rattle.der_core.specs.declared.integer.uint.UintRef as numbers;
 ghost use Rattle.spki_core.specs.Words.{any_of};
 ghost use Rattle.spki_core.specs.declared.any.AnyRef as anys;
@@ -19,9 +19,10 @@ use crate::other_primes::OtherPrimes;
 use crate::private_key::RsaPrivateKey;
 use crate::public_key::RsaPublicKey;
 use crate::view::RsaPrivateKeyView;
-use der_core::{Encoding, Uint, UintRef};
+use der_core::{Decode, Encoding, Memory, Uint, UintRef};
 use pkcs1_params::{Error, RsaOaepParams, RsaPssParams};
 use spki_core::{Any, AnyRef};
+use std::alloc::Global;
 
 /// No encoding is empty or a proper prefix of another one of the same type, and each means one value.
 pub fn lemma_encodings_are_delimited()
@@ -40,6 +41,16 @@ pub fn lemma_keys_decode()
         → Decodes PrivateKeyEncoding bytes (value_in (rsa_private_key bytes)) }
     ensures public_faults { FaultsTell rsa_public_key }
     ensures private_faults { FaultsTell rsa_private_key }
+{}
+
+/// Reading a key that borrows its numbers never asks for memory if it is a public one, whatever the bytes are, or if the
+/// bytes encode a private key of two primes: by `from_der`, and by each other call that reads such a type.
+pub fn lemma_borrowed_keys_take_no_memory<M: Memory>()
+    ensures public { (bytes : List ℕ)
+        → AllocatesAtFront ⟦<RsaPublicKey<UintRef<'static>> as Decode<&'static [u8], M>>⟧.may_allocate bytes → ⊥ }
+    ensures two_primes { (key : PrivateKey) (bytes : List ℕ)
+        → key.other_primes ≡ None → PrivateKeyEncoding key bytes
+        → AllocatesAtFront ⟦<RsaPrivateKey<UintRef<'static>> as Decode<&'static [u8], Global>>⟧.may_allocate bytes → ⊥ }
 {}
 
 /// A key has at most one encoding.

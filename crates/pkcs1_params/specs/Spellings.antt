@@ -72,6 +72,13 @@ NamesFirstDefault {V} Is fields strictly =
     tag.octet ≡ context_octet n →
     strictly bytes ≡ Err (Noncanonical tag)
 
+-- In each encoding that isn't the shortest a default is written, and one is the first.
+abbrev pub HasFirstWritten : {V : Type 0} → (V → Type 0) → (V → List Field) → Type 0
+HasFirstWritten {V} Is fields =
+    (v : V) (bytes : List ℕ) → EncodingOfFields Is fields v bytes
+    → IsShortest (EncodingOfFields Is fields) v bytes
+    ⊎ ((n : ℕ) × (contents : List ℕ) × (bytes ≡ sequence contents) × FirstWritten (fields v) n contents)
+
 abbrev pub encodings_in : Vec (Vec ℕ) → List (List ℕ)
 encodings_in encodings = map (λ encoding. encoding.items) encodings.items
 

@@ -9,7 +9,7 @@ pub use Rattle.pkcs1_params.specs.OaepValue.{IsBareOaep, LabelFits, NoLabelFits,
 pub use Rattle.pkcs1_params.specs.ParameterReadings.{field_in, field_number, hash_kind, mask_kind, oaep_kinds, oaep_read, of_oaep_fields, of_pss_fields, plain_front, pss_kinds, pss_read, rsa_oaep_params, rsa_pss_params, salt_kind, source_kind, strict_oaep_params, strict_pss_params, trailer_kind, trailer_read}
 pub use Rattle.pkcs1_params.specs.Parameters.{OaepParameters, PssParameters, id_mgf1, id_p_specified, id_rsa_encryption, id_sha1, octets_value, pkcs1_algorithm, with_parameters}
 pub use Rattle.pkcs1_params.specs.PssValue.{IsBarePss, OwnedPssAllocates, pss_in, pss_of, pss_viewed, pss_with}
-pub use Rattle.pkcs1_params.specs.Spellings.{DefaultsAreCounted, EachHasMaskZero, EachHasOneMask, EachMaskHasOne, EncodingOfFields, EncodingUnderMask, FirstWritten, IsListingError, IsMask, MaskIsInRange, NamesFirstDefault, ShortestHasNoDefaults, encodings_in}
+pub use Rattle.pkcs1_params.specs.Spellings.{DefaultsAreCounted, EachHasMaskZero, EachHasOneMask, EachMaskHasOne, EncodingOfFields, EncodingUnderMask, FirstWritten, HasFirstWritten, IsListingError, IsMask, MaskIsInRange, NamesFirstDefault, ShortestHasNoDefaults, encodings_in}
 pub use Rattle.pkcs1_params.specs.declared.error.Error.{Error}
 pub use Rattle.pkcs1_params.specs.Laws.Answers.{answers_asn1_behind, answers_asn1_decode, asn1_as, fault_in_none, whole_tells}
 pub use Rattle.pkcs1_params.specs.Laws.Equality.{mask_decides, oaep_decides, plain_decides, pss_decides}

@@ -1,7 +1,7 @@
 //! Laws of the encodings of parameters: functions that do nothing, each with a law as its contract.
 ghost use Rattle.std.specs.Prelude.{ℕ, List};
 ghost use Rattle.der_core.specs.Words.{AllocatesAtFront, AreBytes, Excludes, value_in};
-ghost use Rattle.pkcs1_params.specs.Words.{EachHasMaskZero, DefaultsAreCounted, EachHasOneMask, EachMaskHasOne, AreDelimited, FaultsTell, NamesFirstDefault, NamesFirstDefaultIn, IsBareOaep, IsBarePss, OaepParameters, PlainEncoding, PssParameters, rsa_oaep_algorithm, rsa_oaep_params, rsa_pss_algorithm, rsa_pss_params, strict_oaep_algorithm, strict_oaep_params, strict_pss_algorithm, ShortestHasNoDefaults, strict_pss_params};
+ghost use Rattle.pkcs1_params.specs.Words.{EachHasMaskZero, DefaultsAreCounted, EachHasOneMask, EachMaskHasOne, AreDelimited, FaultsTell, HasFirstWritten, NamesFirstDefault, NamesFirstDefaultIn, IsBareOaep, IsBarePss, OaepParameters, PlainEncoding, PssParameters, rsa_oaep_algorithm, rsa_oaep_params, rsa_pss_algorithm, rsa_pss_params, strict_oaep_algorithm, strict_oaep_params, strict_pss_algorithm, ShortestHasNoDefaults, strict_pss_params};
 ghost use Rattle.standard.specs.Statement.{Decodes, IsOaep, IsPss, IsShortest, OaepAlgorithmEncoding, OaepEncoding, PssAlgorithmEncoding, PssEncoding, SameByShortest, TwoToTheDefaults, TwoToTheDefaultsIn, id_rsaes_oaep, id_rsassa_pss, oaep_fields, pss_fields};
 
 use crate::oaep::RsaOaepParamsOwned;
@@ -53,6 +53,12 @@ pub fn lemma_params_decode()
     ensures faults_oaep { FaultsTell strict_oaep_params }
     ensures first_pss { NamesFirstDefault IsPss pss_fields strict_pss_params }
     ensures first_oaep { NamesFirstDefault IsOaep oaep_fields strict_oaep_params }
+{}
+
+/// In each encoding that isn't the shortest a default is written. One is the first, which `lemma_params_decode` names.
+pub fn lemma_written_defaults_are_found()
+    ensures pss { HasFirstWritten IsPss pss_fields }
+    ensures oaep { HasFirstWritten IsOaep oaep_fields }
 {}
 
 /// Reading owned parameters never asks for memory if no algorithm in them has parameters with octets.

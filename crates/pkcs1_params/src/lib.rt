@@ -37,6 +37,7 @@ pub use label::{PSpecified, is_p_specified};
 pub use laws::{
     lemma_algorithms, lemma_algorithms_exclude_each_other, lemma_bare_params_take_no_memory,
     lemma_oaep_spellings, lemma_params_decode, lemma_pss_spellings,
+    lemma_written_defaults_are_found,
 };
 pub use oaep::{
     OaepParamsOf, RsaOaepParams, RsaOaepParamsOwned, RsaOaepParamsRef, RsaOaepParamsView,

@@ -1,13 +1,14 @@
 //! PKCS #8 containers of private keys.
 ghost use Rattle.std.specs.Prelude.{◌≡◌, ◌⊎◌, ⊤, ℕ, List, length, IfErr, option_map};
 ghost use Rattle.der_core.specs.Words.{Answers, AreBytes, Excludes, reading_alike, encode_error, itself_once, made_errs, ok_of, one_spelling_shortest, value_in, Unwritten};
+ghost use Rattle.pkcs1.specs.Words.{AreStated};
 ghost use Rattle.pkcs8_core.specs.Words.{Container, IsContainer, attributes_of, container_law, container_printed, info_in, info_of, info_read, of_info_parts, private_key_info, rsa_private_key_info, slice_now};
 ghost use Rattle.pkcs8_core.specs.declared.info.PrivateKeyInfoOf as containers;
 ghost use Rattle.standard.specs.Statement.{AtMostOne, ContainedKeyEncoding, ContainerEncoding, Decodes, Encodes, OaepEncoding, PrivateKeyEncoding, PssEncoding, PublicKeyEncoding, SameByShortest};
 
 use crate::attributes::Attributes;
 use pkcs1::der::{
-    Borrowed, Contents, Decode, EncodeInParts, Error, Expected, InParts, Last, LastByTag, Memory,
+    Borrowed, Contents, Decode, EncodeInParts, Encoding, Error, Expected, InParts, Last, LastByTag, Memory,
     OctetStringRef, Result, RowOperation, SequenceTag, TaggedBy, read_borrowed, write_only,
 };
 use pkcs1::spki::{
@@ -194,6 +195,12 @@ pub fn lemma_containers_decode()
         → Decodes ContainerEncoding bytes (value_in (private_key_info bytes)) }
     ensures key { (bytes : List ℕ) → AreBytes bytes
         → Decodes ContainedKeyEncoding bytes (value_in (rsa_private_key_info bytes)) }
+{}
+
+/// A container has the encodings of the statement: so a clause of `Decode` or `Encode` at this type is about those.
+pub fn lemma_containers_share_the_grammar()
+    ensures { let it = ⟦<PrivateKeyInfoRef<'static> as Encoding>⟧ in
+        AreStated it.valid it.printed it.means (λ c. c) ContainerEncoding }
 {}
 
 /// A container has at most one encoding. Two encodings mean the same container exactly if the shortest encodings of
