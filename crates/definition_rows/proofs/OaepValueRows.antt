@@ -107,3 +107,7 @@ oaep_octet_takes_memory is = (
 oaep_view_tags : (p : OaepParamsOf IdentifierView AnyRef)
     → (oaep_viewed p).p_source ≡ algorithm_in identifier_octets any_of p.p_source
 oaep_view_tags p = refl
+
+oaep_owned_tags : (p : OaepParamsOf ObjectIdentifier AnyRef)
+    → (oaep_of p).p_source ≡ algorithm_in own_octets_of any_of p.p_source
+oaep_owned_tags p = refl

@@ -103,7 +103,7 @@ module _ {V : Type 0} {Encoding : V → List ℕ → Type 0} (delimited : AreDel
       let w = means_one p.1 q.1 second p.3 q.3 in
       says_one word (q.0 ≡ q.1) a b (subst₂ (λ x y. SaysWhether word (x ≡ y) a) v w p.4) q.4
 
-module _ {V : Type 0} {Is : V → Type 0} {fields : V → List Field} (counted : DefaultsAreCounted fields)
+module _ {V : Type 0} (Is : V → Type 0) (fields : V → List Field) (counted : DefaultsAreCounted fields)
     (one : EachMaskHasOne Is fields) (delimited : AreDelimited (SequenceOf Is fields Fields)) where
   tells_parameters_one : (told : V → ℕ → List ℕ → List ℕ) (encoding : List ℕ)
       → HasAtMostOne (TellsParameters (SequenceOf Is fields Fields) fields told encoding)
@@ -153,11 +153,11 @@ module _ (laws : Laws) where
   word_answer_one : (asked : Word) (encoding : List ℕ) → HasAtMostOne (WordAnswer asked encoding)
   word_answer_one word.Pub encoding = tells_one laws.public_keys pub_answer encoding
   word_answer_one word.Priv encoding = tells_one laws.private_keys priv_answer encoding
-  word_answer_one word.Pss encoding = tells_parameters_one laws.pss_counted laws.pss_masks laws.pss pss_answer encoding
-  word_answer_one word.Oaep encoding = tells_parameters_one laws.oaep_counted laws.oaep_masks laws.oaep oaep_answer encoding
+  word_answer_one word.Pss encoding = tells_parameters_one IsPss pss_fields laws.pss_counted laws.pss_masks laws.pss pss_answer encoding
+  word_answer_one word.Oaep encoding = tells_parameters_one IsOaep oaep_fields laws.oaep_counted laws.oaep_masks laws.oaep oaep_answer encoding
   word_answer_one word.P8 encoding = tells_container_one encoding
-  word_answer_one word.SpellPss encoding = tells_spellings_one laws.pss_counted laws.pss_masks laws.pss (codes "spell-pss") encoding
-  word_answer_one word.SpellOaep encoding = tells_spellings_one laws.oaep_counted laws.oaep_masks laws.oaep (codes "spell-oaep") encoding
+  word_answer_one word.SpellPss encoding = tells_spellings_one IsPss pss_fields laws.pss_counted laws.pss_masks laws.pss (codes "spell-pss") encoding
+  word_answer_one word.SpellOaep encoding = tells_spellings_one IsOaep oaep_fields laws.oaep_counted laws.oaep_masks laws.oaep (codes "spell-oaep") encoding
   word_answer_one word.StrictPss encoding =
       tells_strict_one laws.pss (codes "strict-pss") encoding
   word_answer_one word.StrictOaep encoding =
