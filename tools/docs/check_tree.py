@@ -133,6 +133,16 @@ def check_definitions(tree):
     return f"{len(places)} definitions and lemmas have names of their own", wrong
 
 
+def check_citations(tree):
+    """The proofs of these crates rest on what the crates below promise: they cite none of those crates' proofs/."""
+    wrong, files = [], tree.like(r"crates/(pkcs8_core|pkcs1_program|spki_keys)/(specs|proofs)/.*\.antt")
+    for path in files:
+        own = path.split("/")[1]
+        cited = set(re.findall(r"Rattle\.(\w+)\.proofs\b", tree.text(path))) - {own}
+        wrong += [f"{path} cites proofs/ of {it}" for it in sorted(cited) if os.path.isdir(f"crates/{it}")]
+    return f"{len(files)} files of proofs cite what the crates below promise", wrong
+
+
 def check_shape(tree):
     """Of src: no line of a clause has over 120 columns, no file over 300 lines, and what is cited isn't in proofs."""
     wrong, crates = [], {it.split("/")[1] for it in tree.paths if it.startswith("crates/")}

@@ -105,11 +105,11 @@ any_of_tag_254 : IsAny (record { tag = 254; contents = [] })
 any_of_tag_254 = (refl, tt)
 
 -- == Tags under the mask, and in a container ==
-abbrev hash_of_tag_0 : Algorithm TagAndContents
-hash_of_tag_0 = record { oid = 1 ∷ []; parameters = Some (record { tag = 0; contents = [] }) }
+abbrev tag_0_held : Algorithm TagAndContents
+tag_0_held = record { oid = 1 ∷ []; parameters = Some (record { tag = 0; contents = [] }) }
 
 abbrev mask_of_tag_0 : Algorithm (Algorithm TagAndContents)
-mask_of_tag_0 = record { oid = 1 ∷ []; parameters = Some hash_of_tag_0 }
+mask_of_tag_0 = record { oid = 1 ∷ []; parameters = Some tag_0_held }
 
 pss_mask_of_tag_0 : IsPss (record { hash = sha1; mask_gen = mask_of_tag_0; salt_len = 20; trailer_field = 1 }) → ⊥
 pss_mask_of_tag_0 p = let never = p.1.1.1.0 in cc
@@ -118,7 +118,7 @@ oaep_mask_of_tag_0 : IsOaep (record { hash = sha1; mask_gen = mask_of_tag_0; p_s
 oaep_mask_of_tag_0 p = let never = p.1.1.1.0 in cc
 
 container_of_tag_0 : (bytes : List ℕ)
-    → ContainerEncoding (record { algorithm = hash_of_tag_0; private_key = []; attributes = None }) bytes → ⊥
+    → ContainerEncoding (record { algorithm = tag_0_held; private_key = []; attributes = None }) bytes → ⊥
 container_of_tag_0 bytes p = let never = p.1.1.0 in cc
 
 -- == What only begins as a default isn't left out ==

@@ -1,36 +1,9 @@
--- What functions read: whole slices, other tags, documents, a list with a fault, values that spellings mean. For
+-- What functions read: other tags, a list with a fault, values that spellings mean. For
 -- `from_der` of each type, `decode_as`, and `lemma_encodings_are_read`.
 use Rattle.std.proofs.Common.{ℕ, false, List, ◌≡◌, ◌≤◌, length, arith, ⊎_elim, nat_lt, ◌≢◌, ◌==◌, refl, ap, ◌∙◌, Ok, Err, subst, Result}
 use Rattle.der_core.specs.Words.{WithinLimit, cond_cases, limit, FrontReading, Reading, limited, whole, InFront, ReadsContents, ReadsFronts, alone_reads, Tag, AreBytes, any_contents_reads, same_tag, unexpected, contents_behind, read_document, is_allowed, sequence_tag, Tlv, checked_as, tagged_reads, ReadsFrontAlike, ReadsFrontPrinted, Spells, Answers, Error, ok_of, value_in, values_alike, whole_alike, meant_decodes}
 use Rattle.standard.specs.Statement.{Decodes}
 use Rattle.der_core.specs.declared.error.ErrorKind.TheVariants.{TagUnexpected, TagUnknown}
-
--- A slice within the limit.
-pub limited_is : {V : Type 0} (read : Reading V) (b : List ℕ) → length b ≤ limit → limited read b ≡ read b
-limited_is read b few = let no : nat_lt limit (length b) ≡ false = grind arith in rw no refl
-
-pub limited_reads : {V : Type 0} {contents : V → List ℕ → Type 0} {read : Reading V} → ReadsContents contents read
-    → ReadsContents (WithinLimit contents) (limited read)
-limited_reads {read = read} law = record {
-  gives = λ b v bytes e. ⊎_elim (λ w. let no = w.1 in cc)
-      (λ w. let within : length b ≤ limit = grind arith in (within, law.gives b v bytes w.1))
-      (cond_cases (nat_lt limit (length b)) _ _ _ e);
-  takes = λ b v w m. limited_is read b m.0 ∙ law.takes b v w m.1;
-  tells = λ b k e. ⊎_elim (λ w. (λ no. cc, λ no. cc, λ no. cc))
-      (λ w. law.tells b k w.1) (cond_cases (nat_lt limit (length b)) _ _ _ e);
-}
-
--- A whole one, and one that begins with an encoding.
-module _ {V : Type 0} {encoding : V → List ℕ → Type 0} {at : FrontReading V} (law : ReadsFronts encoding at) where
-  pub whole_reads : ReadsContents (WithinLimit encoding) (whole at)
-  whole_reads = limited_reads (alone_reads law)
-
-  pub front_reads : ReadsContents (WithinLimit (InFront encoding)) (limited at)
-  front_reads = limited_reads (record {
-    gives = λ b split bytes e. law.gives b split.1 split.0 bytes e;
-    takes = λ b split w m. law.takes b m.0 split.1 split.0 w m.1 m.2;
-    tells = law.tells;
-  })
 
 -- Another tag than the one that is asked for.
 pub unexpected_tag_read : {V : Type 0} (tag actual : Tag)
@@ -48,11 +21,6 @@ pub contents_behind_other_tag : (tag actual : Tag) (n : ℕ) (rest : List ℕ) �
 contents_behind_other_tag tag actual n rest ne =
     let no : (actual.octet == tag.octet) ≡ false = grind arith in
     rw no (unexpected_tag_read tag actual)
-
--- One whole SEQUENCE.
-pub document_reads : ReadsContents (WithinLimit (λ (_ : Unit {0}). Tlv sequence_tag.octet AreBytes))
-    read_document
-document_reads = whole_reads (tagged_reads sequence_tag any_contents_reads)
 
 -- What reading a whole slice gives, of the values that spellings mean.
 module _ {S V : Type 0} {valid : S → Type 0} {printed : S → List ℕ} {spelling : FrontReading S} {means : S → V}

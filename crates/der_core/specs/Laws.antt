@@ -13,3 +13,4 @@ pub mod Printed
 pub mod Appended
 pub mod SliceReaders
 pub mod TaggedReadings
+pub mod WholeReadings

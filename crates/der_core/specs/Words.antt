@@ -54,3 +54,4 @@ pub use Rattle.der_core.specs.Laws.TaggedReadings.{by_tag_reads, checked_as, tag
 pub use Rattle.std.proofs.lemmas.Bool.Decides.{nat_tests}
 pub use Rattle.std.proofs.lemmas.Result.{err_from_is_err_and}
 pub use Rattle.std.specs.Int.Digits.{number_from_digits}
+pub use Rattle.der_core.specs.Laws.WholeReadings.{document_reads, front_reads, limited_is, limited_reads, whole_reads}

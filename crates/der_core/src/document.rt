@@ -200,7 +200,7 @@ impl<S: Drop> DocumentOf<S> {
 
     /// Reads the document in a file. Ok: it is all that the file opened at this path gave, from its opening to its
     /// end. Err: `File` if the file can't be opened, else as of `read_from`. It is never `NoRoom`.
-    #[tactic(auto, using(crate::proofs::Readings::document_reads))]
+    #[tactic(auto, using(crate::specs::Laws::WholeReadings::document_reads))]
     pub fn read_der_file<F: FileSystem>(
         files: &mut F,
         alloc: Global,

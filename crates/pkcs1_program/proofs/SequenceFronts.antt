@@ -1,9 +1,8 @@
 -- Bytes that are a SEQUENCE, or too few for one: for `src/sequence.rt`.
 use Rattle.std.proofs.Common.{ℕ, List, [], ◌≡◌, ◌⊎◌, ◌∙◌, refl, ap, inl, inr, Err}
 use Rattle.der_core.specs.declared.error.ErrorKind.{ErrorKind}
-use Rattle.der_core.specs.Words.{FaultOrMemory, IsDocument, header_at, read_document}
+use Rattle.der_core.specs.Words.{FaultOrMemory, IsDocument, header_at, read_document, document_reads}
 use Rattle.der_core.specs.declared.error.ErrorKind.TheVariants.{Incomplete, OutOfMemory}
-use Rattle.der_core.proofs.Readings.{document_reads}
 use Rattle.pkcs1_program.specs.Words.{IsSequenceFront}
 
 pub no_bytes_are_front : IsSequenceFront []

@@ -2,10 +2,9 @@
 -- mapped. For reading and copies of parameters, `decode_as` and `AnyRef`.
 use Rattle.std.proofs.Common.{arith, slice_get, slice_index_or, ◌==◌, ◌≡◌, ◌≤◌, ◌∙◌, ◌&&◌, length, ℕ, Bool, List, [], ◌∷◌, Option, Some, None, Ok, true, false, ap, refl, sym, ◌+◌, Result, if◌then◌else◌, option_map, subst, Err, IfOk, inl, inr}
 use Rattle.std.proofs.lemmas.Bool.{cases_Bool}
-use Rattle.der_core.specs.Words.{ok_pair, alone, by_tag, contents_behind, front_of, header_at, inside, is_allowed, is_next, length_at, octets_of_all, tagged, ◌>>=◌, AllocatesAtFront, AreBytes, FaultOrMemory, Input, ReadsFront, Returns, Tlv, limit, limited, FrontReading, Reading, ReadsContents, context_octet}
+use Rattle.der_core.specs.Words.{ok_pair, alone, by_tag, contents_behind, front_of, header_at, inside, is_allowed, is_next, length_at, octets_of_all, tagged, ◌>>=◌, AllocatesAtFront, AreBytes, FaultOrMemory, Input, ReadsFront, Returns, Tlv, limit, limited, FrontReading, Reading, ReadsContents, context_octet, limited_is}
 use Rattle.der_core.specs.Input.{with_tag}
 use Rattle.der_core.specs.declared.error.ErrorKind.TheVariants.{Incomplete, TagUnknown}
-use Rattle.der_core.proofs.Readings.{limited_is}
 use Rattle.spki_core.specs.Words.{Kind, Spelling, any_front, or_default, spelling_read, tag_of, explicit_is, defaulted, explicit, algorithm_map, algorithm_with, IsMapped, TagAndContents}
 use Rattle.der_core.specs.declared.error.ErrorKind.{ErrorKind}
 use Rattle.der_core.specs.declared.tag.Tag.{Tag}

@@ -1,7 +1,6 @@
 -- `read_contents`, at the end: what the contents are read as, they are contents of that value alone.
 use Rattle.std.proofs.Common.{arith, rules}
-use Rattle.der_core.specs.Words.{are_bytes, reading_reads}
-use Rattle.der_core.proofs.Readings.{limited_reads}
+use Rattle.der_core.specs.Words.{are_bytes, reading_reads, limited_reads}
 use Rattle.der_core.proofs.ReadSteps.{returned_decodes}
 use Rattle.der_core.proofs.slices.read_contents.Goals as goal
 

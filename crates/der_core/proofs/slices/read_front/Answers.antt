@@ -1,7 +1,6 @@
 -- `read_front`, at the end: what is read at the front, the slice begins with an encoding of that value alone.
 use Rattle.std.proofs.Common.{arith, rules}
-use Rattle.der_core.specs.Words.{are_bytes, front_reading_reads}
-use Rattle.der_core.proofs.Readings.{front_reads}
+use Rattle.der_core.specs.Words.{are_bytes, front_reading_reads, front_reads}
 use Rattle.der_core.proofs.ReadSteps.{returned_decodes}
 use Rattle.der_core.proofs.slices.read_front.Goals as goal
 

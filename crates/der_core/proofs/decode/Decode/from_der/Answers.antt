@@ -1,7 +1,6 @@
 -- `from_der`, at the end: what reading a whole slice gives, the clause `encoding` says of the encodings.
 use Rattle.std.proofs.Common.{rules}
-use Rattle.der_core.specs.Words.{front_reading_reads}
-use Rattle.der_core.proofs.Readings.{whole_reads}
+use Rattle.der_core.specs.Words.{front_reading_reads, whole_reads}
 use Rattle.der_core.proofs.ReadSteps.{returned_reads_all}
 use Rattle.der_core.proofs.decode.Decode.from_der.Goals as goal
 
