@@ -1,6 +1,6 @@
 -- INTEGER: faults of its contents, worked examples, its length, bit lengths, numbers above 255. For `src/integer`.
-use Rattle.std.proofs.Common.{take_all, ℕ, suc, List, [], ◌∷◌, ◌≡◌, ◌<◌, ◌≤◌, ◌-◌, length, get_or, take, drop, arith, sym, ap, ◌∙◌, Err, true, false, nat_lt, ◌==◌, map, refl, Ok, ◌+◌, Result, IfOk, IfErr, slice_index, zero, ◌*◌, ◌^◌, ◌⊎◌, inl, inr, lit<, mul-le-mul_right, zero-le, pow-add}
-use Rattle.der_core.specs.Words.{HoldsNumber, nat_tests, number_contents, number_contents_as, written_large, Tag, ErrorKind, integer_of, integer_tag, same_tag, limit, number_from_digits, integer_contents, Counts, Error, IsBitLength, are_bytes, after_ge, base256_ge, small_of}
+use Rattle.std.proofs.Common.{take_all, ℕ, suc, List, [], ◌∷◌, ◌≡◌, ◌<◌, ◌≤◌, ◌-◌, length, get_or, take, drop, arith, sym, ap, ◌∙◌, Err, true, false, nat_lt, ◌==◌, map, refl, Ok, ◌+◌, slice_index, zero, ◌*◌, ◌^◌, ◌⊎◌, inl, inr, lit<, mul-le-mul_right, zero-le, pow-add}
+use Rattle.der_core.specs.Words.{HoldsNumber, nat_tests, number_contents, number_contents_as, written_large, Tag, ErrorKind, integer_of, integer_tag, same_tag, number_from_digits, IsBitLength, are_bytes, after_ge, base256_ge, small_of}
 use Rattle.der_core.specs.Integer.{IsCanonical}
 use Rattle.der_core.specs.declared.error.ErrorKind.TheVariants as kind
 use Rattle.der_core.specs.declared.error.ErrorKind.TheVariants.{Length, Noncanonical, Value, Overflow}
@@ -82,24 +82,6 @@ integer_faults =
 
 integer_faults_read : map (λ row. integer_of row.0) integer_faults ≡ map (λ row. Err row.1) integer_faults
 integer_faults_read = refl
-
--- The length of the contents of an INTEGER.
-pub contents_length_small : (bytes : List ℕ) → slice_index bytes 0 < 128
-    → length bytes + 0 ≡ length (integer_contents bytes)
-contents_length_small bytes h =
-    let e : nat_lt (slice_index bytes 0) 128 ≡ true = grind arith in rw e (omega arith)
-
-pub contents_length_large : (bytes : List ℕ) → 128 ≤ slice_index bytes 0
-    → length bytes + 1 ≡ length (integer_contents bytes)
-contents_length_large bytes h =
-    let e : nat_lt (slice_index bytes 0) 128 ≡ false = grind arith in rw e (omega arith)
-
--- A call that returns a length, or `Overflow` where it passes the limit, counts the octets of this length.
-pub counts_length : (octets : List ℕ) (r : Result ℕ Error) (n : ℕ) → n ≡ length octets
-    → IfOk r (λ m. (m ≡ n) × (n ≤ limit)) → IfErr r (λ e. (e.kind ≡ Overflow) × (limit < n))
-    → Counts (Unit {0}) octets r
-counts_length octets (Ok m) n e ok err = (tt, omega arith, omega arith)
-counts_length octets (Err f) n e ok err = rw err.0 (tt, omega arith)
 
 -- The bit length of a number is that of its first byte, and eight bits for each other one.
 power_of_256_in_bits : (k : ℕ) → 256 ^ k ≡ 2 ^ (8 * k)

@@ -1,7 +1,6 @@
 -- What a reader over a slice has left, and what writers to one wrote.
 use Rattle.std.specs.Prelude.{Some, None, if◌then◌else◌, ℕ, ◌≡◌, ◌-◌, ◌≤◌, List, length, take, drop, ◌+◌, ◌++◌}
 use Rattle.der_core.specs.Input.{Input}
-use Rattle.der_core.specs.Length.{limit}
 use Rattle.der_core.specs.declared.slice_reader.SliceReader.{SliceReader}
 use Rattle.std.specs.Borrow.{MutBor}
 use Rattle.der_core.specs.declared.writer.SliceWriter.{SliceWriter}
@@ -49,9 +48,9 @@ free_of writer = writer.free
 abbrev pub filled_of : BackWriter → ℕ
 filled_of writer = length writer.slice.now - writer.free
 
--- There is room for so many octets, and they are within the limit.
+-- There is room for so many octets.
 abbrev pub HasRoom : BackWriter → ℕ → Type 0
-HasRoom writer n = (n ≤ writer.free) × (n ≤ limit)
+HasRoom writer n = n ≤ writer.free
 
 -- The bytes were written in front of what was filled. What stands before them is unchanged.
 abbrev pub Prepends : List ℕ → BackWriter → BackWriter → Type 0

@@ -43,7 +43,7 @@ pub use Rattle.der_core.specs.Laws.Numbers.{after_ge, base256_ge}
 pub use Rattle.der_core.specs.Laws.OptionalReadings.{is_next_false, is_next_false_only, is_next_true, optional_reads, tlv_front_is_next}
 pub use Rattle.der_core.specs.Laws.Printed.Alike.{alone_alike, chain_alike, front_alike, front_row_alike, items_alike, itself_once, last_alike, last_once, list_once, made_alike, optional_alike, reading_alike, row_alike, row_once, tagged_alike, values_alike, whole_alike}
 pub use Rattle.der_core.specs.Laws.Printed.Items.{front_reading_reads, items_law, ok_meant, ok_meant_front, ok_paired, prints_some, reading_reads, written_prints}
-pub use Rattle.der_core.specs.Laws.Printed.Leaves.{number_contents_as, number_law, number_octets, numbers_encode, octets_canonical, octets_grow, octets_law, octets_number, small_contents_as, small_law, tlv_fit, tlv_is, tlv_made}
+pub use Rattle.der_core.specs.Laws.Printed.Leaves.{number_contents_as, number_law, number_octets, numbers_encode, octets_canonical, octets_grow, octets_law, octets_number, small_law, tlv_fit, tlv_is, tlv_made}
 pub use Rattle.der_core.specs.Laws.Printed.Optional.{IsInRange, chain_law, checked_optional_law, front_end_law, front_row_law, last_by_tag_law, last_law, optional_gives, optional_last_law, optional_part_law, optional_row_law, ranged_law, tagged_starts, unless_alike, unless_shortest}
 pub use Rattle.der_core.specs.Laws.Printed.Relations.{StatedAs, decodes_stated, encodes_stated, memory_stated, optional_itself, stated, unwritten_stated, written_encodes}
 pub use Rattle.der_core.specs.Laws.Printed.Rows.{alone_law, decodes_as, end_law, expected_law, made_law, meant_decodes, prints_one, reads_printed_as, row_law, such_law, tagged_law, whole_decodes, whole_takes}

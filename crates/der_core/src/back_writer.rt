@@ -110,10 +110,13 @@ impl<'b> BackWriter<'b> {
 }
 
 impl Prepend for BackWriter<'_> {
+    ghost use Rattle.der_core.specs.Length.{limit};
     ghost use Rattle.der_core.specs.Slices.{HasRoom, Prepends, filled_of};
     ghost use Rattle.der_core.specs.Laws.Prepending.{Prepends-nothing, Prepends-through, HasRoom-parts};
 
     ghost has_room = { HasRoom };
+
+    ghost length_fits = { λ n. n ≤ limit };
 
     ghost filled = { filled_of };
 

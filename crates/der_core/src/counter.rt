@@ -41,6 +41,8 @@ impl Prepend for Counter {
 
     ghost has_room = { λ _ _. Unit {0} };
 
+    ghost length_fits = { λ _. Unit {0} };
+
     ghost filled = { sum_of };
 
     ghost prepended = { Counted };
@@ -65,5 +67,5 @@ impl Prepend for Counter {
 
     ghost prepended_through = { Counted-through };
 
-    ghost room_for_parts = { λ _ _ _ _. (tt, λ _ _. tt) };
+    ghost room_for_parts = { λ _ _ _ _. ((tt, tt), λ _ _. (tt, tt)) };
 }

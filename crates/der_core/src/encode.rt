@@ -24,10 +24,12 @@ pub trait EncodeValue: Contents {
         ensures checks { Checks (Self.valid (Self.written (Self.value self.now))) result }
         ensures tag { RefusedAs refused result };
 
-    /// Writes the contents in front of what was received, or counts them. There have to be some, and room for them.
+    /// Writes the contents in front of what was received, or counts them. There have to be some, and room for them, and
+    /// their length has to fit.
     fn prepend_value<W: Prepend>(&self, writer: &mut W)
         requires has { Self.valid (Self.written (Self.value self.now)) }
-        requires room { W.has_room writer.old (length (Self.printed (Self.written (Self.value self.now)))) }
+        requires room { let n = length (Self.printed (Self.written (Self.value self.now))) in
+            W.has_room writer.old n × W.length_fits n }
         ensures { W.prepended (Self.printed (Self.written (Self.value self.now))) writer.old writer.new };
 
     /// Appends the contents. There have to be some, within `Length::MAX`. The only error is `NoRoom`, exactly if the
@@ -77,10 +79,12 @@ pub trait Encode: Encoding {
         ensures checks { Checks (Self.valid (Self.written (Self.value self.now))) result }
         ensures tag { RefusedAs refused result };
 
-    /// Writes the shortest encoding in front of what was received, or counts it. There has to be one, and room for it.
+    /// Writes the shortest encoding in front of what was received, or counts it. There has to be one, and room for it, and
+    /// its length has to fit.
     fn prepend<W: Prepend>(&self, writer: &mut W)
         requires has { Self.valid (Self.written (Self.value self.now)) }
-        requires room { W.has_room writer.old (length (Self.printed (Self.written (Self.value self.now)))) }
+        requires room { let n = length (Self.printed (Self.written (Self.value self.now))) in
+            W.has_room writer.old n × W.length_fits n }
         ensures { W.prepended (Self.printed (Self.written (Self.value self.now))) writer.old writer.new };
 
     /// Appends the shortest encoding. There has to be one within `Length::MAX`. The only error is `NoRoom`, exactly if

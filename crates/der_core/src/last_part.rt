@@ -105,7 +105,7 @@ fn check_optional<T: Encode>(part: &Option<T>) -> Result<()>
 fn prepend_optional<T: Encode, W: Prepend>(part: &Option<T>, writer: &mut W)
     requires has { standard.IfPresent T.valid (option_map T.written (option_map T.value part.now)) }
     requires room { let octets = standard.optional T.printed (option_map T.written (option_map T.value part.now)) in
-        W.has_room writer.old (length octets) }
+        W.has_room writer.old (length octets) × W.length_fits (length octets) }
     ensures { let octets = standard.optional T.printed (option_map T.written (option_map T.value part.now)) in
         W.prepended octets writer.old writer.new }
 {

@@ -90,7 +90,8 @@ struct PrependRow<'w, W> {
 impl<'w, W: Prepend> RowOperation for PrependRow<'w, W> {
     type Output = ();
 
-    ghost needs = { λ op valid printed. valid × W.has_room op.writer.now (length printed) };
+    ghost needs = { λ op valid printed.
+        valid × W.has_room op.writer.now (length printed) × W.length_fits (length printed) };
 
     ghost gives = { λ old new valid printed refused r.
         (new.writer.ghost_name ≡ old.writer.ghost_name) × W.prepended printed old.writer.now new.writer.now };

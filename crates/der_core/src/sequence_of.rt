@@ -76,7 +76,7 @@ pub(crate) fn check_items<T: Encode>(items: &[T]) -> Result<()>
 pub(crate) fn prepend_items<T: Encode, W: Prepend>(items: &[T], writer: &mut W)
     requires has { AllHave (λ x. T.valid (T.written (T.value x))) items.now }
     requires room { let octets = all_encodings (λ x. T.printed (T.written (T.value x))) items.now in
-        W.has_room writer.old (length octets) }
+        W.has_room writer.old (length octets) × W.length_fits (length octets) }
     ensures { W.prepended (all_encodings (λ x. T.printed (T.written (T.value x))) items.now) writer.old writer.new }
 {
     let mut left = items.len();

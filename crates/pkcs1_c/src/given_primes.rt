@@ -41,7 +41,7 @@ fn from_c_other_prime<'a>(other: &OtherPrime<'a>) -> pkcs1::Result<OtherPrimeInf
 /// octets.
 fn prepend_given<W: Prepend>(other: &OtherPrime<'_>, writer: &mut W)
     requires held { NoStatus (NumbersError (numbers_of_prime other.now)) }
-    requires room { W.has_room writer.old (length (given_encoded other.now)) }
+    requires room { let n = length (given_encoded other.now) in W.has_room writer.old n × W.length_fits n }
     ensures { W.prepended (given_encoded other.now) writer.old writer.new }
 {
     match from_c_other_prime(other) {

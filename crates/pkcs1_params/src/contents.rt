@@ -46,7 +46,7 @@ pub(crate) fn prepend_contents<T: EncodeParams, W: Prepend>(
 )
     requires non_defaults { non_defaults ≡ bits_of (are_defaults (record_fields T.form (T.params params))) }
     requires room { let octets = spelling_printed T.form.kinds (record_under T.form mask (T.params params)) in
-        W.has_room writer.old (length octets) }
+        W.has_room writer.old (length octets) × W.length_fits (length octets) }
     ensures { let octets = spelling_printed T.form.kinds (record_under T.form mask (T.params params)) in
         W.prepended octets writer.old writer.new }
 {

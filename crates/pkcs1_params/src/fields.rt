@@ -69,7 +69,8 @@ impl<Plain: PlainHolder, Mask: MaskHolder> FieldRef<'_, Plain, Mask> {
     /// Writes the field in front of what was received, or counts it.
     #[inline(always)]
     fn prepend<W: Prepend>(&self, writer: &mut W)
-        requires { W.has_room writer.old (length (field_in Plain.plain Mask.mask self.now).octets) }
+        requires { let n = length (field_in Plain.plain Mask.mask self.now).octets in
+            W.has_room writer.old n × W.length_fits n }
         ensures { W.prepended (field_in Plain.plain Mask.mask self.now).octets writer.old writer.new }
     {
         let number = self.number();
@@ -104,7 +105,7 @@ fn append_field<T: Encode, W: Writer>(
 fn prepend_field<T: Encode, W: Prepend>(tag_number: TagNumber, value: &T, writer: &mut W)
     requires has { T.valid (T.written (T.value value.now)) }
     requires room { let octets = tlv (context_octet tag_number.value) (T.printed (T.written (T.value value.now))) in
-        W.has_room writer.old (length octets) }
+        W.has_room writer.old (length octets) × W.length_fits (length octets) }
     ensures { let octets = tlv (context_octet tag_number.value) (T.printed (T.written (T.value value.now))) in
         W.prepended octets writer.old writer.new }
 {
@@ -166,7 +167,8 @@ pub trait Fields: Drop {
     /// Writes the fields under a mask in front of what was received, the last one first, or counts them.
     fn prepend<W: Prepend>(&self, non_defaults: u8, mask: u8, writer: &mut W)
         requires non_defaults { non_defaults ≡ bits_of (are_defaults (written self.now)) }
-        requires room { W.has_room writer.old (length (octets_under mask (written self.now))) }
+        requires room { let n = length (octets_under mask (written self.now)) in
+            W.has_room writer.old n × W.length_fits n }
         ensures { W.prepended (octets_under mask (written self.now)) writer.old writer.new };
 }
 

@@ -70,6 +70,9 @@ byte_canonical n l = elim (cases_lt 0 n) [
   | inr h ↦ let z : n ≡ 0 = omega arith in inl (ap (λ k. k ∷ []) z)
 ]
 
+pub byte_held : (n : ℕ) → n < 256 → HoldsNumber (n ∷ [])
+byte_held n l = (omega arith, λ more. absurd (omega (arith, more)), λ i. grind (arith, l))
+
 pub byte_number : (n : ℕ) → number_from_digits 256 (n ∷ []) ≡ n
 byte_number n = omega arith
 

@@ -1,5 +1,5 @@
 -- What receives octets from their end: laws of a counter, and of a writer that fills a slice.
-use Rattle.std.specs.Prelude.{ℕ, ◌≡◌, ◌+◌, ◌≤◌, ◌<◌, List, [], ◌++◌, length, take, drop}
+use Rattle.std.specs.Prelude.{ℕ, ◌≡◌, ◌+◌, ◌≤◌, List, [], ◌++◌, length, take, drop}
 use Rattle.std.proofs.Common.{arith, length-append, append_assoc, ap, refl, sym, inl, inr, ◌∙◌}
 use Rattle.std.proofs.Math.Seq.{drop-append_seam}
 use Rattle.std.proofs.lemmas.Bool.{cases_lt}
@@ -51,8 +51,9 @@ Prepends-through a b u v w p q =
           ∙ ap (λ s. take w.free all ++ s) (ap (λ s. a ++ s) rest ∙ sym (append_assoc a b (drop u.free all)))),
     )
 
-pub HasRoom-parts : (a b : List ℕ) (u : BackWriter) → HasRoom u (length (a ++ b))
-    → HasRoom u (length b) × ((v : BackWriter) → Prepends b u v → HasRoom v (length a))
+pub HasRoom-parts : (a b : List ℕ) (u : BackWriter) → HasRoom u (length (a ++ b)) × (length (a ++ b) ≤ limit)
+    → (HasRoom u (length b) × (length b ≤ limit))
+    × ((v : BackWriter) → Prepends b u v → HasRoom v (length a) × (length a ≤ limit))
 HasRoom-parts a b u room =
     let whole = length-append a b in (
       (omega (arith, whole, room.0), omega (arith, whole, room.1)),

@@ -6,7 +6,7 @@ use crate::decode::DecodeValue;
 use crate::encode::EncodeValue;
 use crate::error::{Error, ErrorKind, Result};
 use crate::grammar::{Contents, EqualByValue, IntegerTag, TaggedBy};
-use crate::integer::uint::integer;
+use crate::integer::uint::{append_number, integer, prepend_number};
 use crate::memory::Memory;
 use crate::prepend::Prepend;
 use crate::tag::Tag;
@@ -86,17 +86,10 @@ impl EncodeValue for u8 {
 
     #[inline(always)]
     fn prepend_value<W: Prepend>(&self, writer: &mut W) {
-        writer.prepend(&[*self]);
-        if *self >= 0x80 {
-            writer.prepend(&[0]);
-        }
+        prepend_number(&[*self], writer);
     }
 
     fn append_value<W: Writer>(&self, writer: &mut W) -> Result<()> {
-        if *self < 0x80 {
-            writer.write(&[*self])
-        } else {
-            writer.write(&[0, *self])
-        }
+        append_number(&[*self], writer)
     }
 }

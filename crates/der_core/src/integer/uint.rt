@@ -9,6 +9,7 @@ ghost use Rattle.der_core.specs.Laws.Printed.Leaves.{number_law, numbers_encode}
 ghost use Rattle.der_core.specs.Laws.Printed.Shortest.{one_spelling_shortest};
 ghost use Rattle.der_core.specs.Printed.{Prints, number_contents, number_of};
 ghost use Rattle.der_core.specs.Laws.Encodings.{nothing_asked};
+ghost use Rattle.der_core.specs.Writing.{Appends};
 
 use crate::decode::DecodeValue;
 use crate::encode::EncodeValue;
@@ -219,6 +220,35 @@ impl<'a, M: Memory> DecodeValue<&'a [u8], M> for UintRef<'a> {
     }
 }
 
+/// Writes the contents of the number with these bytes in front of what was received, or counts them.
+#[inline(always)]
+pub(crate) fn prepend_number<W: Prepend>(bytes: &[u8], writer: &mut W)
+    requires canonical { HoldsNumber bytes.now }
+    requires room { let n = length (number_contents (number_from_digits 256 bytes.now)) in
+        W.has_room writer.old n × W.length_fits n }
+    ensures { W.prepended (number_contents (number_from_digits 256 bytes.now)) writer.old writer.new }
+{
+    writer.prepend(bytes);
+    if bytes[0] >= 0x80 {
+        writer.prepend(&[0]);
+    }
+}
+
+/// Appends the contents of the number with these bytes.
+#[inline(always)]
+pub(crate) fn append_number<W: Writer>(bytes: &[u8], writer: &mut W) -> Result<()>
+    requires canonical { HoldsNumber bytes.now }
+    requires fits { length (number_contents (number_from_digits 256 bytes.now)) ≤ limit }
+    ensures appends { let octets = number_contents (number_from_digits 256 bytes.now) in
+        Appends (Unit {0}) octets W.room W.written writer.old writer.new result }
+    ensures kept { W.keeps writer.old writer.new }
+{
+    if bytes[0] >= 0x80 {
+        writer.write(&[0])?;
+    }
+    writer.write(bytes)
+}
+
 impl EncodeValue for UintRef<'_> {
     ghost refused = { λ _. ⊥ };
 
@@ -229,16 +259,10 @@ impl EncodeValue for UintRef<'_> {
 
     #[inline(always)]
     fn prepend_value<W: Prepend>(&self, writer: &mut W) {
-        writer.prepend(self.bytes);
-        if self.bytes[0] >= 0x80 {
-            writer.prepend(&[0]);
-        }
+        prepend_number(self.bytes, writer);
     }
 
     fn append_value<W: Writer>(&self, writer: &mut W) -> Result<()> {
-        if self.bytes[0] >= 0x80 {
-            writer.write(&[0])?;
-        }
-        writer.write(self.bytes)
+        append_number(self.bytes, writer)
     }
 }

@@ -23,5 +23,5 @@ prepend-requires-clause-room g c =
     let whole =
     around_item valid printed c.args.items.now c.loop-left.left c.index-items-left.result c.loop-left-test.true
     c.loop-left.invariant.0 c.index-items-left.is in
-    let room = subst (λ o. g.W.Prepend.has_room c.args.writer.now (length o)) whole c.requires.room in
+    let room = subst (λ o. g.W.Prepend.has_room c.args.writer.now (length o) × g.W.Prepend.length_fits (length o)) whole c.requires.room in
     (g.met.W.Prepend.room_for_parts _ _ _ (g.met.W.Prepend.room_for_parts _ _ _ room).0).1 _ c.loop-left.invariant.1

@@ -8,7 +8,7 @@ use Rattle.der_core.specs.Encodings.{AreBytes}
 use Rattle.der_core.specs.Integer.{EncodesNumbers, HoldsNumber, IntegerContents, IsCanonical, SmallContents, integer_contents}
 use Rattle.der_core.specs.IntegerReading.{integer_of, small_of}
 use Rattle.der_core.specs.Laws.Encodings.{tlv_relates}
-use Rattle.der_core.specs.Laws.Integer.{bytes_decide, canonical_same, contents_at_most_one, holds_canonical, integer_relates, one_byte}
+use Rattle.der_core.specs.Laws.Integer.{bytes_decide, canonical_same, contents_at_most_one, holds_canonical, integer_relates}
 use Rattle.der_core.specs.Laws.Length.{length_grows, length_octets-only, length_octets-within}
 use Rattle.der_core.specs.Laws.Readings.{bind_ok, integer_reads, made_tells, ok_injective, small_reads}
 use Rattle.der_core.specs.Printed.{Prints, ReadsAlike, ReadsPrinted, WritesShortest, number_contents, number_of}
@@ -54,9 +54,6 @@ number_contents_only x c n e p =
 -- What is written of a number whose octets are held; numbers are equal exactly if their octets are; they are encoded.
 pub number_contents_as : (x : List ℕ) → IsCanonical x → number_contents (number_from_digits 256 x) ≡ integer_contents x
 number_contents_as x p = ap integer_contents (number_octets x p)
-
-pub small_contents_as : (n : ℕ) → n < 256 → number_contents n ≡ integer_contents (n ∷ [])
-small_contents_as n less = ap integer_contents (one_byte n (octets n) less (octets_canonical n) (octets_number n))
 
 pub numbers_decide : (x y : List ℕ) → HoldsNumber x → HoldsNumber y
     → Decides (bytes_eq x y) (number_from_digits 256 x ≡ number_from_digits 256 y)

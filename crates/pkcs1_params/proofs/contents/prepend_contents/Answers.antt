@@ -8,7 +8,7 @@ prepend-requires g c =
     let t = g.T.EncodeParams in
     let is = octets_under_spelled t.form (t.params c.args.params) c.args.mask _ c.fields.ensures.are in record {
       non_defaults = search rules;
-      room = subst (λ z. g.W.Prepend.has_room c.args.writer.now (length z)) (sym is) c.requires.room;
+      room = subst (λ z. g.W.Prepend.has_room c.args.writer.now (length z) × g.W.Prepend.length_fits (length z)) (sym is) c.requires.room;
     }
 
 pub returns : goal.returns

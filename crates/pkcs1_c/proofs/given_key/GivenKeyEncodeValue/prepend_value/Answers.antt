@@ -11,7 +11,7 @@ use Rattle.pkcs1_c.proofs.given_key.GivenKeyEncodeValue.prepend_value.Goals as g
 pub prepend_value-requires-clause-room : goal.prepend_value-requires-clause-room
 prepend_value-requires-clause-room g c =
     let key = c.args.self.now.0 in
-    subst (λ o. g.W.Prepend.has_room c.args.writer.now (length o))
+    subst (λ o. g.W.Prepend.has_room c.args.writer.now (length o) × g.W.Prepend.length_fits (length o))
     (sym (private_row_is AnyNumber integer (given_key key) _ (given_row key _ c.row.ensures))) c.requires.room
 
 pub returns : goal.returns

@@ -18,7 +18,7 @@ prepend_given-requires g c =
     let rest = all_encodings given_encoded (drop left others) in
     let whole = sym (given_encodings_are others)
     ∙ around_given others left empty_prime c.loop-left-test.true c.loop-left.invariant.0 in
-    let room = subst (λ o. g.W.Prepend.has_room c.args.writer.now (length o)) whole c.requires.room in
+    let room = subst (λ o. g.W.Prepend.has_room c.args.writer.now (length o) × g.W.Prepend.length_fits (length o)) whole c.requires.room in
     let behind = g.met.W.Prepend.room_for_parts before (here ++ rest) _ room in record {
       held = numbers_held_at others (left - 1) empty_prime (omega arith) given.held;
       room = (g.met.W.Prepend.room_for_parts here rest _ behind.0).1 _ c.loop-left.invariant.1;

@@ -7,7 +7,7 @@ use Rattle.spki_core.proofs.any.AnyRefEncode.prepend.Goals as goal
 pub prepend-requires : goal.prepend-requires
 prepend-requires g c =
     let any = any_of c.args.self.now in
-    (g.met.W.Prepend.room_for_parts (any.tag ∷ length_octets (length any.contents)) _ _ c.requires.room).0
+    (g.met.W.Prepend.room_for_parts (any.tag ∷ length_octets (length any.contents)) _ _ c.requires.room).0.0
 
 pub prepend_header-requires : goal.prepend_header-requires
 prepend_header-requires g c =

@@ -1,24 +1,20 @@
--- `append_value` of `u8`. `is` says that what is printed of the number is what is made of its one byte.
-use Rattle.std.proofs.Common.{rules, sym, subst, [], ◌∷◌, ◌<◌}
-use Rattle.der_core.specs.Words.{integer_contents, small_contents_as, Appends}
+-- `append_value` of `u8`: it is the number with this one byte.
+use Rattle.std.proofs.Common.{◌≤◌, sym, subst, length}
+use Rattle.der_core.specs.Laws.Integer.{byte_held, byte_number}
+use Rattle.der_core.specs.Words.{Appends, limit, number_contents, octets_appended_as}
 use Rattle.der_core.proofs.integer.small.U8EncodeValue.append_value.Goals as goal
 
--- At the first `write`: the number is below 128, so the contents are its byte.
-pub returns-then-self-lt128-clause-appends : goal.returns-then-self-lt128-clause-appends
-returns-then-self-lt128-clause-appends g c =
-    let n = c.args.self.now in
-    let is = small_contents_as n c.requires.has in
-    let told : Appends (n < 256) (integer_contents (n ∷ [])) g.W.Writer.room g.W.Writer.written c.args.writer.now
-    c.write.new.self c.write.result = search rules in
-    subst (λ octets. Appends (n < 256) octets g.W.Writer.room g.W.Writer.written c.args.writer.now c.write.new.self
-    c.write.result) (sym is) told
+pub append_number-requires : goal.append_number-requires
+append_number-requires g c =
+    let n = c.args.self.now in record {
+      canonical = byte_held n c.requires.has;
+      fits = subst (λ m. length (number_contents m) ≤ limit) (sym (byte_number n)) c.requires.fits;
+    }
 
--- At the second `write`: it is 128 or more, so 0 stands in front.
-pub returns-else-self-lt128-clause-appends : goal.returns-else-self-lt128-clause-appends
-returns-else-self-lt128-clause-appends g c =
+pub returns-clause-appends : goal.returns-clause-appends
+returns-clause-appends g c =
+    let w = g.W.Writer in
     let n = c.args.self.now in
-    let is = small_contents_as n c.requires.has in
-    let told : Appends (n < 256) (integer_contents (n ∷ [])) g.W.Writer.room g.W.Writer.written c.args.writer.now
-    c.write-else-self-lt128.new.self c.write-else-self-lt128.result = search rules in
-    subst (λ octets. Appends (n < 256) octets g.W.Writer.room g.W.Writer.written c.args.writer.now c.write-else-self-lt128.new.self
-    c.write-else-self-lt128.result) (sym is) told
+    octets_appended_as tt c.requires.has _ _ _ _ _ _
+    (subst (λ m. Appends (Unit {0}) (number_contents m) w.room w.written c.args.writer.now c.append_number.new.writer
+    c.append_number.result) (byte_number n) c.append_number.ensures.appends)
