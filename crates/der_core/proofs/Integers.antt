@@ -1,5 +1,5 @@
 -- INTEGER: faults of its contents, worked examples, its length, bit lengths, numbers above 255. For `src/integer`.
-use Rattle.std.proofs.Common.{take_all, ℕ, suc, List, [], ◌∷◌, ◌≡◌, ◌<◌, ◌≤◌, ◌-◌, length, get_or, take, drop, arith, sym, ap, ◌∙◌, Err, true, false, nat_lt, ◌==◌, map, refl, Ok, ◌+◌, slice_index, zero, ◌*◌, ◌^◌, ◌⊎◌, inl, inr, lit<, mul-le-mul_right, zero-le, pow-add}
+use Rattle.std.proofs.Common.{take_all, ℕ, suc, List, [], ◌∷◌, ◌≡◌, ◌<◌, ◌≤◌, ◌-◌, length, get_or, take, drop, arith, sym, ap, ◌∙◌, Err, true, false, nat_lt, ◌==◌, map, refl, Ok, ◌+◌, slice_index, slice_index_or, zero, ◌*◌, ◌^◌, ◌⊎◌, inl, inr, lit<, mul-le-mul_right, zero-le, pow-add}
 use Rattle.der_core.specs.Words.{HoldsNumber, nat_tests, number_contents, number_contents_as, written_large, Tag, ErrorKind, integer_of, integer_tag, same_tag, number_from_digits, IsBitLength, are_bytes, after_ge, base256_ge, small_of}
 use Rattle.der_core.specs.Integer.{IsCanonical}
 use Rattle.der_core.specs.declared.error.ErrorKind.TheVariants as kind
@@ -42,6 +42,20 @@ integer_of_padded (x ∷ xs) k t n z some h e o =
         let zero : (x == 0) ≡ true = grind arith in
         let low : nat_lt y 128 ≡ true = grind arith in
         rw (less, zero, low) (ap (λ x. Err x) (sym (e ∙ ap kind.Noncanonical (same_tag t integer_tag o))))
+
+-- What is left after a padding zero holds a number.
+starts_high : (xs : List ℕ) → 1 ≤ length xs → 128 ≤ slice_index_or xs 0 0 → ((i : ℕ) → slice_index_or xs i 0 < 256)
+    → HoldsNumber xs
+starts_high [] n h b = absurd (omega arith)
+starts_high (x ∷ xs) n h b = (omega arith, (λ _. omega arith), b)
+
+pub rest_holds : (xs : List ℕ) → 1 ≤ length xs → 1 ≤ length (take (length xs - 1) (drop 1 xs))
+    → 128 ≤ slice_index_or (take (length xs - 1) (drop 1 xs)) 0 0 → ((i : ℕ) → slice_index_or xs i 0 < 256)
+    → HoldsNumber (take (length xs - 1) (drop 1 xs))
+rest_holds [] l n h b = absurd (omega arith)
+rest_holds (x ∷ xs) l n h b =
+    let all : take (length (x ∷ xs) - 1) xs ≡ xs = take_all _ xs (omega arith) in
+    rw all (starts_high xs (rw all at n) (rw all at h) (λ i. b (suc i)))
 
 -- == The contents of a number, by its bytes: these if the first is below 128, else with 0 in front ==
 module _ (x : List ℕ) (canonical : IsCanonical x) where

@@ -10,5 +10,5 @@ pub mod ReadSteps
 pub mod Writing
 pub mod Headers
 pub mod Readings
-pub mod QuickReading
+pub mod Splitting
 pub mod ContentsRows

@@ -3,7 +3,7 @@ use Rattle.std.proofs.Common.{ℕ, Bool, true, false, List, [], ◌++◌, ◌≡
 use Rattle.std.proofs.lemmas.List.{drop_all}
 use Rattle.der_core.specs.Words.{nat_tests, Error, ErrorKind, Tag, WithinLimit, AreBytes, Input, left_in, read_from, header_at, small_of, ok_pair, cond_cases, limit, AllocatesInParts, AllocatesAtFront, DecodesOrMemory, InputAllocates, FaultOrMemory, Returns, ReadsAll, Reading, FrontReading, ◌>>=◌, expected, front_parts, parts, such, tagged, contents_behind, inside, ReadsContents, ReadsFronts, integer_tag, Tlv, HoldsBytes, front_of, behind_within, ok_injective, tagged_reads, octets_of_all, bind_ok}
 use Rattle.der_core.specs.declared.error.ErrorKind.TheVariants.{OutOfMemory, TagUnexpected, Value}
-use Rattle.der_core.proofs.QuickReading.{read_inside}
+use Rattle.der_core.proofs.Splitting.{read_inside}
 use Rattle.der_core.proofs.Readings.{contents_behind_other_tag}
 
 -- What a call ensures of an error, and of a value with what is left.

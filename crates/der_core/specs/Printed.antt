@@ -69,8 +69,16 @@ pub record Starts {S : Type 0} (printed : S → List ℕ) : Type 0 where
   pub with : ℕ → Bool
   pub only : (s : S) (rest : List ℕ) (t : ℕ) → with t ≡ false → is_next t (printed s ++ rest) ≡ false
 
+-- The same of contents, which may be empty.
+pub record Begins {S : Type 0} (printed : S → List ℕ) : Type 0 where
+  pub with : ℕ → Bool
+  pub only : (s : S) (t : ℕ) → with t ≡ false → is_next t (printed s) ≡ false
+
 abbrev pub starts_with_any : {S : Type 0} (printed : S → List ℕ) → Starts printed
 starts_with_any printed = record { with = λ _. true; only = λ s rest t e. true_is_not_false e }
+
+abbrev pub begins_with_any : {S : Type 0} {printed : S → List ℕ} → Begins printed
+begins_with_any = record { with = λ _. true; only = λ s t e. true_is_not_false e }
 
 -- What was read, without the kind of a fault.
 abbrev pub value_in : {V : Type 0} → Result V ErrorKind → Option V

@@ -17,7 +17,7 @@ pub use Rattle.der_core.specs.IntegerReading.{Answers, WhyNoNumber, integer_of, 
 pub use Rattle.der_core.specs.Length.{IsBase256, IsLength, length_octets, limit, long, short, tlv_len}
 pub use Rattle.der_core.specs.OctetStringRefValue.{octets_of}
 pub use Rattle.der_core.specs.Parts.{AllHave, AllocatesInParts, AllocatesInRow, IsNext, ItemsContents, Optional, OptionalRead, all_encodings}
-pub use Rattle.der_core.specs.Printed.{AreSpelledOnce, Prints, PrintsOne, ReadsAlike, ReadsFrontAlike, ReadsFrontPrinted, ReadsPrinted, Spells, Starts, WritesShortest, number_contents, number_of, ok_of, row, starts_with_any, value_in}
+pub use Rattle.der_core.specs.Printed.{AreSpelledOnce, Begins, Prints, PrintsOne, ReadsAlike, ReadsFrontAlike, ReadsFrontPrinted, ReadsPrinted, Spells, Starts, WritesShortest, begins_with_any, number_contents, number_of, ok_of, row, starts_with_any, value_in}
 pub use Rattle.der_core.specs.Reading.{AllocatesAtFront, AllocatesBehind, AllocatesForItems, AllocatesLast, BeginsWithEncoding, DecodesOrMemory, FaultOrMemory, HoldsBytes, InputAllocates, NoValueOrMemory, ReadsAll, ReadsEncoding, ReadsFront, ReadsWhole, Returns, TellsNext, TellsOfBytes}
 pub use Rattle.der_core.specs.Readings.{◌>>=◌, FrontReading, Reading, ReadsBy, ReadsContents, ReadsFronts, alone, by_tag, chain, checked, contents_behind, ended, expected, front_done, front_parts, in_range, inside, is_next, items, items_within, last, limited, made, no_parts, octets_of_all, optional_front, parts, ranged, read_document, such, tagged, unexpected, unless, whole}
 pub use Rattle.der_core.specs.SourcesSinks.{AppendsFront, CountsFailure, GivesAll, GivesMore, GivesSome, OneFailed}
@@ -44,7 +44,7 @@ pub use Rattle.der_core.specs.Laws.OptionalReadings.{is_next_false, is_next_fals
 pub use Rattle.der_core.specs.Laws.Printed.Alike.{alone_alike, chain_alike, front_alike, front_row_alike, items_alike, itself_once, last_alike, last_once, list_once, made_alike, optional_alike, reading_alike, row_alike, row_once, tagged_alike, values_alike, whole_alike}
 pub use Rattle.der_core.specs.Laws.Printed.Items.{front_reading_reads, items_law, ok_meant, ok_meant_front, ok_paired, prints_some, reading_reads, written_prints}
 pub use Rattle.der_core.specs.Laws.Printed.Leaves.{number_contents_as, number_law, number_octets, numbers_encode, octets_canonical, octets_grow, octets_law, octets_number, small_law, tlv_fit, tlv_is, tlv_made}
-pub use Rattle.der_core.specs.Laws.Printed.Optional.{IsInRange, chain_law, checked_optional_law, front_end_law, front_row_law, last_by_tag_law, last_law, optional_gives, optional_last_law, optional_part_law, optional_row_law, ranged_law, tagged_starts, unless_alike, unless_shortest}
+pub use Rattle.der_core.specs.Laws.Printed.Optional.{IsInRange, chain_law, checked_optional_law, front_end_law, front_row_law, last_begins, last_by_tag_law, last_law, nothing_begins, optional_begins, optional_gives, optional_part_law, optional_row_law, ranged_law, row_begins, tagged_starts, unless_alike, unless_shortest}
 pub use Rattle.der_core.specs.Laws.Printed.Relations.{StatedAs, decodes_stated, encodes_stated, memory_stated, optional_itself, stated, unwritten_stated, written_encodes}
 pub use Rattle.der_core.specs.Laws.Printed.Rows.{alone_law, decodes_as, end_law, expected_law, made_law, meant_decodes, prints_one, reads_printed_as, row_law, such_law, tagged_law, whole_decodes, whole_takes}
 pub use Rattle.der_core.specs.Laws.Printed.Shortest.{joined_shortest, last_shortest, list_shortest, made_shortest, one_spelling_shortest, row_shortest, tagged_shortest, tagged_some, written_is_shortest}

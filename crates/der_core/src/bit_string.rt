@@ -1,5 +1,5 @@
 //! BIT STRINGs of whole octets (X.690 8.6).
-ghost use Rattle.der_core.specs.Words.{AllocatesBehindZero, Answers, behind_zero, behind_zero_alike, behind_zero_asks_as_contents, behind_zero_law, behind_zero_shortest, bit_string_tag, no_unused_bits, whole_octets};
+ghost use Rattle.der_core.specs.Words.{AllocatesBehindZero, Answers, begins_with_any, behind_zero, behind_zero_alike, behind_zero_asks_as_contents, behind_zero_law, behind_zero_shortest, bit_string_tag, no_unused_bits, whole_octets};
 
 use crate::decode::DecodeValue;
 use crate::encode::EncodeValue;
@@ -53,6 +53,8 @@ impl<C: Contents> Contents for BitString<C> {
     ghost shortest = { behind_zero_shortest C.shortest };
 
     ghost reads_alike = { behind_zero_alike C.reads_alike };
+
+    ghost begins = { begins_with_any };
 }
 
 impl<C> TaggedBy for BitString<C> {

@@ -1,6 +1,6 @@
 //! BOOLEAN (X.690 8.2), as `bool`.
 ghost use Rattle.std.specs.Prelude.{◌≡◌, Bool};
-ghost use Rattle.der_core.specs.Words.{Answers, boolean_contents, boolean_law, boolean_of, boolean_tag, nothing_asked, one_spelling_shortest, reading_alike};
+ghost use Rattle.der_core.specs.Words.{Answers, begins_with_any, boolean_contents, boolean_law, boolean_of, boolean_tag, nothing_asked, one_spelling_shortest, reading_alike};
 
 use crate::decode::DecodeValue;
 use crate::encode::EncodeValue;
@@ -46,6 +46,8 @@ impl Contents for bool {
     ghost shortest = { one_spelling_shortest (λ _. Unit {0}) boolean_contents };
 
     ghost reads_alike = { reading_alike boolean_of };
+
+    ghost begins = { begins_with_any };
 }
 
 impl TaggedBy for bool {

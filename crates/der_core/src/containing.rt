@@ -1,5 +1,5 @@
 //! Contents octets that are one encoding.
-ghost use Rattle.der_core.specs.Words.{AllocatesAtFront, alone, alone_alike, alone_law};
+ghost use Rattle.der_core.specs.Words.{AllocatesAtFront, alone, alone_alike, alone_law, begins_with_any};
 
 use crate::decode::{Decode, DecodeValue};
 use crate::encode::{Encode, EncodeValue};
@@ -38,6 +38,8 @@ impl<T: Encoding> Contents for Containing<T> {
     ghost shortest = { T.shortest };
 
     ghost reads_alike = { alone_alike T.reads_alike };
+
+    ghost begins = { begins_with_any };
 }
 
 impl<'a, M: Memory, T: Decode<&'a [u8], M>> DecodeValue<&'a [u8], M> for Containing<T> {

@@ -7,7 +7,7 @@ ghost use Rattle.der_core.specs.Document.{IsDocument};
 ghost use Rattle.der_core.specs.Laws.Length.{IsDocument-prop};
 ghost use Rattle.der_core.specs.Length.{limit};
 ghost use Rattle.der_core.specs.Laws.Printed.Leaves.{any_alike, any_shortest, octets_law};
-ghost use Rattle.der_core.specs.Printed.{Prints};
+ghost use Rattle.der_core.specs.Printed.{Prints, begins_with_any};
 ghost use Rattle.der_core.specs.Reading.{Returns, NoValueOrMemory};
 ghost use Rattle.der_core.specs.Readings.{any_contents, octets_of_all, read_document};
 ghost use Rattle.der_core.specs.Errors.{IsFile};
@@ -59,6 +59,8 @@ impl Contents for AnySequence {
     ghost shortest = { any_shortest };
 
     ghost reads_alike = { any_alike };
+
+    ghost begins = { begins_with_any };
 }
 
 impl TaggedBy for AnySequence {

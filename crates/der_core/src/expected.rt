@@ -1,6 +1,6 @@
 //! An INTEGER that has to be one number, such as the version of a structure that has only one.
 ghost use Rattle.std.specs.Prelude.{◌<◌};
-ghost use Rattle.der_core.specs.Words.{expected, expected_law, nothing_asked, number_contents, one_spelling_shortest, reading_alike};
+ghost use Rattle.der_core.specs.Words.{begins_with_any, expected, expected_law, nothing_asked, number_contents, one_spelling_shortest, reading_alike};
 
 use crate::decode::DecodeValue;
 use crate::encode::EncodeValue;
@@ -39,6 +39,8 @@ impl<const N: u8> Contents for Expected<N> {
     ghost shortest = { one_spelling_shortest (λ _. N < 256) (λ _. number_contents N) };
 
     ghost reads_alike = { reading_alike (expected N) };
+
+    ghost begins = { begins_with_any };
 }
 
 impl<const N: u8> TaggedBy for Expected<N> {

@@ -5,7 +5,7 @@
 //! or both.
 ghost use Rattle.std.specs.Prelude.{◌≡◌, ◌<◌, ℕ, List, length, Decides, refl};
 ghost use Rattle.standard.specs.Statement as standard;
-ghost use Rattle.der_core.specs.Words.{FrontReading, Reading, ReadsAlike, ReadsFrontAlike, ReadsFrontPrinted, ReadsPrinted, Starts, WritesShortest, integer_tag, sequence_tag, tagged, tagged_alike, tagged_law, tagged_shortest, tagged_some, tagged_starts};
+ghost use Rattle.der_core.specs.Words.{Begins, FrontReading, Reading, ReadsAlike, ReadsFrontAlike, ReadsFrontPrinted, ReadsPrinted, Starts, WritesShortest, begins_with_any, integer_tag, sequence_tag, tagged, tagged_alike, tagged_law, tagged_shortest, tagged_some, tagged_starts};
 ghost use Rattle.der_core.specs.declared.tag.Tag.{Tag};
 
 use crate::tag::Tag;
@@ -47,6 +47,10 @@ pub trait Contents {
 
     /// The value that is read is what the spelling means.
     ghost reads_alike: { ReadsAlike read_spelling means read };
+
+    /// Which octets the contents may begin with, if there are any. Rows of parts say it, since an OPTIONAL part may stand in
+    /// front of them.
+    ghost begins: { Begins printed };
 }
 
 /// A type whose values have encodings: those that are printed of their spellings.

@@ -1,6 +1,6 @@
 //! An INTEGER in a range, such as the version of a structure that has several.
 ghost use Rattle.std.specs.Prelude.{◌≡◌, ℕ};
-ghost use Rattle.der_core.specs.Words.{IsInRange, in_range, integer_tag, nothing_asked, number_contents, one_spelling_shortest, ranged, ranged_law, reading_alike};
+ghost use Rattle.der_core.specs.Words.{IsInRange, begins_with_any, in_range, integer_tag, nothing_asked, number_contents, one_spelling_shortest, ranged, ranged_law, reading_alike};
 
 use crate::decode::DecodeValue;
 use crate::encode::EncodeValue;
@@ -49,6 +49,8 @@ impl<const MIN: u8, const MAX: u8> Contents for InRange<MIN, MAX> {
     ghost shortest = { one_spelling_shortest (IsInRange MIN MAX) number_contents };
 
     ghost reads_alike = { reading_alike (ranged MIN MAX) };
+
+    ghost begins = { begins_with_any };
 }
 
 impl<const MIN: u8, const MAX: u8> TaggedBy for InRange<MIN, MAX> {

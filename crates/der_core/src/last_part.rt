@@ -1,15 +1,16 @@
 //! The last part of some contents: one encoding, or an OPTIONAL one.
 ghost use Rattle.std.specs.Prelude.{◌≤◌, Option, length, option_map};
 ghost use Rattle.standard.specs.Statement as standard;
-ghost use Rattle.der_core.specs.Words.{AllocatesAtFront, AllocatesLast, Appends, Checks, RefusedAs, Tlv, alone, alone_alike, last, last_alike, last_by_tag_law, last_law, last_part_asks_as_it, last_shortest, limit, optional_alike, optional_front, tagged, tagged_alike, tagged_shortest};
+ghost use Rattle.der_core.specs.Words.{AllocatesAtFront, AllocatesLast, Appends, Checks, RefusedAs, Tlv, alone, alone_alike, last, last_alike, last_begins, last_by_tag_law, last_law, last_part_asks_as_it, last_shortest, limit, optional_alike, optional_front, tagged, tagged_alike, tagged_shortest, tagged_starts};
 
 use crate::decode::{Decode, DecodeValue, read_optional};
 use crate::encode::{Encode, EncodeValue};
 use crate::error::{Error, ErrorKind, Result};
 use crate::grammar::{Contents, Encoding, FixedTag};
 use crate::memory::Memory;
-use crate::parts::DecodeParts;
+use crate::parts::{DecodeParts, Row};
 use crate::prepend::Prepend;
+use crate::tag::Tag;
 use crate::writer::Writer;
 
 /// An OPTIONAL last part: one encoding, or nothing. Whatever is left is read as the part.
@@ -44,6 +45,8 @@ impl<T: Encoding> Contents for Last<T> {
     ghost shortest = { last_shortest T.shortest };
 
     ghost reads_alike = { last_alike T.reads_alike };
+
+    ghost begins = { last_begins T.starts };
 }
 
 impl<T: Encoding> Contents for BorrowedLast<'_, T> {
@@ -70,6 +73,22 @@ impl<T: Encoding> Contents for BorrowedLast<'_, T> {
     ghost shortest = { last_shortest T.shortest };
 
     ghost reads_alike = { last_alike T.reads_alike };
+
+    ghost begins = { last_begins T.starts };
+}
+
+impl<T: Encoding> Row for Last<T> {
+    #[inline(always)]
+    fn may_begin_with(tag: Tag) -> bool {
+        T::may_start_with(tag)
+    }
+}
+
+impl<T: Encoding> Row for BorrowedLast<'_, T> {
+    #[inline(always)]
+    fn may_begin_with(tag: Tag) -> bool {
+        Last::<T>::may_begin_with(tag)
+    }
 }
 
 impl<'a, M: Memory, T: Decode<&'a [u8], M>> DecodeParts<&'a [u8], M> for Last<T> {
@@ -194,6 +213,15 @@ impl<T: Contents + FixedTag> Contents for LastByTag<T> {
     ghost shortest = { last_shortest (tagged_shortest T.shortest T.TAG.octet) };
 
     ghost reads_alike = { alone_alike (optional_alike (tagged_alike T.reads_alike T.TAG) T.TAG.octet) };
+
+    ghost begins = { last_begins (tagged_starts T.printed T.TAG.octet) };
+}
+
+impl<T: Contents + FixedTag> Row for LastByTag<T> {
+    #[inline(always)]
+    fn may_begin_with(tag: Tag) -> bool {
+        T::TAG.octet() == tag.octet()
+    }
 }
 
 impl<'a, M: Memory, T: DecodeValue<&'a [u8], M> + FixedTag> DecodeParts<&'a [u8], M>

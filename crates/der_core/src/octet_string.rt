@@ -5,6 +5,7 @@ ghost use Rattle.der_core.specs.Readings.{octets_of_all};
 ghost use Rattle.der_core.specs.Laws.Printed.Alike.{reading_alike};
 ghost use Rattle.der_core.specs.Laws.Printed.Leaves.{octets_law};
 ghost use Rattle.der_core.specs.Laws.Printed.Shortest.{one_spelling_shortest};
+ghost use Rattle.der_core.specs.Printed.{begins_with_any};
 ghost use Rattle.der_core.specs.Tags.{octet_string_tag};
 ghost use Rattle.der_core.specs.Encodings.{AreBytes};
 ghost use Rattle.der_core.specs.Laws.Encodings.{nothing_asked};
@@ -100,6 +101,8 @@ impl Contents for OctetStringRef<'_> {
     ghost shortest = { one_spelling_shortest AreBytes (λ o. o) };
 
     ghost reads_alike = { reading_alike octets_of_all };
+
+    ghost begins = { begins_with_any };
 }
 
 impl TaggedBy for OctetStringRef<'_> {

@@ -15,6 +15,7 @@ use crate::integer::{Uint, UintRef};
 use crate::last_part::{Last, LastByTag};
 use crate::octet_string::OctetStringRef;
 use crate::optional_part::OptionalThen;
+use crate::parts::Row;
 use crate::record::InParts;
 use crate::tagged::Tagged;
 
@@ -94,17 +95,8 @@ impl<T: OneContents + FixedTag> OneContents for LastByTag<T> {
     ghost once = { last_once T.OneContents.once };
 }
 
-impl<T, A, B> OneContents for OptionalThen<T, (A, B)>
-where
-    T: OneContents + FixedTag,
-    A: OneEncoding,
-    B: OneContents,
-{
-    ghost once = { row_once (last_once T.OneContents.once) (row_once A.OneEncoding.once B.OneContents.once) };
-}
-
-impl<T: OneContents + FixedTag, A: OneEncoding> OneContents for OptionalThen<T, Last<A>> {
-    ghost once = { row_once (last_once T.OneContents.once) (last_once A.OneEncoding.once) };
+impl<T: OneContents + FixedTag, R: OneContents + Row> OneContents for OptionalThen<T, R> {
+    ghost once = { row_once (last_once T.OneContents.once) R.OneContents.once };
 }
 
 impl<T: OneEncoding> OneContents for Vec<T> {

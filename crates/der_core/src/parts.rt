@@ -1,7 +1,7 @@
 //! Parts of contents in a row, as a type: a nested pair that ends with `()`, as `(A, (B, ()))`, or with an OPTIONAL last
 //! part, as `(A, Last<B>)`. A row is written as contents, `(Borrowed(&self.a), (Borrowed(&self.b), ())).value_len()`.
-ghost use Rattle.std.specs.Prelude.{◌≤◌, ◌⊎◌, List, [], ℕ, length};
-ghost use Rattle.der_core.specs.Words.{AllocatesInParts, Prints, Returns, end_law, limit, no_parts, nothing_asked, one_spelling_shortest, parts, parts_ask_as_each, reading_alike, row, row_alike, row_law, row_shortest};
+ghost use Rattle.std.specs.Prelude.{◌≡◌, ◌≤◌, ◌⊎◌, List, [], ℕ, length};
+ghost use Rattle.der_core.specs.Words.{AllocatesInParts, Prints, Returns, end_law, limit, no_parts, nothing_asked, nothing_begins, one_spelling_shortest, parts, parts_ask_as_each, reading_alike, row, row_alike, row_begins, row_law, row_shortest};
 
 use crate::decode::Decode;
 use crate::encode::{Encode, EncodeValue};
@@ -10,6 +10,7 @@ use crate::grammar::{Contents, Encoding};
 use crate::memory::Memory;
 use crate::prepend::Prepend;
 use crate::reader::Octets;
+use crate::tag::Tag;
 use crate::writer::Writer;
 
 /// Parts that are read from contents. Of these the type's `read` gives the value, or the kind of the first fault. Calls
@@ -25,6 +26,13 @@ pub trait DecodeParts<B: Octets, M: Memory>: Contents + Sized + Drop {
 
     /// Memory is asked for only where there is any.
     ghost asks_memory: { (c : List ℕ) → Self.may_allocate c → M.gives };
+}
+
+/// A row that is asked which tags it may begin with, so that an OPTIONAL part can stand in front of it.
+pub trait Row: Contents {
+    /// False only if no row of the type begins with the octet of the tag.
+    fn may_begin_with(tag: Tag) -> bool
+        ensures { result ≡ Self.begins.with tag.octet };
 }
 
 impl Contents for () {
@@ -51,6 +59,8 @@ impl Contents for () {
     ghost shortest = { one_spelling_shortest (λ _. Unit {0}) (λ _. []) };
 
     ghost reads_alike = { reading_alike no_parts };
+
+    ghost begins = { nothing_begins };
 }
 
 impl<A: Encoding, B: Contents> Contents for (A, B) {
@@ -77,6 +87,22 @@ impl<A: Encoding, B: Contents> Contents for (A, B) {
     ghost shortest = { row_shortest A.shortest B.shortest };
 
     ghost reads_alike = { row_alike A.reads_alike B.reads_alike };
+
+    ghost begins = { row_begins A.starts B.printed };
+}
+
+impl Row for () {
+    #[inline(always)]
+    fn may_begin_with(_tag: Tag) -> bool {
+        false
+    }
+}
+
+impl<A: Encoding, B: Contents> Row for (A, B) {
+    #[inline(always)]
+    fn may_begin_with(tag: Tag) -> bool {
+        A::may_start_with(tag)
+    }
 }
 
 impl<'a, M: Memory> DecodeParts<&'a [u8], M> for () {

@@ -194,6 +194,8 @@ impl<T: Record> Contents for T {
     ghost shortest = { T.Fields.shortest };
 
     ghost reads_alike = { T.Fields.reads_alike };
+
+    ghost begins = { T.Fields.begins };
 }
 
 impl<T: Record> InParts for T {

@@ -1,7 +1,7 @@
 //! SEQUENCE OF (X.690 8.10), as a `Vec` of its items.
 ghost use Rattle.std.specs.Prelude.{◌≤◌, List, length, map};
 ghost use Rattle.std.specs.List.{AllByRecursion, concat};
-ghost use Rattle.der_core.specs.Words.{limit, RefusedAs, AllocatesForItems, AllHave, all_encodings, items, Checks, Appends, Prints, items_alike, items_law, list_shortest};
+ghost use Rattle.der_core.specs.Words.{begins_with_any, limit, RefusedAs, AllocatesForItems, AllHave, all_encodings, items, Checks, Appends, Prints, items_alike, items_law, list_shortest};
 
 use crate::decode::{Decode, DecodeValue};
 use crate::encode::{Encode, EncodeValue};
@@ -36,6 +36,8 @@ impl<T: Encoding> Contents for Vec<T> {
     ghost shortest = { list_shortest T.shortest };
 
     ghost reads_alike = { items_alike T.reads_alike };
+
+    ghost begins = { begins_with_any };
 }
 
 impl<T> TaggedBy for Vec<T> {

@@ -60,6 +60,8 @@ impl<M, C: Contents> Contents for Tagged<M, C> {
     ghost shortest = { C.shortest };
 
     ghost reads_alike = { C.reads_alike };
+
+    ghost begins = { C.begins };
 }
 
 impl<M: TagMarker, C> TaggedBy for Tagged<M, C> {

@@ -1,7 +1,7 @@
 //! A record with a part that is there or not, in front of another.
 ghost use Rattle.std.specs.Prelude.{◌≡◌, ◌⊎◌, ◌∷◌, [], IfErr, length, bytes_eq};
 ghost use Rattle.standard.specs.Statement as standard;
-ghost use Rattle.der_core.specs.Words.{Answers, Spells, Unwritten, boolean_tag, encode_error, itself_once, nothing_asked, ok_of, one_spelling_shortest, reading_alike, whole};
+ghost use Rattle.der_core.specs.Words.{Answers, Spells, Unwritten, begins_with_any, boolean_tag, encode_error, itself_once, nothing_asked, ok_of, one_spelling_shortest, reading_alike, whole};
 ghost use Rattle.examples.specs.Extension.{IsTrueOctet, critical_part, true_law, true_octets, true_read};
 
 use der_core::{
@@ -40,6 +40,8 @@ impl Contents for True {
     ghost shortest = { one_spelling_shortest IsTrueOctet true_octets };
 
     ghost reads_alike = { reading_alike true_read };
+
+    ghost begins = { begins_with_any };
 }
 
 impl TaggedBy for True {

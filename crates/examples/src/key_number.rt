@@ -2,7 +2,7 @@
 ghost use Rattle.std.specs.Prelude.{ℕ};
 ghost use Rattle.std.specs.Int.Digits.{number_from_digits};
 ghost use Rattle.standard.specs.Statement.{Encodes, PublicKeyEncoding};
-ghost use Rattle.der_core.specs.Words.{bytes_of, nothing_asked, number_contents, number_law, number_of, numbers_encode, ok_of, one_spelling_shortest, reading_alike};
+ghost use Rattle.der_core.specs.Words.{begins_with_any, bytes_of, nothing_asked, number_contents, number_law, number_of, numbers_encode, ok_of, one_spelling_shortest, reading_alike};
 ghost use Rattle.pkcs1.specs.Words.{held_public_key};
 
 use der_core::{
@@ -50,6 +50,8 @@ impl Contents for KeyNumber<'_> {
     ghost shortest = { one_spelling_shortest (λ _. Unit {0}) number_contents };
 
     ghost reads_alike = { reading_alike number_of };
+
+    ghost begins = { begins_with_any };
 }
 
 impl TaggedBy for KeyNumber<'_> {

@@ -3,7 +3,7 @@ ghost use Rattle.std.specs.Prelude.{◌≡◌, [], ◌≤◌, List, ℕ, length,
 ghost use Rattle.std.specs.List.{AllByRecursion};
 ghost use Rattle.std.specs.Iterator.{UpTo, YieldsFirstBy, item_count};
 ghost use Rattle.std.specs.Iterator.SizeHint.{IsWithinCount};
-ghost use Rattle.der_core.specs.Words.{AreBytes, bytes_of, limit, nothing_asked, one_spelling_shortest, reading_alike};
+ghost use Rattle.der_core.specs.Words.{AreBytes, begins_with_any, bytes_of, limit, nothing_asked, one_spelling_shortest, reading_alike};
 ghost use Rattle.pkcs1.specs.KeyReadings.{number_front, primes_read};
 ghost use Rattle.pkcs1.specs.Keys.{OtherRow};
 ghost use Rattle.pkcs1.specs.Laws.PrimesHeld.{HoldsPrimes-prop};
@@ -124,6 +124,8 @@ impl Contents for OtherPrimes<'_> {
         (primes_printed standard.integer) };
 
     ghost reads_alike = { reading_alike (primes_read number_front) };
+
+    ghost begins = { begins_with_any };
 }
 
 impl TaggedBy for OtherPrimes<'_> {

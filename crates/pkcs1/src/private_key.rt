@@ -1,6 +1,6 @@
 //! RSA private keys.
 ghost use Rattle.std.specs.Prelude.{◌≡◌, ◌↔◌, ◌⊎◌, ⊤, IsSome, IsErrAnd};
-ghost use Rattle.der_core.specs.Words.{Appends, Checks, Counts, RefusedAs, bytes_of, sequence_tag};
+ghost use Rattle.der_core.specs.Words.{Appends, Checks, Counts, RefusedAs, begins_with_any, bytes_of, sequence_tag};
 ghost use Rattle.pkcs1.specs.Words.{AllocatesForKey, ListsNone, PrivateIsValid, PrivateRow, held_private_key, held_public_key, private_alike, private_as, private_key_read, private_key_with, private_law, private_printed, private_shortest, public_part};
 
 mod der;
@@ -135,6 +135,8 @@ impl<U: Encoding> Contents for RsaPrivateKey<U> {
     ghost shortest = { private_shortest U.shortest };
 
     ghost reads_alike = { private_alike U.reads_alike };
+
+    ghost begins = { begins_with_any };
 }
 
 impl<U, O> TaggedBy for PrivateKeyOf<U, O> {

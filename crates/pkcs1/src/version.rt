@@ -4,7 +4,7 @@ ghost use Rattle.std.proofs.Common.{rules};
 ghost use Rattle.std.specs.Cmp.{partial_order_from_own_ties};
 ghost use Rattle.std.specs.Cmp.Rules.{comparing};
 ghost use Rattle.std.specs.Ordering.{on, nat_cmp, as_partial_cmp};
-ghost use Rattle.der_core.specs.Words.{nothing_asked, number_contents, reading_alike};
+ghost use Rattle.der_core.specs.Words.{begins_with_any, nothing_asked, number_contents, reading_alike};
 ghost use Rattle.pkcs1.specs.Words.{IsVersionOf, version_law, version_number, version_read, version_shortest};
 
 use der_core::{
@@ -127,6 +127,8 @@ impl Contents for Version {
     ghost shortest = { version_shortest };
 
     ghost reads_alike = { reading_alike version_read };
+
+    ghost begins = { begins_with_any };
 }
 
 impl TaggedBy for Version {

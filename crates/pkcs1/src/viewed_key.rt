@@ -1,6 +1,6 @@
 //! The numbers of a private key over the input, and where its other primes lie: what `RsaPrivateKeyView` reads.
 ghost use Rattle.std.specs.Prelude.{◌≡◌, ◌≤◌, ℕ, length, option_map};
-ghost use Rattle.der_core.specs.Words.{Answers, bytes_of, limit, nothing_asked, one_spelling_shortest, reading_alike};
+ghost use Rattle.der_core.specs.Words.{Answers, begins_with_any, bytes_of, limit, nothing_asked, one_spelling_shortest, reading_alike};
 ghost use Rattle.pkcs1.specs.Words.{AnyNumber, PrivateIsValid, PrivateRow, integer_law, key_with, number_front, number_in, others_left, others_read, private_key_read, private_law, private_printed, version_number};
 ghost use Rattle.standard.specs.Statement as standard;
 
@@ -73,6 +73,8 @@ impl Contents for ViewedKey<'_> {
     ghost shortest = { one_spelling_shortest (PrivateIsValid AnyNumber) (private_printed standard.integer) };
 
     ghost reads_alike = { reading_alike (private_key_read number_front) };
+
+    ghost begins = { begins_with_any };
 }
 
 impl<'a> DecodeValue<&'a [u8], NoMemory> for ViewedKey<'a> {

@@ -1,6 +1,6 @@
 //! Private keys that the caller passes.
 ghost use Rattle.std.specs.Prelude.{◌≡◌, ℕ, IfErr, IfOk, OnOk};
-ghost use Rattle.der_core.specs.Words.{one_spelling_shortest, reading_alike};
+ghost use Rattle.der_core.specs.Words.{begins_with_any, one_spelling_shortest, reading_alike};
 ghost use Rattle.pkcs1.specs.Words.{AnyNumber, PrivateIsValid, PrivateRow, integer_law, number_front as number_at, private_key_read, private_law, private_printed};
 ghost use Rattle.pkcs1_c.specs.Words.{NoStatus, NumbersError, given_key, given_numbers, held_given_key, private_key_seen, status_of};
 ghost use Rattle.standard.specs.Statement.{integer};
@@ -66,6 +66,8 @@ impl Contents for GivenKey<'_> {
     ghost shortest = { one_spelling_shortest (PrivateIsValid AnyNumber) (private_printed integer) };
 
     ghost reads_alike = { reading_alike (private_key_read number_at) };
+
+    ghost begins = { begins_with_any };
 }
 
 impl TaggedBy for GivenKey<'_> {

@@ -1,6 +1,6 @@
 //! Other primes that the caller passes, written from the caller's array.
 ghost use Rattle.std.specs.Prelude.{◌≡◌, ◌≤◌, ◌<◌, length, IfOk, IfErr, OnOk};
-ghost use Rattle.der_core.specs.Words.{Appends, bytes_of, limit};
+ghost use Rattle.der_core.specs.Words.{Appends, begins_with_any, bytes_of, limit};
 ghost use Rattle.pkcs1.specs.Words.{held_other_prime};
 ghost use Rattle.pkcs1_c.specs.PrimeLists.{given_encoded};
 ghost use Rattle.pkcs1_c.specs.Status.{NoStatus, status_of};
@@ -117,6 +117,8 @@ impl Contents for GivenPrimes<'_> {
     ghost shortest = { one_spelling_shortest (AllByRecursion (OtherIsValid AnyNumber)) (primes_printed integer) };
 
     ghost reads_alike = { reading_alike (primes_read number_front) };
+
+    ghost begins = { begins_with_any };
 }
 
 impl TaggedBy for GivenPrimes<'_> {

@@ -3,7 +3,7 @@ use Rattle.std.proofs.Common.{ℕ, Bool, List, [], ◌∷◌, ◌≡◌, ◌≤�
 use Rattle.der_core.specs.declared.error.ErrorKind.{ErrorKind}
 use Rattle.der_core.specs.declared.error.ErrorKind.TheVariants.{TrailingData}
 use Rattle.der_core.specs.Words.{AreBytes, ◌>>=◌, alone, ended, limit, octets_of_all, ok_of, sequence_tag, tagged, whole, limited_is}
-use Rattle.der_core.proofs.QuickReading.{read_inside}
+use Rattle.der_core.proofs.Splitting.{read_inside}
 use Rattle.der_core.proofs.ReadSteps.{fault_inside, split_errs}
 use Rattle.spki_core.specs.Words.{FieldRecord, noted_accepted, record_noted, record_whole, strict_whole}
 use Rattle.spki_core.proofs.Noting.{slice_noted, unless_strict, value_accepted, value_rejected}

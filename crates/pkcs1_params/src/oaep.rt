@@ -1,6 +1,7 @@
 //! Parameters of RSAES-OAEP (RFC 8017 A.2.1). `try_from` and `from_der_strict` read them by the functions of
 //! `reading.rt`.
 ghost use Rattle.std.specs.Prelude.{◌≡◌, ◌↔◌, [], None};
+ghost use Rattle.der_core.specs.Words.{begins_with_any};
 ghost use Rattle.pkcs1_params.specs.Words.{IsEncoded, OaepParameters, fault_in, oaep_in, oaep_kinds, oaep_read, oaep_record, rsa_oaep_params, strict_oaep_params};
 ghost use Rattle.spki_core.specs.Words.{AreSpelled, Spelling, any_of, record_alike, record_law, record_means, record_shortest, record_under, spelling_printed, spelling_read};
 ghost use Rattle.standard.specs.Statement.{OaepEncoding, empty_label, mgf1_sha1, sha1};
@@ -126,6 +127,8 @@ impl<O: IdentifierValue, P: AnyValue> Contents for OaepParamsOf<O, P> {
     ghost shortest = { record_shortest oaep_record };
 
     ghost reads_alike = { record_alike oaep_record };
+
+    ghost begins = { begins_with_any };
 }
 
 impl<O, P> TaggedBy for OaepParamsOf<O, P> {

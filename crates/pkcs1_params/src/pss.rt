@@ -1,6 +1,7 @@
 //! Parameters of RSASSA-PSS (RFC 8017 A.2.3). `try_from` and `from_der_strict` read them by the functions of
 //! `reading.rt`.
 ghost use Rattle.std.specs.Prelude.{◌≡◌, ◌↔◌, None, refl};
+ghost use Rattle.der_core.specs.Words.{begins_with_any};
 ghost use Rattle.pkcs1_params.specs.Words.{IsEncoded, PssParameters, fault_in, id_mgf1, pss_in, pss_kinds, pss_of, pss_read, pss_record, pss_with, rsa_pss_params, strict_pss_params, with_parameters};
 ghost use Rattle.spki_core.specs.Words.{AreSpelled, Spelling, any_of, null_value, record_alike, record_law, record_means, record_shortest, record_under, spelling_printed, spelling_read};
 ghost use Rattle.standard.specs.Statement.{PssEncoding, mgf1_sha1, sha1};
@@ -129,6 +130,8 @@ impl<O: IdentifierValue, P: AnyValue> Contents for PssParamsOf<O, P> {
     ghost shortest = { record_shortest pss_record };
 
     ghost reads_alike = { record_alike pss_record };
+
+    ghost begins = { begins_with_any };
 }
 
 impl<O, P> TaggedBy for PssParamsOf<O, P> {

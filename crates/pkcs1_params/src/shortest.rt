@@ -1,5 +1,6 @@
 //! Parameters as their shortest encoding.
 ghost use Rattle.std.specs.Prelude.{◌≡◌};
+ghost use Rattle.der_core.specs.Words.{begins_with_any};
 ghost use Rattle.spki_core.specs.Words.{AreSpelled, are_defaults, record_alike, record_fields, record_law, record_means, record_read, record_shortest, record_under, spelling_printed, spelling_read, viewed_with};
 ghost use Rattle.spki_core.specs.FieldSpellings as spellings;
 ghost use Rattle.pkcs1_params.specs.DefaultBits.{bits_of};
@@ -70,6 +71,8 @@ impl<T: EncodeParams> Contents for Shortest<T> {
     ghost shortest = { record_shortest T.form };
 
     ghost reads_alike = { record_alike T.form };
+
+    ghost begins = { begins_with_any };
 }
 
 impl<T: EncodeParams> TaggedBy for Shortest<T> {

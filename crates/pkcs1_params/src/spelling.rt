@@ -1,6 +1,6 @@
 //! Spellings of parameters: a mask says which of their defaults are written.
 ghost use Rattle.std.specs.Prelude.{◌≡◌, ◌≤◌, ◌<◌, ⊤, List, length, IfErr, IfOk};
-ghost use Rattle.der_core.specs.Words.{limit, ok_of, one_spelling_shortest, reading_alike};
+ghost use Rattle.der_core.specs.Words.{begins_with_any, limit, ok_of, one_spelling_shortest, reading_alike};
 ghost use Rattle.der_core.specs.declared.error.ErrorKind.{ErrorKind};
 ghost use Rattle.spki_core.specs.Words.{AreSpelled, FieldRecord, are_defaults, record_fields, record_law, record_under, spelling_printed, spelling_read};
 ghost use Rattle.spki_core.specs.FieldSpellings as spellings;
@@ -136,6 +136,8 @@ impl<T: EncodeParams> Contents for Spelling<T> {
     ghost shortest = { one_spelling_shortest (AreSpelled T.form.kinds) (spelling_printed T.form.kinds) };
 
     ghost reads_alike = { reading_alike (spelling_read T.form.kinds) };
+
+    ghost begins = { begins_with_any };
 }
 
 impl<T: EncodeParams> TaggedBy for Spelling<T> {

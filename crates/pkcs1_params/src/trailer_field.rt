@@ -1,6 +1,6 @@
 //! The trailer field of RSASSA-PSS.
 ghost use Rattle.std.specs.Prelude.{◌≡◌, ℕ, refl};
-ghost use Rattle.der_core.specs.Words.{nothing_asked, number_contents, one_spelling_shortest, reading_alike};
+ghost use Rattle.der_core.specs.Words.{begins_with_any, nothing_asked, number_contents, one_spelling_shortest, reading_alike};
 ghost use Rattle.pkcs1_params.specs.Words.{trailer_law, trailer_read};
 
 use der_core::{
@@ -49,6 +49,8 @@ impl Contents for TrailerField {
     ghost shortest = { one_spelling_shortest (λ n. n ≡ 1) number_contents };
 
     ghost reads_alike = { reading_alike trailer_read };
+
+    ghost begins = { begins_with_any };
 }
 
 impl TaggedBy for TrailerField {

@@ -1,6 +1,6 @@
 //! The attributes of containers, as opaque bytes.
 ghost use Rattle.std.specs.Prelude.{◌≡◌, ◌<◌, ◌^◌, ℕ, List, length, slice_index};
-ghost use Rattle.der_core.specs.Words.{AreBytes, itself_once, nothing_asked, octets_law, octets_of_all, one_spelling_shortest, reading_alike};
+ghost use Rattle.der_core.specs.Words.{AreBytes, begins_with_any, itself_once, nothing_asked, octets_law, octets_of_all, one_spelling_shortest, reading_alike};
 ghost use Rattle.pkcs8_core.specs.Tags.{attributes_tag};
 
 use pkcs1::der::{
@@ -63,6 +63,8 @@ impl Contents for Attributes<'_> {
     ghost shortest = { one_spelling_shortest AreBytes (λ octets. octets) };
 
     ghost reads_alike = { reading_alike octets_of_all };
+
+    ghost begins = { begins_with_any };
 }
 
 impl TaggedBy for Attributes<'_> {

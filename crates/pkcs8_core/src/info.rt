@@ -1,6 +1,6 @@
 //! PKCS #8 containers of private keys.
 ghost use Rattle.std.specs.Prelude.{◌≡◌, ◌⊎◌, ⊤, ℕ, List, length, IfErr, option_map};
-ghost use Rattle.der_core.specs.Words.{Answers, AreBytes, Excludes, reading_alike, encode_error, itself_once, made_errs, ok_of, one_spelling_shortest, value_in, Unwritten};
+ghost use Rattle.der_core.specs.Words.{Answers, AreBytes, Excludes, begins_with_any, reading_alike, encode_error, itself_once, made_errs, ok_of, one_spelling_shortest, value_in, Unwritten};
 ghost use Rattle.pkcs1.specs.Words.{AreStated};
 ghost use Rattle.pkcs8_core.specs.Words.{Container, IsContainer, attributes_of, container_law, container_printed, info_in, info_of, info_read, of_info_parts, private_key_info, rsa_private_key_info, slice_now};
 ghost use Rattle.pkcs8_core.specs.declared.info.PrivateKeyInfoOf as containers;
@@ -86,6 +86,8 @@ impl<O: IdentifierValue> Contents for PrivateKeyInfoOf<'_, O> {
     ghost shortest = { one_spelling_shortest IsContainer container_printed };
 
     ghost reads_alike = { reading_alike info_read };
+
+    ghost begins = { begins_with_any };
 }
 
 impl<O> TaggedBy for PrivateKeyInfoOf<'_, O> {

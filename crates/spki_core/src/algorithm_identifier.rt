@@ -1,6 +1,7 @@
 //! Algorithm identifiers (RFC 5280 4.1.1.2).
 ghost use Rattle.std.specs.Prelude.{◌≡◌, ◌≢◌, ◌⊎◌, IfOk, IfErr, IfSome, IsOk, option_map, Some, None, Decides};
 ghost use Rattle.std.specs.Option.{unwrap_or};
+ghost use Rattle.der_core.specs.Words.{begins_with_any};
 ghost use Rattle.spki_core.specs.Words.{Algorithm, AllocatesForParameters, AreSameHash, IsHash, NothingAskedAlone, TagAndContents, algorithm_alike, algorithm_asks_as_parameters, algorithm_contents, algorithm_decides, algorithm_in, algorithm_law, algorithm_map, algorithm_read, algorithm_with, algorithm_writes_shortest, any_of, identifier_octets, null_value, own_octets_of, viewed_with};
 ghost use Rattle.standard.specs.Statement as standard;
 
@@ -76,6 +77,8 @@ impl<O: IdentifierValue, P: Encoding> Contents for AlgorithmIdentifierOf<O, P> {
     ghost shortest = { algorithm_writes_shortest P.shortest };
 
     ghost reads_alike = { algorithm_alike P.reads_alike };
+
+    ghost begins = { begins_with_any };
 }
 
 impl<O, P> TaggedBy for AlgorithmIdentifierOf<O, P> {

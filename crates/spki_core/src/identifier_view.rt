@@ -2,7 +2,7 @@
 ghost use Rattle.std.specs.Prelude.{◌≡◌, ℕ, ◌<◌, List, slice_index, IsTrue, IfOk, IfErr};
 ghost use Rattle.spki_core.specs.IdentifierTest as specs;
 ghost use Rattle.spki_core.specs.Identifiers.{IsIdentifier};
-ghost use Rattle.der_core.specs.Words.{Answers, nothing_asked, one_spelling_shortest, reading_alike};
+ghost use Rattle.der_core.specs.Words.{Answers, begins_with_any, nothing_asked, one_spelling_shortest, reading_alike};
 ghost use Rattle.spki_core.specs.Readings.{identifier_read};
 ghost use Rattle.spki_core.specs.Laws.Printed.Readings.{oid_law};
 ghost use Rattle.standard.specs.Statement as standard;
@@ -146,6 +146,8 @@ impl Contents for IdentifierView<'_> {
     ghost shortest = { one_spelling_shortest standard.IsIdentifier (λ oid. oid) };
 
     ghost reads_alike = { reading_alike identifier_read };
+
+    ghost begins = { begins_with_any };
 }
 
 impl TaggedBy for IdentifierView<'_> {

@@ -7,7 +7,7 @@ ghost use Rattle.der_core.specs.IntegerReading.{WhyNoNumber, IsOutOfMemoryForNum
 ghost use Rattle.der_core.specs.Laws.Printed.Alike.{reading_alike};
 ghost use Rattle.der_core.specs.Laws.Printed.Leaves.{number_law, numbers_encode};
 ghost use Rattle.der_core.specs.Laws.Printed.Shortest.{one_spelling_shortest};
-ghost use Rattle.der_core.specs.Printed.{number_contents, number_of};
+ghost use Rattle.der_core.specs.Printed.{begins_with_any, number_contents, number_of};
 
 use super::uint::{AsUintRef, UintEncoding, UintRef};
 use crate::decode::DecodeValue;
@@ -123,6 +123,8 @@ impl Contents for Uint {
     ghost shortest = { one_spelling_shortest (λ _. Unit {0}) number_contents };
 
     ghost reads_alike = { reading_alike number_of };
+
+    ghost begins = { begins_with_any };
 }
 
 impl TaggedBy for Uint {

@@ -1,6 +1,6 @@
 //! INTEGER from 0 to 255, as `u8`.
 ghost use Rattle.std.specs.Prelude.{◌≤◌, ◌<◌, ℕ, length};
-ghost use Rattle.der_core.specs.Words.{Answers, limit, nothing_asked, number_contents, one_spelling_shortest, reading_alike, small_law, small_of};
+ghost use Rattle.der_core.specs.Words.{Answers, begins_with_any, limit, nothing_asked, number_contents, one_spelling_shortest, reading_alike, small_law, small_of};
 
 use crate::decode::DecodeValue;
 use crate::encode::EncodeValue;
@@ -49,6 +49,8 @@ impl Contents for u8 {
     ghost shortest = { one_spelling_shortest (λ n. n < 256) number_contents };
 
     ghost reads_alike = { reading_alike small_of };
+
+    ghost begins = { begins_with_any };
 }
 
 impl TaggedBy for u8 {

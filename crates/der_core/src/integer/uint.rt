@@ -7,7 +7,7 @@ ghost use Rattle.der_core.specs.IntegerReading.{integer_of, Answers, WhyNoNumber
 ghost use Rattle.der_core.specs.Laws.Printed.Alike.{reading_alike};
 ghost use Rattle.der_core.specs.Laws.Printed.Leaves.{number_law, numbers_encode};
 ghost use Rattle.der_core.specs.Laws.Printed.Shortest.{one_spelling_shortest};
-ghost use Rattle.der_core.specs.Printed.{Prints, number_contents, number_of};
+ghost use Rattle.der_core.specs.Printed.{Prints, begins_with_any, number_contents, number_of};
 ghost use Rattle.der_core.specs.Laws.Encodings.{nothing_asked};
 ghost use Rattle.der_core.specs.Writing.{Appends};
 
@@ -195,6 +195,8 @@ impl<'a> Contents for UintRef<'a> {
     ghost shortest = { one_spelling_shortest (λ _. Unit {0}) number_contents };
 
     ghost reads_alike = { reading_alike number_of };
+
+    ghost begins = { begins_with_any };
 }
 
 impl<'a> TaggedBy for UintRef<'a> {

@@ -1,7 +1,7 @@
 //! A private key as it is written: a row of its parts. The compiler takes rows of seven parts at most, so the end of
 //! the row is a type of its own.
 ghost use Rattle.std.specs.Prelude.{◌≡◌, ◌⊎◌, Option, option_map};
-ghost use Rattle.der_core.specs.Words.{last, last_alike, last_law, last_shortest, parts, row_alike, row_law, row_shortest};
+ghost use Rattle.der_core.specs.Words.{begins_with_any, last, last_alike, last_law, last_shortest, parts, row_alike, row_law, row_shortest};
 ghost use Rattle.pkcs1.specs.Words.{ThreeNumbersAreValid, ThreeNumbersThen, crt_with, key_row, parts_row, three_numbers_as, three_numbers_printed};
 ghost use Rattle.standard.specs.Statement.{IfPresent, optional};
 
@@ -40,6 +40,8 @@ impl<'b, U: Encoding, O: Encoding> Contents for CrtParts<'b, U, O> {
 
     ghost reads_alike = { let law = U.reads_alike in
         row_alike law (row_alike law (row_alike law (last_alike O.reads_alike))) };
+
+    ghost begins = { begins_with_any };
 }
 
 /// They in a row, borrowed.

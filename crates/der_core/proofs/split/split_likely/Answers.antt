@@ -2,7 +2,7 @@
 -- `in-len2-up-rest` the arm `[high, low, left @ ..]`. At each exit `split_at_checked` splits off as many octets as the
 -- length octets say: these are the contents.
 use Rattle.std.proofs.Common.{arith, refl, ◌∙◌}
-use Rattle.der_core.proofs.QuickReading.{short_found, two_found, three_found}
+use Rattle.der_core.proofs.Splitting.{short_found, two_found, three_found}
 use Rattle.der_core.proofs.split.split_likely.Goals as goal
 
 -- The length is `form`, which is below 128.

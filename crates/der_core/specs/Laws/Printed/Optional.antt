@@ -1,5 +1,5 @@
 -- Parts that are there or not, rows in front of others, numbers in a range.
-use Rattle.std.proofs.Common.{ℕ, true, false, List, [], ◌∷◌, ◌++◌, ◌≡◌, ◌<◌, ◌≤◌, length, refl, sym, subst, ap, ◌∙◌, arith, ⊎_elim, length-append, append-nil, append_assoc, Option, Some, None, Ok, Err, Bool, ◌==◌}
+use Rattle.std.proofs.Common.{ℕ, true, false, List, [], ◌∷◌, ◌++◌, ◌≡◌, ◌<◌, ◌≤◌, length, refl, sym, subst, ap, ◌∙◌, arith, ⊎_elim, length-append, append-nil, append_assoc, Option, Some, None, Ok, Err, Bool, ◌==◌, ◌||◌}
 use Rattle.std.proofs.lemmas.Bool.Decides.{nat_tests}
 use Rattle.der_core.specs.declared.error.ErrorKind.{ErrorKind}
 use Rattle.der_core.specs.declared.tag.Tag.{Tag}
@@ -9,7 +9,7 @@ use Rattle.der_core.specs.Laws.OptionalReadings.{optional_is, optional_tells}
 use Rattle.der_core.specs.Laws.Printed.Rows.{alone_law, tagged_law, reads_printed_as, such_law}
 use Rattle.der_core.specs.Laws.Readings.{back_bytes, bind_err, bind_ok, ended_is, ended_tells, made_tells, ok_injective}
 use Rattle.der_core.specs.Length.{limit}
-use Rattle.der_core.specs.Printed.{ReadsFrontPrinted, ReadsPrinted, ReadsAlike, Starts, WritesShortest, number_contents, row}
+use Rattle.der_core.specs.Printed.{ReadsFrontPrinted, ReadsPrinted, ReadsAlike, Begins, Starts, WritesShortest, number_contents, row, true_is_not_false}
 use Rattle.der_core.specs.Reading.{TellsOfBytes}
 use Rattle.der_core.specs.Readings.{FrontReading, Reading, alone, chain, ended, front_done, front_parts, is_next, last, optional_front, parts, tagged, ◌>>=◌, ReadsFronts, in_range, ranged, unless}
 use Rattle.standard.specs.Statement.{IfPresent, optional, tlv}
@@ -243,38 +243,51 @@ pub unless_alike : {S V : Type 0} {means : S → V} {read : Reading S} {old : Re
 unless_alike true failure law = record { same = λ c. refl }
 unless_alike false failure law = law
 
--- == An OPTIONAL part with a tag, in front of a part that begins with another octet ==
+-- == Which octets encodings and rows begin with ==
+neither : (a b : Bool) → (a || b) ≡ false → (a ≡ false) × (b ≡ false)
+neither true b e = true_is_not_false e
+neither false b e = (refl, e)
+
 abbrev pub tagged_starts : {S : Type 0} (printed : S → List ℕ) (tag : ℕ) → Starts (λ s. tlv tag (printed s))
 tagged_starts printed tag = record { with = λ t. tag == t; only = λ s rest t isnt. isnt }
 
-module _ {A B C : Type 0} {IsA : A → Type 0} {IsB : B × C → Type 0} {first : A → List ℕ} {second : B → List ℕ}
-    (rest : C → List ℕ) {inner : Reading A} {read : Reading (B × C)} (one : ReadsPrinted IsA first inner)
-    (more : ReadsPrinted IsB (row second rest) read) (tag : Tag) (starts : Starts second) where
-  pub optional_part_law : ReadsPrinted (λ s. IfPresent IsA s.0 × ((starts.with tag.octet ≡ false) × IsB s.1))
-      (row (optional (λ x. tlv tag.octet (first x))) (row second rest))
-      (parts (optional_front tag.octet (tagged tag inner)) (unless (starts.with tag.octet) (Value tag) read))
+abbrev pub nothing_begins : Begins (λ (_ : Unit {0}). [])
+nothing_begins = record { with = λ _. false; only = λ s t isnt. refl }
+
+pub last_begins_only : {A : Type 0} {first : A → List ℕ} (starts : Starts first) (o : Option A) (t : ℕ)
+    → starts.with t ≡ false → is_next t (optional first o) ≡ false
+last_begins_only starts None t isnt = refl
+last_begins_only {first = first} starts (Some s) t isnt =
+    ap (is_next t) (sym (append-nil (first s))) ∙ starts.only s [] t isnt
+
+abbrev pub last_begins : {A : Type 0} {first : A → List ℕ} → Starts first → Begins (optional first)
+last_begins starts = record { with = starts.with; only = last_begins_only starts }
+
+module _ {A B : Type 0} {first : A → List ℕ} (starts : Starts first) where
+  abbrev pub row_begins : (rest : B → List ℕ) → Begins (row first rest)
+  row_begins rest = record { with = starts.with; only = λ s t isnt. starts.only s.0 (rest s.1) t isnt }
+
+  pub optional_begins_only : {rest : B → List ℕ} (begins : Begins rest) (s : Option A × B) (t : ℕ)
+      → (starts.with t || begins.with t) ≡ false → is_next t (row (optional first) rest s) ≡ false
+  optional_begins_only begins (None, r) t isnt = begins.only r t (neither (starts.with t) (begins.with t) isnt).1
+  optional_begins_only {rest = rest} begins (Some s, r) t isnt =
+      starts.only s (rest r) t (neither (starts.with t) (begins.with t) isnt).0
+
+  abbrev pub optional_begins : {rest : B → List ℕ} → Begins rest → Begins (row (optional first) rest)
+  optional_begins begins =
+      record { with = λ t. starts.with t || begins.with t; only = optional_begins_only begins }
+
+-- == An OPTIONAL part with a tag, in front of a row that begins with another octet ==
+module _ {A B : Type 0} {IsA : A → Type 0} {IsB : B → Type 0} {first : A → List ℕ} {rest : B → List ℕ}
+    {inner : Reading A} {read : Reading B} (one : ReadsPrinted IsA first inner) (more : ReadsPrinted IsB rest read)
+    (tag : Tag) (begins : Begins rest) where
+  pub optional_part_law : ReadsPrinted (λ s. IfPresent IsA s.0 × ((begins.with tag.octet ≡ false) × IsB s.1))
+      (row (optional (λ x. tlv tag.octet (first x))) rest)
+      (parts (optional_front tag.octet (tagged tag inner)) (unless (begins.with tag.octet) (Value tag) read))
   optional_part_law =
-      optional_row_law (tagged_law one tag) (unless_law (starts.with tag.octet) (Value tag) (value_error_tells refl) more) tag.octet
-      (λ s c. grind (arith, nat_tests)) (λ s ok. starts.only s.0 (rest s.1) tag.octet ok.0)
-
--- The same in front of a last part that is there or not.
-module _ {A B : Type 0} {IsA : A → Type 0} {IsB : B → Type 0} {first : A → List ℕ} {second : B → List ℕ}
-    {inner : Reading A} {at : FrontReading B} (one : ReadsPrinted IsA first inner)
-    (more : ReadsFrontPrinted IsB second at) (some : (b : B) → 0 < length (second b)) (tag : Tag)
-    (starts : Starts second) where
-  last_starts_otherwise : (o : Option B) → (starts.with tag.octet ≡ false) × IfPresent IsB o
-      → is_next tag.octet (optional second o) ≡ false
-  last_starts_otherwise None ok = refl
-  last_starts_otherwise (Some b) ok =
-      ap (is_next tag.octet) (sym (append-nil (second b))) ∙ starts.only b [] tag.octet ok.0
-
-  pub optional_last_law : ReadsPrinted (λ s. IfPresent IsA s.0 × ((starts.with tag.octet ≡ false) × IfPresent IsB s.1))
-      (row (optional (λ x. tlv tag.octet (first x))) (optional second))
-      (parts (optional_front tag.octet (tagged tag inner)) (unless (starts.with tag.octet) (Value tag) (last at)))
-  optional_last_law =
       optional_row_law (tagged_law one tag)
-      (unless_law (starts.with tag.octet) (Value tag) (value_error_tells refl) (last_law more some)) tag.octet
-      (λ s c. grind (arith, nat_tests)) last_starts_otherwise
+      (unless_law (begins.with tag.octet) (Value tag) (value_error_tells refl) more) tag.octet
+      (λ s c. grind (arith, nat_tests)) (λ s ok. begins.only s tag.octet ok.0)
 
 -- What is read of the part is one encoding or nothing.
 pub optional_gives : {V : Type 0} {encoding : V → List ℕ → Type 0} {at : FrontReading V} (t : ℕ)

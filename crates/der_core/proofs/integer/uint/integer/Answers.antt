@@ -1,7 +1,6 @@
 -- `in-0` is the arm `[0, rest @ ..]`. Of `rest`, `in-len1-up-rest` is the arm of 128 or more.
 use Rattle.std.proofs.Common.{refl, ap, arith, length, ◌<◌}
-use Rattle.der_core.proofs.Integers.{integer_of_empty, integer_of_negative, integer_of_padded}
-use Rattle.der_core.proofs.QuickReading.{rest_holds}
+use Rattle.der_core.proofs.Integers.{integer_of_empty, integer_of_negative, integer_of_padded, rest_holds}
 use Rattle.der_core.proofs.integer.uint.integer.Goals as goal
 
 -- `rest` begins with 128 or more, so a `UintRef` may hold it.

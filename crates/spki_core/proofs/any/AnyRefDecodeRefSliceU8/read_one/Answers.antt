@@ -1,7 +1,7 @@
 -- `read_one` of `AnyRef`: the contents behind the tag that is in front are split off, or have a fault.
 use Rattle.std.proofs.Common.{ap, inr, sym, Ok}
 use Rattle.der_core.specs.Words.{err_from_is_err_and}
-use Rattle.der_core.proofs.QuickReading.{read_by_tag}
+use Rattle.der_core.proofs.Splitting.{read_by_tag}
 use Rattle.spki_core.specs.Words.{opaque}
 use Rattle.spki_core.proofs.Readings.{by_tag_fails}
 use Rattle.spki_core.proofs.any.AnyRefDecodeRefSliceU8.read_one.Goals as goal

@@ -1,9 +1,9 @@
--- `read_parts` of `OptionalThen<T, Last<A>>`, at the `?` behind `read_last_behind`, which is given `T::TAG`. The OPTIONAL part was read, or
+-- `read_parts` of `OptionalThen<T, R>`, at the `?` after `read_after`, which is given `T::TAG`. The OPTIONAL part was read, or
 -- isn't there, so the error that follows it is that of the contents.
 use Rattle.std.proofs.Common.{arith}
 use Rattle.der_core.specs.Words.{are_bytes, err_from_is_err_and, optional_gives, tagged_alike, tagged_law, front_reading_reads}
 use Rattle.der_core.proofs.ReadSteps.{parts_fail}
-use Rattle.der_core.proofs.optional_last.OptionalThenLastDecodePartsRefSliceU8.read_parts.Goals as goal
+use Rattle.der_core.proofs.optional_part.OptionalThenDecodePartsRefSliceU8.read_parts.Goals as goal
 
 pub returns-in_err-rest : goal.returns-in_err-rest
 returns-in_err-rest g c =

@@ -1,7 +1,7 @@
 -- Where an encoding ends: what is split off is what the functions of reading give, and so is what is read of it. For
 -- `src/split.rt`, for `read_tagged`, and for encodings of any tag.
 use Rattle.std.proofs.Common.{ℕ, suc, true, false, List, [], ◌∷◌, ◌≡◌, ◌≤◌, ◌<◌, ◌-◌, ◌+◌, ◌*◌, length, take, drop, refl, sym, ap, ◌∙◌, arith, Ok, Option, Some, None, slice_index_or, take_all, ⊎_elim, nat_lt, ◌==◌, MatchOption, IfSome}
-use Rattle.der_core.specs.Words.{number_from_digits, Tag, front_of, header_at, length_at, HoldsNumber, ok_pair, cond_cases, length_at-complete, bind_ok, unexpected_not, IsBase256, IsLength, short, long, Reading, ◌>>=◌, by_tag, contents_behind, inside, octets_of_all, tagged, is_allowed}
+use Rattle.der_core.specs.Words.{number_from_digits, Tag, front_of, header_at, length_at, ok_pair, cond_cases, length_at-complete, bind_ok, unexpected_not, IsBase256, IsLength, short, long, Reading, ◌>>=◌, by_tag, contents_behind, inside, octets_of_all, tagged, is_allowed}
 use Rattle.std.specs.List.{IsSplitAt}
 
 -- Length octets: one, and one or two behind the first.
@@ -159,17 +159,3 @@ read_by_tag tag read b front back v e given =
     ∙ ap (λ t. read t u.0.0 >>= λ w. Ok (w, u.0.1)) there.0
     ∙ ap (λ x. read tag.octet x >>= λ w. Ok (w, u.0.1)) same.0 ∙ ap (λ r. r >>= λ w. Ok (w, u.0.1)) given
     ∙ ap (λ y. Ok (v, y)) same.1
-
--- What is left behind a padding zero.
-starts_high : (xs : List ℕ) → 1 ≤ length xs → 128 ≤ slice_index_or xs 0 0 → ((i : ℕ) → slice_index_or xs i 0 < 256)
-    → HoldsNumber xs
-starts_high [] n h b = absurd (omega arith)
-starts_high (x ∷ xs) n h b = (omega arith, (λ _. omega arith), b)
-
-pub rest_holds : (xs : List ℕ) → 1 ≤ length xs → 1 ≤ length (take (length xs - 1) (drop 1 xs))
-    → 128 ≤ slice_index_or (take (length xs - 1) (drop 1 xs)) 0 0 → ((i : ℕ) → slice_index_or xs i 0 < 256)
-    → HoldsNumber (take (length xs - 1) (drop 1 xs))
-rest_holds [] l n h b = absurd (omega arith)
-rest_holds (x ∷ xs) l n h b =
-    let all : take (length (x ∷ xs) - 1) xs ≡ xs = take_all _ xs (omega arith) in
-    rw all (starts_high xs (rw all at n) (rw all at h) (λ i. b (suc i)))

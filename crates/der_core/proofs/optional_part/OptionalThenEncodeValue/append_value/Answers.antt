@@ -1,9 +1,9 @@
--- `append_value` of `OptionalThen<T, Last<A>>`. `has.0` is that the OPTIONAL part is valid if it is there, and
--- `has.1.1` that the last one, if it is there, is valid. `c.in-Some.is` and `c.in-None.is` say which arm was taken.
+-- `append_value` of `OptionalThen<T, R>`. `has.0` is that the OPTIONAL part is valid if it is there, and `has.1.1`
+-- that the row is valid. `c.in-Some.is` and `c.in-None.is` say which arm was taken.
 use Rattle.std.proofs.Common.{refl}
 use Rattle.der_core.specs.Words.{err_from_is_err_and}
 use Rattle.der_core.proofs.Writing.{appends_behind, appends_in_front, receives_none, takes_none}
-use Rattle.der_core.proofs.optional_last.OptionalThenLastEncodeValue.append_value.Goals as goal
+use Rattle.der_core.proofs.optional_part.OptionalThenEncodeValue.append_value.Goals as goal
 
 -- At the `?` behind `part.append`: the writing stops in the part, so that of the contents does.
 pub returns-in_err-append-in-Some-clause-appends : goal.returns-in_err-append-in-Some-clause-appends
