@@ -8,3 +8,4 @@ pub mod NumberList
 pub mod Fnv
 pub mod KeyStore
 pub mod ImplicitPair
+pub mod AuthorityKeyTags

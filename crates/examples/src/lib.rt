@@ -1,6 +1,7 @@
 //! The examples of the documents: uses of keys and parameters, and types of one's own over `der_core` and `spki_core`.
 #![tactic(auto)]
 
+mod authority_key_identifier;
 mod by_grammar;
 mod bytes;
 mod counting_reader;
@@ -24,6 +25,10 @@ mod sha3;
 mod signatures;
 mod sizes;
 
+pub use authority_key_identifier::{
+    AuthorityKeyIdentifier, IssuerTag, KeyIdentifierTag, SerialNumberTag, read_authority_key,
+    write_authority_key,
+};
 pub use by_grammar::{read_signature, write_signature};
 pub use bytes::{modulus_of, public_half};
 pub use counting_reader::{CountingReader, NoHeap, read_number};

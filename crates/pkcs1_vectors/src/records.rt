@@ -3,8 +3,9 @@
 use crate::told::{PrintedError, Told};
 use der_core::Result;
 use examples::{
-    Bytes, StoreError, Taken, copy_long_keys, read_digest_info, read_dsa_algorithm, read_extension,
-    read_pair, write_digest_info, write_dsa_algorithm, write_extension, write_pair,
+    Bytes, StoreError, Taken, copy_long_keys, read_authority_key, read_digest_info,
+    read_dsa_algorithm, read_extension, read_pair, write_authority_key, write_digest_info,
+    write_dsa_algorithm, write_extension, write_pair,
 };
 
 /// More octets than a row here has.
@@ -71,6 +72,24 @@ pub fn implicit_pair(to: &mut Told, bytes: &[u8]) {
             to.octets(pair.first.as_bytes());
             to.gap();
             let count = write_pair(&pair, &mut out);
+            written_again(to, &out, count);
+        }
+        Err(error) => error.told(to),
+    }
+}
+
+/// `authority-key HEX`: whether each of its three parts is there, and it again.
+pub fn authority_key(to: &mut Told, bytes: &[u8]) {
+    let mut out = [0; ROOM];
+    match read_authority_key(bytes) {
+        Ok(it) => {
+            to.yes_or_no(it.key_identifier.is_some());
+            to.gap();
+            to.yes_or_no(it.issuer.is_some());
+            to.gap();
+            to.yes_or_no(it.serial_number.is_some());
+            to.gap();
+            let count = write_authority_key(&it, &mut out);
             written_again(to, &out, count);
         }
         Err(error) => error.told(to),

@@ -124,6 +124,7 @@ fn of_record_text(to: &mut Told, word: &str, bytes: &[u8]) -> bool {
         "digest-info" => records::digest_info(to, bytes),
         "dsa" => records::dsa_algorithm(to, bytes),
         "implicit-pair" => records::implicit_pair(to, bytes),
+        "authority-key" => records::authority_key(to, bytes),
         "key-store" => records::key_store(to, bytes),
         _ => return false,
     }
