@@ -11,15 +11,11 @@
   @   s.data[4] == 128 + 113549 / 128 % 128 && s.data[5] == 113549 % 128 && s.data[6] == 1 && s.data[7] == 1 &&
   @   s.data[8] == last;
   @*/
+#define NAMED(name, number) ensures name: is_nist_hash(pkcs1_oid_##name, number);
 /*@ terminates \true; exits \false; assigns \nothing;
   @ ensures sha1: pkcs1_oid_sha1.len == 5 && pkcs1_oid_sha1.data[0] == 1 * 40 + 3 && pkcs1_oid_sha1.data[1] == 14 &&
   @   pkcs1_oid_sha1.data[2] == 3 && pkcs1_oid_sha1.data[3] == 2 && pkcs1_oid_sha1.data[4] == 26;
-  @ ensures sha256: is_nist_hash(pkcs1_oid_sha256, 1);
-  @ ensures sha384: is_nist_hash(pkcs1_oid_sha384, 2);
-  @ ensures sha512: is_nist_hash(pkcs1_oid_sha512, 3);
-  @ ensures sha224: is_nist_hash(pkcs1_oid_sha224, 4);
-  @ ensures sha512_224: is_nist_hash(pkcs1_oid_sha512_224, 5);
-  @ ensures sha512_256: is_nist_hash(pkcs1_oid_sha512_256, 6);
+  @ NIST_HASHES(NAMED)
   @ ensures rsa_encryption: is_pkcs1(pkcs1_oid_rsa_encryption, 1);
   @ ensures rsaes_oaep: is_pkcs1(pkcs1_oid_rsaes_oaep, 7);
   @ ensures mgf1: is_pkcs1(pkcs1_oid_mgf1, 8);

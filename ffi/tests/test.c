@@ -1,6 +1,7 @@
 /* test ROWS, or test --version: tests the calls of pkcs1.h. ROWS is crates/pkcs1_vectors/stdin, the worked rows, which
  * rows.c tries. large.c has what is long. Structs to be filled are uninitialised, so that valgrind reports it if they
  * are read. */
+#include "../proof/kinds.h"
 #include "test.h"
 #include "pkcs1.h"
 #include <string.h>
@@ -292,9 +293,8 @@ static void flags(uint8_t octet) {
 
 /* Parameters for each hash function: the constants are the right octets. */
 static void made_for_a_hash(void) {
-    static const struct { const struct pkcs1_bytes *oid; uint8_t last; } hashes[] = {
-        {&pkcs1_oid_sha224, 4}, {&pkcs1_oid_sha256, 1}, {&pkcs1_oid_sha384, 2}, {&pkcs1_oid_sha512, 3},
-        {&pkcs1_oid_sha512_224, 5}, {&pkcs1_oid_sha512_256, 6}};
+#define NAMED(name, number) {&pkcs1_oid_##name, number},
+    static const struct { const struct pkcs1_bytes *oid; uint8_t last; } hashes[] = {NIST_HASHES(NAMED)};
     uint8_t want[] = {0x30, 0x34, 0xa0, 0x0f, 0x30, 0x0d, 6, 9, 0x60, 0x86, 0x48, 1, 0x65, 3, 4, 2, 0, 5, 0,
                       0xa1, 0x1c, 0x30, 0x1a, 6, 9, 0x2a, 0x86, 0x48, 0x86, 0xf7, 0x0d, 1, 1, 8,
                       0x30, 0x0d, 6, 9, 0x60, 0x86, 0x48, 1, 0x65, 3, 4, 2, 0, 5, 0, 0xa2, 3, 2, 1, 32};
