@@ -1,35 +1,24 @@
 //! Object identifiers: as text, as octets, and as constants of types.
 
+mod made;
+
 use pkcs1_proved::der::Encode;
 use pkcs1_proved::der::asn1::ObjectIdentifier;
 use pkcs1_proved::der::oid::AssociatedOid;
-use pkcs1_proved::{
-    Mgf1, PSpecified, RsaEncryption, RsaOaepParamsRef, RsaPssParamsRef, RsaesOaep, RsassaPss, Sha1, Sha3_256, Sha3_384,
-    Sha3_512, Sha224, Sha256, Sha384, Sha512, Sha512_224, Sha512_256,
-};
+use pkcs1_proved::{Mgf1, PSpecified, RsaEncryption, RsaOaepParamsRef, RsaPssParamsRef, RsaesOaep, RsassaPss, Sha256};
 
 #[test]
 fn each_type_names_its_algorithm() {
     let pkcs1 = |last| vec![0x2a, 0x86, 0x48, 0x86, 0xf7, 0x0d, 1, 1, last];
-    let nist = |last| vec![0x60, 0x86, 0x48, 1, 0x65, 3, 4, 2, last];
     let named = [
         (RsaEncryption::OID, pkcs1(1)),
         (RsaesOaep::OID, pkcs1(7)),
         (Mgf1::OID, pkcs1(8)),
         (PSpecified::OID, pkcs1(9)),
         (RsassaPss::OID, pkcs1(10)),
-        (Sha1::OID, vec![0x2b, 0x0e, 3, 2, 0x1a]),
-        (Sha256::OID, nist(1)),
-        (Sha384::OID, nist(2)),
-        (Sha512::OID, nist(3)),
-        (Sha224::OID, nist(4)),
-        (Sha512_224::OID, nist(5)),
-        (Sha512_256::OID, nist(6)),
-        (Sha3_256::OID, nist(8)),
-        (Sha3_384::OID, nist(9)),
-        (Sha3_512::OID, nist(10)),
     ];
-    for (oid, octets) in named {
+    let hashes = made::hash_functions().map(|it| (it.oid, it.octets));
+    for (oid, octets) in named.into_iter().chain(hashes) {
         assert_eq!(oid.as_bytes(), octets, "{oid}");
         assert_eq!(ObjectIdentifier::from_bytes(&octets), Ok(oid));
     }

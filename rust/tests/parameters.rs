@@ -6,8 +6,7 @@ use pkcs1_proved::der::asn1::AnyRef;
 use pkcs1_proved::der::{Encode, ErrorKind, Tag, oid::AssociatedOid};
 use pkcs1_proved::spki::AlgorithmIdentifier;
 use pkcs1_proved::{
-    Mgf1, PSpecified, RsaOaepParamsRef, RsaPssParamsRef, RsaPssParamsView, Sha1, Sha3_256, Sha224, Sha256, Sha384,
-    Sha512, Sha512_224, Sha512_256, TrailerField,
+    Mgf1, PSpecified, RsaOaepParamsRef, RsaPssParamsRef, RsaPssParamsView, Sha1, Sha256, Sha384, Sha512, TrailerField,
 };
 
 #[test]
@@ -67,27 +66,20 @@ fn a_label_is_written_and_read() {
 
 #[test]
 fn a_hash_function_is_told_by_its_identifier_with_null_or_without() {
-    macro_rules! matrix {
-        ($($hash:ident)*) => { $(
-            matrix!(of $hash: Sha1 Sha224 Sha256 Sha384 Sha512 Sha512_224 Sha512_256 Sha3_256);
-        )* };
-        (of $hash:ident: $($other:ident)*) => { $(
-            let same = $hash::OID == $other::OID;
-            let (pss, oaep) = (RsaPssParamsRef::new::<$hash>(20), RsaOaepParamsRef::new::<$hash>());
-            assert_eq!((pss.uses_hash::<$other>(), oaep.uses_hash::<$other>()), (same, same));
-            assert_eq!(pss.hash.is_hash::<$other>(), same);
-            let without = AlgorithmIdentifier { parameters: None, ..pss.hash };
-            let other = RsaPssParamsRef::new::<$other>(20).mask_gen;
-            for (hash, under) in [(without, pss.hash), (pss.hash, without), (without, without)] {
-                let mask_gen = AlgorithmIdentifier { parameters: Some(under), ..pss.mask_gen };
-                assert!(RsaPssParamsRef { hash, mask_gen, ..pss }.uses_hash::<$hash>());
-                assert!(RsaOaepParamsRef { hash, mask_gen, ..oaep }.uses_hash::<$hash>());
-            }
-            assert_eq!(RsaPssParamsRef { mask_gen: other, ..pss }.uses_hash::<$hash>(), same);
-            assert_eq!(RsaOaepParamsRef { mask_gen: other, ..oaep }.uses_hash::<$other>(), same);
-        )* };
+    for (one, other) in made::hash_functions().iter().flat_map(|one| made::hash_functions().map(|other| (one, other))) {
+        let (pss, oaep, same) = (one.pss, one.oaep, one.oid == other.oid);
+        assert_eq!(((other.pss_uses)(&pss), (other.oaep_uses)(&oaep)), (same, same));
+        assert_eq!((other.is_hash)(&pss.hash), same);
+        let without = AlgorithmIdentifier { parameters: None, ..pss.hash };
+        for (hash, under) in [(without, pss.hash), (pss.hash, without), (without, without)] {
+            let mask_gen = AlgorithmIdentifier { parameters: Some(under), ..pss.mask_gen };
+            assert!((one.pss_uses)(&RsaPssParamsRef { hash, mask_gen, ..pss }));
+            assert!((one.oaep_uses)(&RsaOaepParamsRef { hash, mask_gen, ..oaep }));
+        }
+        let mask_gen = other.pss.mask_gen;
+        assert_eq!((one.pss_uses)(&RsaPssParamsRef { mask_gen, ..pss }), same);
+        assert_eq!((other.oaep_uses)(&RsaOaepParamsRef { mask_gen, ..oaep }), same);
     }
-    matrix! { Sha1 Sha224 Sha256 Sha384 Sha512 Sha512_224 Sha512_256 Sha3_256 }
 }
 
 #[test]

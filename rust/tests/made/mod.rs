@@ -1,7 +1,52 @@
 //! Encodings for the tests, and what reading them tells.
 #![allow(dead_code)]
 
+use pkcs1_proved::der::oid::{AssociatedOid, ObjectIdentifier};
 use pkcs1_proved::der::{Encode, ErrorKind};
+use pkcs1_proved::spki::AlgorithmIdentifierRef;
+use pkcs1_proved::{
+    RsaOaepParamsRef, RsaPssParamsRef, Sha1, Sha3_256, Sha3_384, Sha3_512, Sha224, Sha256, Sha384, Sha512, Sha512_224,
+    Sha512_256,
+};
+
+/// A hash function that has a name: what its type gives.
+pub struct HashFunction {
+    pub octets: Vec<u8>,
+    pub oid: ObjectIdentifier,
+    pub pss: RsaPssParamsRef<'static>,
+    pub oaep: RsaOaepParamsRef<'static>,
+    pub pss_uses: fn(&RsaPssParamsRef<'_>) -> bool,
+    pub oaep_uses: fn(&RsaOaepParamsRef<'_>) -> bool,
+    pub is_hash: fn(&AlgorithmIdentifierRef<'_>) -> bool,
+}
+
+/// All of them.
+pub fn hash_functions() -> [HashFunction; 10] {
+    fn of<D: AssociatedOid>(octets: Vec<u8>) -> HashFunction {
+        HashFunction {
+            octets,
+            oid: D::OID,
+            pss: RsaPssParamsRef::new::<D>(20),
+            oaep: RsaOaepParamsRef::new::<D>(),
+            pss_uses: |params| params.uses_hash::<D>(),
+            oaep_uses: |params| params.uses_hash::<D>(),
+            is_hash: |algorithm| algorithm.is_hash::<D>(),
+        }
+    }
+    let nist = |last| vec![0x60, 0x86, 0x48, 1, 0x65, 3, 4, 2, last];
+    [
+        of::<Sha1>(vec![0x2b, 0x0e, 3, 2, 0x1a]),
+        of::<Sha256>(nist(1)),
+        of::<Sha384>(nist(2)),
+        of::<Sha512>(nist(3)),
+        of::<Sha224>(nist(4)),
+        of::<Sha512_224>(nist(5)),
+        of::<Sha512_256>(nist(6)),
+        of::<Sha3_256>(nist(8)),
+        of::<Sha3_384>(nist(9)),
+        of::<Sha3_512>(nist(10)),
+    ]
+}
 
 /// The kind of the error of reading.
 pub fn kind<T>(read: pkcs1_proved::Result<T>) -> ErrorKind {
