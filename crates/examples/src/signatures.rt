@@ -3,7 +3,8 @@ ghost use Rattle.std.specs.Prelude.{Decides, IfOk, OnErr, Some, None};
 ghost use Rattle.standard.specs.Statement.{Decodes, PssAlgorithmEncoding, PssParameters};
 ghost use Rattle.examples.specs.Signatures.{GivesSalt, IsAccepted};
 
-use pkcs1::{FromAlgorithm, Result, RsaPssParamsRef, Sha256, Sha384};
+use pkcs1::hash_functions::{Sha256, Sha384};
+use pkcs1::{FromAlgorithm, Result, RsaPssParamsRef};
 
 /// The salt length of an RSASSA-PSS signature, from its signatureAlgorithm in DER, if it uses SHA-256.
 pub fn salt_with_sha256(signature_algorithm: &[u8]) -> Result<Option<u8>>

@@ -7,24 +7,6 @@ use Rattle.pkcs1_params.specs.Parameters.{OaepParameters, PssParameters, id_mgf1
 abbrev pub hash_algorithm : ℕ → List ℕ
 hash_algorithm n = 0x60 ∷ 0x86 ∷ 0x48 ∷ 0x01 ∷ 0x65 ∷ 0x03 ∷ 0x04 ∷ 0x02 ∷ n ∷ []
 
-abbrev pub id_sha256 : List ℕ
-id_sha256 = hash_algorithm 1
-
-abbrev pub id_sha384 : List ℕ
-id_sha384 = hash_algorithm 2
-
-abbrev pub id_sha512 : List ℕ
-id_sha512 = hash_algorithm 3
-
-abbrev pub id_sha224 : List ℕ
-id_sha224 = hash_algorithm 4
-
-abbrev pub id_sha512_224 : List ℕ
-id_sha512_224 = hash_algorithm 5
-
-abbrev pub id_sha512_256 : List ℕ
-id_sha512_256 = hash_algorithm 6
-
 -- hashAlgorithm is the hash function with this identifier, and maskGenAlgorithm is MGF1 with the same (RFC 8017 B.2.1).
 abbrev pub UsesHash : List ℕ → Algorithm TagAndContents → Algorithm (Algorithm TagAndContents) → Type 0
 UsesHash oid hash mask_gen =

@@ -2,7 +2,7 @@
 pub use Rattle.pkcs1_params.specs.Algorithms.{Identifies, NamesFirstDefaultIn, PlainEncoding, identified, parameters_as, rsa_oaep_algorithm, rsa_pss_algorithm, strict_oaep_algorithm, strict_pss_algorithm, whole_algorithm}
 pub use Rattle.pkcs1_params.specs.DefaultBits.{bit_of, bits_of}
 pub use Rattle.pkcs1_params.specs.Errors.{IsAsn1, error_text}
-pub use Rattle.pkcs1_params.specs.HashFunctions.{AreSameMask, AreSameOaep, AreSamePss, UsesHash, id_sha224, id_sha256, id_sha384, id_sha512, id_sha512_224, id_sha512_256}
+pub use Rattle.pkcs1_params.specs.HashFunctions.{AreSameMask, AreSameOaep, AreSamePss, UsesHash, hash_algorithm}
 pub use Rattle.pkcs1_params.specs.Labels.{CountsLabelled, LabelOf, source_with, written_labelled, written_source}
 pub use Rattle.pkcs1_params.specs.Meanings.{AnswersAsn1, AnswersAsn1OrAsks, AreDelimited, FaultsTell, IsEncoded, Refuses, fault_in, fault_told}
 pub use Rattle.pkcs1_params.specs.OaepValue.{IsBareOaep, LabelFits, NoLabelFits, OwnedOaepAllocates, labelled, oaep_in, oaep_of, oaep_viewed, oaep_with}

@@ -1,6 +1,6 @@
 //! Types that name the hash functions and the mask generation function of PKCS #1 (RFC 8017 B.1, B.2.1).
 ghost use Rattle.std.specs.Prelude.{refl};
-ghost use Rattle.pkcs1_params.specs.Words.{id_mgf1, id_sha1, id_sha224, id_sha256, id_sha384, id_sha512, id_sha512_224, id_sha512_256};
+ghost use Rattle.pkcs1_params.specs.Words.{hash_algorithm, id_mgf1, id_sha1};
 
 use spki_core::AssociatedOid;
 
@@ -23,7 +23,7 @@ impl AssociatedOid for Sha1 {
 pub struct Sha224;
 
 impl AssociatedOid for Sha224 {
-    ghost contents = { id_sha224 };
+    ghost contents = { hash_algorithm 4 };
 
     ghost valid = { refl };
 
@@ -38,7 +38,7 @@ impl AssociatedOid for Sha224 {
 pub struct Sha256;
 
 impl AssociatedOid for Sha256 {
-    ghost contents = { id_sha256 };
+    ghost contents = { hash_algorithm 1 };
 
     ghost valid = { refl };
 
@@ -53,7 +53,7 @@ impl AssociatedOid for Sha256 {
 pub struct Sha384;
 
 impl AssociatedOid for Sha384 {
-    ghost contents = { id_sha384 };
+    ghost contents = { hash_algorithm 2 };
 
     ghost valid = { refl };
 
@@ -68,7 +68,7 @@ impl AssociatedOid for Sha384 {
 pub struct Sha512;
 
 impl AssociatedOid for Sha512 {
-    ghost contents = { id_sha512 };
+    ghost contents = { hash_algorithm 3 };
 
     ghost valid = { refl };
 
@@ -83,7 +83,7 @@ impl AssociatedOid for Sha512 {
 pub struct Sha512_224;
 
 impl AssociatedOid for Sha512_224 {
-    ghost contents = { id_sha512_224 };
+    ghost contents = { hash_algorithm 5 };
 
     ghost valid = { refl };
 
@@ -98,7 +98,7 @@ impl AssociatedOid for Sha512_224 {
 pub struct Sha512_256;
 
 impl AssociatedOid for Sha512_256 {
-    ghost contents = { id_sha512_256 };
+    ghost contents = { hash_algorithm 6 };
 
     ghost valid = { refl };
 

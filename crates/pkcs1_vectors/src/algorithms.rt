@@ -5,10 +5,6 @@ use crate::shown::Shown;
 use crate::told::{PrintedError, Told};
 use crate::written::written;
 use der_core::{Decode, DecodeValue, Encode, FixedTag, NoMemory, Result, Tag};
-use pkcs1::{
-    Mgf1, PSpecified, Sha1, Sha224, Sha256, Sha384, Sha512, Sha512_224, Sha512_256,
-    rsa_encryption_oid, rsaes_oaep_oid, rsassa_pss_oid,
-};
 use spki_core::{
     AlgorithmIdentifier, AlgorithmIdentifierRef, Any, AnyParams, AnyRef, AnyValue,
     AsAlgorithmIdentifierRef, ObjectIdentifier,
@@ -25,25 +21,6 @@ fn made<T: Encode + Drop>(to: &mut Told, answer: Result<T>) {
 /// `oid-new HEX`: the encoding of the identifier with these contents octets.
 pub fn oid_new(to: &mut Told, bytes: &[u8]) {
     made(to, ObjectIdentifier::from_bytes(bytes));
-}
-
-/// `oid-named NAME`: the contents octets of a named identifier.
-pub fn oid_named(to: &mut Told, name: &str) {
-    match name {
-        "SHA-1" => ObjectIdentifier::of::<Sha1>().shown(to),
-        "SHA-224" => ObjectIdentifier::of::<Sha224>().shown(to),
-        "SHA-256" => ObjectIdentifier::of::<Sha256>().shown(to),
-        "SHA-384" => ObjectIdentifier::of::<Sha384>().shown(to),
-        "SHA-512" => ObjectIdentifier::of::<Sha512>().shown(to),
-        "SHA-512/224" => ObjectIdentifier::of::<Sha512_224>().shown(to),
-        "SHA-512/256" => ObjectIdentifier::of::<Sha512_256>().shown(to),
-        "MGF1" => ObjectIdentifier::of::<Mgf1>().shown(to),
-        "pSpecified" => ObjectIdentifier::of::<PSpecified>().shown(to),
-        "rsaEncryption" => rsa_encryption_oid().shown(to),
-        "id-RSAES-OAEP" => rsaes_oaep_oid().shown(to),
-        "id-RSASSA-PSS" => rsassa_pss_oid().shown(to),
-        _ => to.malformed(),
-    }
 }
 
 /// The tag, if there is exactly one octet.

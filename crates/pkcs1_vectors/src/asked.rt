@@ -1,76 +1,9 @@
-//! The words of rows about what a verifier and a receiver ask of parameters, as the hash function, whether two mean the
-//! same, and the label: each public function with a `Told` writes a row's output to it, or the trouble for which there
-//! is none.
+//! The words of rows about what a verifier and a receiver ask of parameters, as whether two mean the same, and the
+//! label: each public function with a `Told` writes a row's output to it, or the trouble for which there is none.
 use crate::told::{PrintedError, Told};
 use der_core::{Decode, NoMemory};
-use pkcs1::{
-    RsaOaepParamsRef, RsaOaepParamsView, RsaPssParamsRef, RsaPssParamsView, Sha1, Sha224, Sha256,
-    Sha384, Sha512, Sha512_224, Sha512_256,
-};
+use pkcs1::{RsaOaepParamsRef, RsaOaepParamsView, RsaPssParamsRef, RsaPssParamsView};
 use spki_core::{AlgorithmIdentifierRef, AlgorithmView, AnyRef};
-
-/// Whether the parameters use each of `NAMES`.
-macro_rules! uses_each {
-    ($params:expr) => {
-        [
-            $params.uses_hash::<Sha1>(),
-            $params.uses_hash::<Sha224>(),
-            $params.uses_hash::<Sha256>(),
-            $params.uses_hash::<Sha384>(),
-            $params.uses_hash::<Sha512>(),
-            $params.uses_hash::<Sha512_224>(),
-            $params.uses_hash::<Sha512_256>(),
-        ]
-    };
-}
-
-const NAMES: [&str; 7] = [
-    "SHA-1",
-    "SHA-224",
-    "SHA-256",
-    "SHA-384",
-    "SHA-512",
-    "SHA-512/224",
-    "SHA-512/256",
-];
-
-/// The names of the hash functions that are used, or `-`.
-fn names(to: &mut Told, uses: &[bool]) {
-    if !uses.contains(&true) {
-        to.text("-");
-    }
-    for (used, name) in uses.iter().zip(NAMES.iter()) {
-        if *used {
-            to.text(name);
-        }
-    }
-}
-
-/// `pss-hash HEX`: the hash function of PSS parameters.
-pub fn pss_hash(to: &mut Told, bytes: &[u8]) {
-    match RsaPssParamsRef::try_from(bytes) {
-        Ok(params) => names(to, &uses_each!(params)),
-        Err(error) => error.told(to),
-    }
-    to.way("view");
-    match RsaPssParamsView::try_from(bytes) {
-        Ok(params) => names(to, &uses_each!(params)),
-        Err(error) => error.told(to),
-    }
-}
-
-/// `oaep-hash HEX`: the hash function of OAEP parameters.
-pub fn oaep_hash(to: &mut Told, bytes: &[u8]) {
-    match RsaOaepParamsRef::try_from(bytes) {
-        Ok(params) => names(to, &uses_each!(params)),
-        Err(error) => error.told(to),
-    }
-    to.way("view");
-    match RsaOaepParamsView::try_from(bytes) {
-        Ok(params) => names(to, &uses_each!(params)),
-        Err(error) => error.told(to),
-    }
-}
 
 /// The answer to a question about two that were read, or the first error of reading them.
 macro_rules! of_both {

@@ -5,9 +5,10 @@ use crate::shown::Shown;
 use crate::told::{PrintedError, Told};
 use crate::written::encoding_of;
 use der_core::{Decode, Encode, NoMemory};
+use pkcs1::hash_functions::Sha256;
 use pkcs1::{
     FromAlgorithm, Result, RsaOaepParamsRef, RsaOaepParamsView, RsaPssParamsRef, RsaPssParamsView,
-    Sha256, fault_of_oaep_algorithm, fault_of_pss_algorithm,
+    fault_of_oaep_algorithm, fault_of_pss_algorithm,
 };
 use spki_core::{AlgorithmIdentifierRef, AlgorithmView, AnyRef};
 

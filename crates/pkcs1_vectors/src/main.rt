@@ -14,6 +14,7 @@ mod identifiers;
 mod into;
 mod keys;
 mod lengths;
+mod named;
 mod parameters;
 mod parts;
 mod read;

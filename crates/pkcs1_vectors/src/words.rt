@@ -7,14 +7,16 @@ use crate::spellings::{spell, spellings};
 use crate::told::Told;
 use crate::written::written;
 use crate::{
-    algorithms, asked, containers, errors, identifiers, keys, lengths, parameters, records, values,
+    algorithms, asked, containers, errors, identifiers, keys, lengths, named, parameters, records,
+    values,
 };
 use der_core::{Containing, OctetStringRef, OctetStringTag, Tagged, Uint, UintRef};
 use examples::is_accepted;
+use pkcs1::hash_functions::{Sha1, Sha256};
 use pkcs1::{
     OtherPrimeInfo, RsaOaepParamsOwned, RsaOaepParamsRef, RsaOaepParamsView, RsaPrivateKeyOwned,
-    RsaPrivateKeyRef, RsaPssParamsOwned, RsaPssParamsRef, RsaPssParamsView, RsaPublicKeyRef, Sha1,
-    Sha256, TrailerField, Version, algorithm_id,
+    RsaPrivateKeyRef, RsaPssParamsOwned, RsaPssParamsRef, RsaPssParamsView, RsaPublicKeyRef,
+    TrailerField, Version, algorithm_id,
 };
 use pkcs8_core::PrivateKeyInfoRef;
 use spki_core::{AlgorithmIdentifier, AlgorithmIdentifierRef, Any, AnyRef, ObjectIdentifier};
@@ -39,7 +41,7 @@ pub fn alone(to: &mut Told, word: &str) -> bool {
 pub fn of_name(to: &mut Told, word: &str, name: &str) -> bool {
     match word {
         "tag-named" => lengths::named(to, name),
-        "oid-named" => algorithms::oid_named(to, name),
+        "oid-named" => named::oid_named(to, name),
         "kind" => errors::kind(to, name),
         "error" => errors::error(to, name),
         _ => return false,
@@ -166,8 +168,8 @@ fn of_parameter_text(to: &mut Told, word: &str, bytes: &[u8]) -> bool {
         ),
         "label-sha1" => parameters::with_label::<Sha1>(to, bytes),
         "label-sha256" => parameters::with_label::<Sha256>(to, bytes),
-        "pss-hash" => asked::pss_hash(to, bytes),
-        "oaep-hash" => asked::oaep_hash(to, bytes),
+        "pss-hash" => named::pss_hash(to, bytes),
+        "oaep-hash" => named::oaep_hash(to, bytes),
         "oaep-label" => asked::oaep_label(to, bytes),
         _ => return false,
     }

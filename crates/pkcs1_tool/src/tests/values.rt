@@ -1,31 +1,13 @@
-//! Constants of identifiers, errors that are compared, values that are printed, and long values that are copied.
+//! Errors that are compared, values that are printed, and long values that are copied.
 use crate::tests::checks::{equal, holds};
 use der_core::{Document, Error, ErrorKind, SecretDocument, Tag, Uint};
-use pkcs1::{
-    ALGORITHM_OID, Mgf1, PSpecified, RsaOaepParamsRef, RsaPssParamsRef, RsaesOaep, RsassaPss, Sha1,
-    Sha224, Sha256, Sha384, Sha512, Sha512_224, Sha512_256,
-};
-use spki_core::{Any, AnyRef, AnyValue, AssociatedOid};
+use pkcs1::hash_functions::Sha256;
+use pkcs1::{RsaOaepParamsRef, RsaPssParamsRef};
+use spki_core::{Any, AnyRef, AnyValue};
 use std::alloc::Global;
 use std::fmt::Debug;
 use std::process::Abort;
 use std::test::Fail;
-
-/// Whether the constant of a type is what its function returns, of which contracts speak.
-fn is_alike<D: AssociatedOid>() -> bool {
-    D::OID == D::octets()
-}
-
-#[test]
-fn constants_are_what_their_functions_return(rt: HostRuntime) {
-    holds(&rt, is_alike::<Sha1>() && is_alike::<Sha224>());
-    holds(&rt, is_alike::<Sha256>() && is_alike::<Sha384>());
-    holds(&rt, is_alike::<Sha512>() && is_alike::<Sha512_224>());
-    holds(&rt, is_alike::<Sha512_256>() && is_alike::<Mgf1>());
-    holds(&rt, is_alike::<PSpecified>());
-    holds(&rt, is_alike::<RsassaPss>() && is_alike::<RsaesOaep>());
-    equal(&rt, ALGORITHM_OID, pkcs1::rsa_encryption_oid().as_bytes());
-}
 
 /// Asserts that each value is equal to itself and to no other.
 fn all_differ<T: PartialEq>(rt: &impl Abort, all: &[T]) {
