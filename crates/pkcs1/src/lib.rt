@@ -22,10 +22,10 @@ pub use der_core as der;
 pub use der_core::{Uint, UintRef};
 pub use faults::{fault_of_private_key, fault_of_public_key};
 pub use laws::{
-    lemma_borrowed_keys_take_no_memory, lemma_clones_mean_the_same, lemma_encodings_are_delimited, lemma_errors_compare_by_value,
-    lemma_forms_share_the_grammars, lemma_keys_decode, lemma_keys_have_one_encoding,
-    lemma_same_keys_have_the_same_encoding, lemma_types_exclude_each_other,
-    lemma_views_hold_what_they_encode,
+    lemma_borrowed_keys_take_no_memory, lemma_clones_mean_the_same, lemma_encodings_are_delimited,
+    lemma_errors_compare_by_value, lemma_forms_share_the_grammars, lemma_keys_decode,
+    lemma_keys_have_one_encoding, lemma_same_keys_have_the_same_encoding,
+    lemma_types_exclude_each_other, lemma_views_hold_what_they_encode,
 };
 pub use other_primes::{OtherPrimes, first_other_prime};
 pub use pkcs1_params::{

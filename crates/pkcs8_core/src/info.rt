@@ -8,8 +8,8 @@ ghost use Rattle.standard.specs.Statement.{AtMostOne, ContainedKeyEncoding, Cont
 
 use crate::attributes::Attributes;
 use pkcs1::der::{
-    Borrowed, Contents, Decode, EncodeInParts, Encoding, Error, Expected, InParts, Last, LastByTag, Memory,
-    OctetStringRef, Result, RowOperation, SequenceTag, TaggedBy, read_borrowed, write_only,
+    Borrowed, Contents, Decode, EncodeInParts, Encoding, Error, Expected, InParts, Last, LastByTag,
+    Memory, OctetStringRef, Result, RowOperation, SequenceTag, TaggedBy, read_borrowed, write_only,
 };
 use pkcs1::spki::{
     AlgorithmIdentifierOf, AnyRef, IdentifierValue, IdentifierView, ObjectIdentifier,
