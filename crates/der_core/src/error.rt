@@ -8,7 +8,7 @@ use std::fmt;
 /// What went wrong.
 #[derive(Clone, Copy, Debug, PartialEq, Eq, Drop)]
 pub enum ErrorKind {
-    /// An earlier call on the reader returned an error.
+    /// An earlier read failed, so nothing more is read.
     Failed,
     /// Fewer bytes are left than are needed.
     Incomplete,
@@ -50,7 +50,7 @@ impl fmt::Display for ErrorKind {
 
     ghost output = { λ kind. Some (kind_text kind) };
 
-    /// Prints the text of the kind, exactly as `kind_text` has it.
+    /// Prints the text of the kind, in lower case and without a full stop.
     fn fmt<W: fmt::Write>(&self, f: &mut fmt::Formatter<W>) -> fmt::Result {
         let encoding = match *self {
             ErrorKind::Length { tag } => {
@@ -96,7 +96,7 @@ pub struct Error {
 pub type Result<T> = std::result::Result<T, Error>;
 
 impl Error {
-    /// An error of this kind. To mark a reader as failed as well, call `Reader::error`.
+    /// An error of this kind.
     pub fn new(kind: ErrorKind) -> Error
         ensures { result ≡ record { kind = kind } }
     {

@@ -168,7 +168,9 @@ impl Length {
         self.value as usize
     }
 
-    /// The sum. `Overflow` exactly if it exceeds `MAX`.
+    /// The sum.
+    /// # Errors
+    /// `Overflow` exactly if it exceeds `MAX`.
     pub fn checked_add(self, other: Length) -> Result<Length>
         ensures ok { IfOk result (λ sum. (sum ≡ self + other) × (sum ≤ limit)) }
         ensures err { IfErr result (λ e. (e.kind ≡ ErrorKind.Overflow) × (limit < self + other)) }
@@ -179,7 +181,9 @@ impl Length {
         }
     }
 
-    /// The length of an encoding whose contents have this length. `Overflow` exactly if it exceeds `MAX`.
+    /// The length of an encoding whose contents have this length. It is the same under each tag, which has one octet.
+    /// # Errors
+    /// `Overflow` exactly if it exceeds `MAX`.
     pub fn for_tlv(self, _tag: Tag) -> Result<Length>
         ensures ok { IfOk result (λ total. (total ≡ tlv_len self) × (total ≤ limit)) }
         ensures err { IfErr result (λ e. (e.kind ≡ ErrorKind.Overflow) × (limit < tlv_len self)) }

@@ -31,7 +31,9 @@ pub struct OctetStringRef<'a> {
 impl<'a> OctetStringRef<'a> {
     ghost use Rattle.der_core.specs.OctetStringRefValue.{octets_of};
 
-    /// The string of these octets. `Overflow` exactly if there are more than `Length::MAX`.
+    /// The string of these octets.
+    /// # Errors
+    /// `Overflow` exactly if there are more than `Length::MAX`.
     pub fn new(bytes: &'a [u8]) -> Result<OctetStringRef<'a>>
         ensures ok { IfOk result (λ string. octets_of string ≡ bytes.now) }
         ensures err { IfErr result (λ e. (e.kind ≡ ErrorKind.Overflow) × (limit < length bytes.now)) }

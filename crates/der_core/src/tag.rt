@@ -36,7 +36,9 @@ impl Tag {
     /// The tag of SEQUENCE (X.690 8.9) and SEQUENCE OF (8.10): universal, constructed, number 16.
     pub const SEQUENCE: Tag = Tag { octet: 0x30 };
 
-    /// The tag with this octet. `TagUnknown` exactly if the octet isn't supported.
+    /// The tag with this octet.
+    /// # Errors
+    /// `TagUnknown` exactly if the octet isn't supported.
     pub fn from_octet(octet: u8) -> Result<Tag>
         ensures ok { IfOk result (λ tag. tag.octet ≡ octet) }
         ensures err { IfErr result (λ e. (e.kind ≡ ErrorKind.TagUnknown octet) × (is_allowed octet ≡ false)) }

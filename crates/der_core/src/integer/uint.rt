@@ -82,8 +82,10 @@ fn strip(bytes: &[u8]) -> &[u8]
 impl<'a> UintRef<'a> {
     ghost use Rattle.der_core.specs.UintRefValue.{bytes_of};
 
-    /// The number with these big-endian bytes, which may have leading zeros. `Length` of INTEGER exactly if there is
-    /// no byte, `Overflow` exactly if more than `Length::MAX` bytes remain without leading zeros.
+    /// The number with these big-endian bytes, which may have leading zeros.
+    /// # Errors
+    /// `Length` of INTEGER exactly if there is no byte, `Overflow` exactly if more than `Length::MAX` bytes remain
+    /// without leading zeros.
     pub fn new(bytes: &'a [u8]) -> Result<UintRef<'a>>
         ensures ok { IfOk result (λ number. AreCanonicalOf bytes.now (bytes_of number)) }
         ensures some { OnOk result (0 < length bytes.now) }
