@@ -9,7 +9,8 @@ use der_core::{
 use pkcs1_params::{Error, Result};
 use std::alloc::Global;
 
-/// An RSA public key (RFC 8017 A.1.1). No relation between its numbers is checked.
+/// An RSA public key (RFC 8017 A.1.1). A `U` holds a number: see `RsaPublicKeyRef` and `RsaPublicKeyOwned`. No relation
+/// between the numbers is checked.
 ///
 /// ```text
 /// RSAPublicKey ::= SEQUENCE {
