@@ -106,7 +106,7 @@ def named(crate):
     texts = {path: code_of(path) for path in sorted((crate / "src").glob("*.rs"))}
     words, wrong = set(), []
     for path, text in texts.items():
-        for use in re.findall(r"pub use ([^;]*);", text):
+        for use in re.findall(r"pub use (?!algorithms::\*)([^;]*);", text):
             words |= set(re.findall(r"\w+|\*", use))
         wrong += [f"{path}: {it} can be reached" for it in re.findall(r"pub mod (?:proved|rattle_std)\b", text)]
         above = re.findall(r"pub trait [^:{]*:([^{]*)\{", text)

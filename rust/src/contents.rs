@@ -6,8 +6,7 @@ use crate::identifier::OfIdentifier;
 use crate::keys::{OtherPrimeInfos, RsaPrivateKey, asn1, private_key};
 use crate::params::{RsaOaepParams, RsaPssParams};
 use crate::proved::der_core::{NoMemory, read_contents};
-use crate::proved::pkcs1::{self as proved, OtherPrimeInfo, TrailerField, Version};
-use crate::public_key::RsaPublicKey;
+use crate::proved::pkcs1::{self as proved, OtherPrimeInfo, RsaPublicKey, TrailerField, Version};
 use crate::rattle_std::alloc::Global;
 
 /// A type that is read from its contents octets, without a header.
@@ -42,10 +41,7 @@ from_contents! {
     {} Version, contents => read_contents(NoMemory, contents);
     {} TrailerField, contents => read_contents(NoMemory, contents);
     {} OtherPrimeInfo<UintRef<'a>>, contents => read_contents(NoMemory, contents);
-    {} RsaPublicKey<UintRef<'a>>, contents => {
-        let proved::RsaPublicKey { modulus, public_exponent } = read_contents(NoMemory, contents)?;
-        Ok(RsaPublicKey { modulus, public_exponent })
-    };
+    {} RsaPublicKey<UintRef<'a>>, contents => read_contents(NoMemory, contents);
     {} RsaPrivateKey<UintRef<'a>>, contents => {
         let key: proved::RsaPrivateKeyRef<'a> = read_contents(Global, contents)?;
         #[rustfmt::skip]

@@ -3,15 +3,16 @@
 use crate::algorithm::{AlgorithmIdentifierOwned, AlgorithmIdentifierRef};
 use crate::der::asn1::{Any, AnyRef, ObjectIdentifier, ObjectIdentifierRef, OctetStringRef, Uint, UintRef};
 use crate::der::{self, Length};
+use crate::keys::public_key;
 use crate::values::{Held, Number};
 #[cfg(feature = "alloc")]
 use crate::{
-    Error, RsaPrivateKey, RsaPublicKey,
+    Error, RsaPrivateKey,
     der::{Document, SecretDocument},
 };
 use crate::{
     RsaOaepParamsOwned, RsaOaepParamsRef, RsaPrivateKeyOwned, RsaPrivateKeyRef, RsaPrivateKeyView, RsaPssParamsOwned,
-    RsaPssParamsRef, RsaPublicKeyOwned, RsaPublicKeyRef,
+    RsaPssParamsRef, RsaPublicKey, RsaPublicKeyOwned, RsaPublicKeyRef,
 };
 use core::convert::Infallible;
 
@@ -66,6 +67,10 @@ fn copied_number<U: Number>(number: &U) -> der::Result<Uint> {
     Uint::new(number.as_number().as_bytes())
 }
 
+fn copied_key<U: Number>(key: &RsaPublicKey<U>) -> der::Result<RsaPublicKeyOwned> {
+    Ok(RsaPublicKey { modulus: copied_number(&key.modulus)?, public_exponent: copied_number(&key.public_exponent)? })
+}
+
 fn copied_any<P: Held>(any: &P) -> der::Result<Any> {
     let any = any.as_any();
     Any::new(any.tag(), any.value())
@@ -83,7 +88,7 @@ both_ways! {
     UintRef Uint, number => copied_number(number), lent_number(number);
     AnyRef Any, any => copied_any(any), lent_any(any);
     AlgorithmIdentifierRef AlgorithmIdentifierOwned, algorithm => algorithm.map(copied_any), algorithm.map(lent_any);
-    RsaPublicKeyRef RsaPublicKeyOwned, key => key.map(copied_number), key.map(lent_number);
+    RsaPublicKeyRef RsaPublicKeyOwned, key => copied_key(key), Ok::<_, Infallible>(public_key(key));
     RsaPssParamsRef RsaPssParamsOwned, params => params.map(copied_any), params.map(lent_any);
     RsaOaepParamsRef RsaOaepParamsOwned, params => params.map(copied_any), params.map(lent_any);
 }
@@ -95,7 +100,7 @@ made! {
 #[cfg(feature = "alloc")]
 made! {
     "Encodes the key.", Error;
-    {U: Number} RsaPublicKey<U> => Document, key => Document::written(&key.written());
+    {U: Number} RsaPublicKey<U> => Document, key => Document::written(&public_key(key));
     {U: Number} RsaPrivateKey<U> => SecretDocument, key => SecretDocument::written(&key.written()?);
 }
 

@@ -12,8 +12,8 @@ pub use proved::{Error, ErrorKind, Length, Result, Tag, TagNumber};
 /// The types of ASN.1.
 pub mod asn1 {
     pub use crate::identifier::{ObjectIdentifier, ObjectIdentifierRef};
-    pub use crate::proved::der_core::{OctetStringRef, UintRef};
-    pub use crate::values::{Any, AnyRef, Uint};
+    pub use crate::proved::der_core::{OctetStringRef, Uint, UintRef};
+    pub use crate::values::{Any, AnyRef};
 }
 
 /// Object identifiers, and types that name one.

@@ -1,13 +1,12 @@
-//! RSA private keys.
+//! RSA keys.
 
 use crate::der::asn1::{OctetStringRef, Uint, UintRef};
 use crate::der::{self, decoded, encoded, from_slices};
 use crate::proved::der_core::read_borrowed;
 use crate::proved::pkcs1::{self as proved, OtherPrimeInfo, OtherPrimes, PrivateKeyOf, Version};
-use crate::public_key::{RsaPublicKey, RsaPublicKeyRef};
+use crate::proved::pkcs1::{RsaPrivateKeyView, RsaPublicKey, RsaPublicKeyRef};
 use crate::rattle_std::{alloc::Global, prelude::Vec};
 use crate::values::Number;
-use crate::view::RsaPrivateKeyView;
 use crate::{Error, Result};
 use core::fmt;
 
@@ -20,6 +19,15 @@ impl<U> core::ops::Deref for OtherPrimeInfos<U> {
 
     fn deref(&self) -> &[OtherPrimeInfo<U>] {
         &self.0
+    }
+}
+
+impl<'k, U> IntoIterator for &'k OtherPrimeInfos<U> {
+    type Item = &'k OtherPrimeInfo<U>;
+    type IntoIter = core::slice::Iter<'k, OtherPrimeInfo<U>>;
+
+    fn into_iter(self) -> Self::IntoIter {
+        self.iter()
     }
 }
 
@@ -201,8 +209,8 @@ impl<U: Number> fmt::Debug for RsaPrivateKey<U> {
     fn fmt(&self, f: &mut fmt::Formatter<'_>) -> fmt::Result {
         f.debug_struct("RsaPrivateKey")
             .field("version", &self.version())
-            .field("modulus", &format_args!("{:#x}", self.modulus.as_number()))
-            .field("public_exponent", &format_args!("{:#x}", self.public_exponent.as_number()))
+            .field("modulus", &self.modulus.as_number())
+            .field("public_exponent", &self.public_exponent.as_number())
             .finish_non_exhaustive()
     }
 }
@@ -222,15 +230,31 @@ pub(crate) fn asn1<T>(read: Result<T>) -> der::Result<T> {
     })
 }
 
+/// What `from_der` of a view gives, in line: a struct of it is then made without a copy in memory.
+#[inline(always)]
+fn view(bytes: &[u8]) -> der::Result<RsaPrivateKeyView<'_>> {
+    asn1(RsaPrivateKeyView::try_from(bytes))
+}
+
+/// The public key as it is written.
+#[inline]
+pub(crate) fn public_key<U: Number>(key: &RsaPublicKey<U>) -> RsaPublicKeyRef<'_> {
+    RsaPublicKey { modulus: key.modulus.as_number(), public_exponent: key.public_exponent.as_number() }
+}
+
 decoded! {
     {} OtherPrimeInfo<UintRef<'a>>, bytes => read_borrowed(bytes);
-    {} RsaPrivateKey<UintRef<'a>>, bytes => RsaPrivateKey::of_view(&RsaPrivateKeyView::read(bytes)?);
+    {} RsaPrivateKey<UintRef<'a>>, bytes => RsaPrivateKey::of_view(&view(bytes)?);
     {} RsaPrivateKey<Uint>, bytes => RsaPrivateKeyRef::from_der(bytes)?.try_into();
+    {} RsaPrivateKeyView<'a>, bytes => view(bytes);
+    {} RsaPublicKey<UintRef<'a>>, bytes => read_borrowed(bytes);
+    {} RsaPublicKey<Uint>, bytes => RsaPublicKeyRef::from_der(bytes)?.try_into();
 }
-from_slices! { RsaPrivateKey<UintRef<'a>>; RsaPrivateKey<Uint>; }
+from_slices! { RsaPrivateKey<UintRef<'a>>; RsaPrivateKey<Uint>; RsaPublicKey<Uint>; }
 encoded! {
     {} OtherPrimeInfo<UintRef<'_>>, other => *other;
     {U: Number} RsaPrivateKey<U>, key => key.written()?;
+    {U: Number} RsaPublicKey<U>, key => public_key(key);
 }
 
 impl<'a> TryFrom<OctetStringRef<'a>> for RsaPrivateKeyRef<'a> {

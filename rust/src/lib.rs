@@ -43,6 +43,7 @@ extern crate alloc;
 extern crate std;
 
 mod algorithm;
+pub mod algorithms;
 mod clones;
 mod contents;
 mod conversions;
@@ -54,7 +55,7 @@ mod files;
 mod identifier;
 mod idioms;
 mod keys;
-mod named;
+mod numbers;
 mod oid_text;
 mod param_calls;
 mod params;
@@ -71,32 +72,29 @@ pub mod pkcs8;
     unused_variables
 )]
 mod proved;
-mod public_key;
 #[cfg_attr(not(feature = "std"), allow(dead_code))]
 #[allow(unnameable_types)]
 mod rattle_std;
 mod traits;
 mod values;
-mod view;
 
+#[doc(no_inline)]
+pub use algorithms::*;
 pub use der::asn1::{ObjectIdentifier, Uint, UintRef};
 #[cfg(feature = "std")]
 pub use files::FileError;
 pub use keys::{OtherPrimeInfos, RsaPrivateKey, RsaPrivateKeyOwned, RsaPrivateKeyRef};
-pub use named::{
-    Mgf1, PSpecified, RsaEncryption, RsaesOaep, RsassaPss, Sha1, Sha3_256, Sha3_384, Sha3_512, Sha224, Sha256, Sha384,
-    Sha512, Sha512_224, Sha512_256,
-};
 pub use param_calls::{
     RsaOaepParamsOwned, RsaOaepParamsRef, RsaOaepParamsView, RsaPssParamsOwned, RsaPssParamsRef, RsaPssParamsView,
 };
 pub use params::{RsaOaepParams, RsaPssParams};
-pub use proved::pkcs1::{Error, OtherPrimeInfo, OtherPrimes, Result, TrailerField, Version};
-pub use public_key::{RsaPublicKey, RsaPublicKeyOwned, RsaPublicKeyRef};
+pub use proved::pkcs1::{
+    Error, OtherPrimeInfo, OtherPrimes, Result, RsaPrivateKeyView, RsaPublicKey, RsaPublicKeyOwned, RsaPublicKeyRef,
+    TrailerField, Version,
+};
 pub use traits::{DecodeRsaPrivateKey, DecodeRsaPublicKey};
 #[cfg(feature = "alloc")]
 pub use traits::{EncodeRsaPrivateKey, EncodeRsaPublicKey};
-pub use view::RsaPrivateKeyView;
 
 /// The object identifier of RSA keys, rsaEncryption (RFC 8017 A.1).
 pub const ALGORITHM_OID: ObjectIdentifier = <RsaEncryption as der::oid::AssociatedOid>::OID;

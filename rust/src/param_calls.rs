@@ -1,11 +1,11 @@
 //! The calls of both types of parameters.
 
 use crate::algorithm::AlgorithmIdentifier;
+use crate::algorithms::{RsaesOaep, RsassaPss};
 use crate::der::asn1::{Any, AnyRef, ObjectIdentifierRef};
 use crate::der::{self, Tag, decoded, encoded, from_slices};
 use crate::identifier::{AssociatedOid, Identifier, OfIdentifier};
 use crate::keys::asn1;
-use crate::named::{RsaesOaep, RsassaPss};
 use crate::params::{RsaOaepParams, RsaPssParams};
 use crate::proved::der_core::NoMemory;
 use crate::proved::pkcs1_params::{self as proved, EncodeParams, FromAlgorithm};

@@ -1,10 +1,10 @@
 //! Parameters of RSASSA-PSS (RFC 8017 A.2.3) and RSAES-OAEP (A.2.1).
 
 use crate::algorithm::{AlgorithmIdentifier, MaskGen};
+use crate::algorithms::{Mgf1, PSpecified};
 use crate::der::Tag;
 use crate::der::asn1::{AnyRef, ObjectIdentifier};
 use crate::identifier::{AssociatedOid, Identifier};
-use crate::named::{Mgf1, PSpecified};
 use crate::proved::pkcs1_params::{self as proved, TrailerField};
 use crate::proved::spki_core::AlgorithmView;
 use crate::values::Held;

@@ -51,7 +51,7 @@ impl<'a> PrivateKeyInfoRef<'a> {
             parameters: self.algorithm.parameters.map(|any| any.0),
         };
         let info = proved::PrivateKeyInfoRef { algorithm, private_key: self.private_key, attributes: None };
-        info.rsa_view().map(RsaPrivateKeyView)
+        info.rsa_view()
     }
 }
 
@@ -87,7 +87,7 @@ impl<'a> RsaPrivateKeyRef<'a> {
     /// # Errors
     /// The slice is no container, or as of `PrivateKeyInfoRef::rsa_view`.
     pub fn from_pkcs8_der(bytes: &'a [u8]) -> Result<RsaPrivateKeyRef<'a>> {
-        Ok(RsaPrivateKeyRef::of_view(&RsaPrivateKeyView(proved::rsa_from_pkcs8_der(bytes)?))?)
+        Ok(RsaPrivateKeyRef::of_view(&proved::rsa_from_pkcs8_der(bytes)?)?)
     }
 }
 

@@ -1,12 +1,10 @@
 //! Numbers that own their octets, and encodings of any tag.
 
-use crate::der::{self, Length, Result, Tag, cloned};
-use crate::proved::der_core::{self as proved, AsUintRef, UintRef};
-use crate::proved::pkcs1::TrailerField;
+use crate::der::{self, Result, Tag, cloned};
+use crate::proved::der_core::{self as proved, AsUintRef, Uint, UintRef};
 use crate::proved::spki_core::{self, AnyParams, AnyValue};
 use crate::rattle_std::alloc::Global;
 use core::cmp::Ordering;
-use core::fmt;
 use core::hash::{Hash, Hasher};
 
 /// Makes a trait one that only this crate has types for.
@@ -21,30 +19,19 @@ macro_rules! seal {
 }
 seal! { UintRef<'_> Uint AnyRef<'_> Any }
 
-/// An unsigned number as big-endian bytes: no leading zeros, and one zero byte for 0. It owns them.
-#[derive(PartialEq, Eq)]
-pub struct Uint(pub(crate) proved::Uint);
-
 impl Uint {
     /// The number with these big-endian bytes, which may have leading zeros.
     /// # Errors
     /// `Length` of INTEGER if there is no byte, `Overflow` if more than `Length::MAX` bytes remain without leading
     /// zeros, else `OutOfMemory`.
     pub fn new(bytes: &[u8]) -> Result<Uint> {
-        Ok(Uint(proved::Uint::new(Global, bytes)?))
-    }
-
-    /// The bytes, most significant first.
-    #[inline]
-    #[must_use]
-    pub fn as_bytes(&self) -> &[u8] {
-        self.0.as_bytes()
+        Uint::new_in(Global, bytes)
     }
 
     /// How many bits the number has: none, if it is 0.
     #[must_use]
     pub fn bit_len(&self) -> u64 {
-        self.0.as_uint_ref().bit_len()
+        self.as_uint_ref().bit_len()
     }
 }
 
@@ -64,12 +51,12 @@ impl Number for UintRef<'_> {
 impl Number for Uint {
     #[inline]
     fn as_number(&self) -> UintRef<'_> {
-        self.0.as_uint_ref()
+        self.as_uint_ref()
     }
 }
 
 /// A tag and contents octets, which are opaque. It borrows them.
-#[derive(Clone, Copy, Debug, PartialEq, Eq)]
+#[derive(Clone, Copy, Debug, PartialEq, Eq, Hash)]
 pub struct AnyRef<'a>(pub(crate) spki_core::AnyRef<'a>);
 
 impl<'a> AnyRef<'a> {
@@ -121,7 +108,7 @@ impl Any {
     /// # Errors
     /// `Overflow` if there are more than `Length::MAX`, else `OutOfMemory`.
     pub fn new(tag: Tag, contents: &[u8]) -> Result<Any> {
-        Ok(Any(spki_core::Any::new(Global, tag, contents)?))
+        Ok(Any(spki_core::Any::new_in(Global, tag, contents)?))
     }
 
     /// The tag, of any class and number.
@@ -168,31 +155,15 @@ fn readable(any: spki_core::AnyRef<'_>) -> spki_core::AnyRef<'_> {
 
 cloned! { {} Uint; {} Any; }
 
-impl fmt::LowerHex for UintRef<'_> {
-    /// Prints two digits for each byte. With `#` they stand behind `0x`.
-    fn fmt(&self, f: &mut fmt::Formatter<'_>) -> fmt::Result {
-        f.write_str(if f.alternate() { "0x" } else { "" })?;
-        self.as_bytes().iter().try_for_each(|octet| write!(f, "{octet:02x}"))
-    }
-}
-
-impl fmt::LowerHex for Uint {
-    /// As of `UintRef`.
-    fn fmt(&self, f: &mut fmt::Formatter<'_>) -> fmt::Result {
-        fmt::LowerHex::fmt(&self.as_number(), f)
-    }
-}
-
-impl fmt::Debug for Uint {
-    /// Prints the number in hexadecimal.
-    fn fmt(&self, f: &mut fmt::Formatter<'_>) -> fmt::Result {
-        write!(f, "{self:#x}")
-    }
-}
-
 impl PartialEq for Any {
     fn eq(&self, other: &Any) -> bool {
         self.as_any() == other.as_any()
+    }
+}
+
+impl Hash for Any {
+    fn hash<H: Hasher>(&self, state: &mut H) {
+        self.as_any().hash(state);
     }
 }
 
@@ -209,7 +180,7 @@ macro_rules! of_any {
 }
 of_any! { UintRef<'a> proved::OctetStringRef<'a> }
 
-/// `Ord` and `Hash` by a key: what `==` compares too.
+/// `Ord` by a key: what `==` compares too.
 macro_rules! ordered {
     ($($name:ty, $value:ident => $key:expr;)*) => { $(
         impl Ord for $name {
@@ -226,18 +197,6 @@ macro_rules! ordered {
                 Some(self.cmp(other))
             }
         }
-
-        hashed! { $name, $value => $key; }
-    )* };
-}
-macro_rules! hashed {
-    ($($name:ty, $value:ident => $key:expr;)*) => { $(
-        impl Hash for $name {
-            fn hash<H: Hasher>(&self, state: &mut H) {
-                let $value = self;
-                $key.hash(state);
-            }
-        }
     )* };
 }
 ordered! {
@@ -247,8 +206,4 @@ ordered! {
     proved::OctetStringRef<'_>, octets => octets.as_bytes();
     AnyRef<'_>, any => (any.tag(), any.value());
     Any, any => (any.tag(), any.value());
-}
-hashed! {
-    Length, length => length.to_usize();
-    TrailerField, field => *field as u8;
 }

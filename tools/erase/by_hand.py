@@ -2,8 +2,8 @@
 """by_hand.py [FOLDER]: whether code by hand in rust/, or in this folder, changes what the made text beside it means.
 
 rustc prefers a method of a type to one of a trait, and takes a macro that stands in front. So refused are an `impl` by
-hand of a type of the made text that isn't of a trait, unless one of the type's arguments is a type by hand or APART has
-it, and a macro by hand in the reach of the made text.
+hand of a type of the made text that isn't of a trait, unless APART has its methods, and a macro by hand in the reach of
+the made text.
 """
 import collections
 import pathlib
@@ -17,8 +17,13 @@ TOP = pathlib.Path(__file__).resolve().parents[2]
 ROOTS = ("src", "c/src", "tool/src")
 MADE = ("src/proved", "src/bin/pkcs1_tool/tool", "c/src/calls")
 MODULES = {pathlib.Path(it).name for it in MADE}
-# By the file, the methods by hand of a type of the made text that hide none: no trait of numbers has these.
-APART = {("src/conversions.rs", "UintRef"): {"len", "is_empty"}}
+# The methods by hand of types of the made text that hide none: no trait of these types has one of the name.
+APART = {
+    "UintRef": {"len", "is_empty"},
+    "Uint": {"new", "bit_len", "len", "is_empty", "try_clone"},
+    "RsaPublicKeyOwned": {"try_clone"},
+    "OtherPrimeInfo": {"try_clone"},
+}
 
 
 def text_of(path):
@@ -136,11 +141,10 @@ class Hand:
         answers = [it for it in answers if it is not None]
         return all(answers) if answers else None
 
-    def is_by_hand(self, file, path, arguments):
-        """Whether a type is by hand, or one of its arguments is. What can't be told is told by the name."""
+    def is_by_hand(self, file, path):
+        """Whether a type is by hand. What can't be told is told by the name."""
         found = self.declares(file, path)
-        by_name = path[-1] not in self.made and found is None
-        return found or by_name or any(self.declares(file, [it]) for it in arguments)
+        return found or path[-1] not in self.made and found is None
 
 
 def methods_of(hand):
@@ -169,11 +173,9 @@ def messages(top):
     hand = Hand(top)
     for file, at, places, names in methods_of(hand):
         for place in places:
-            path, end = path_at(file.code, place)
-            end += file.code.word(end) == "::"
-            arguments = [file.code.word(it) for it in range(end, behind_angles(file.code, end))]
-            is_apart = path and names and names <= APART.get((file.name, path[-1]), set())
-            if not path or not is_apart and not hand.is_by_hand(file, path, arguments):
+            path, _ = path_at(file.code, place)
+            is_apart = path and names and names <= APART.get(path[-1], set())
+            if not path or not is_apart and not hand.is_by_hand(file, path):
                 yield (f"{top}/{file.name}: line {file.code.line(at)} gives methods to "
                        f"{'::'.join(path) or 'what can not be told'}, which is of the made text")
     for file in hand.files:

@@ -18,7 +18,7 @@ MADE = {"src/proved": ["der_core", "spki_core", "pkcs1_params", "pkcs1", "pkcs8_
 PLACES = {"std": "crate :: rattle_std", "arrayvec": "crate :: rattle_std :: arrayvec",
           "hex": "crate :: rattle_std :: hex"}
 PLACES |= {crate: f"crate :: {folder.split('/')[-1]} :: {crate}" for folder, its in MADE.items() for crate in its}
-INSIDE = ["decode", "to_bytes", "try_clone"]  # they take or give what isn't public
+INSIDE = ["decode", "to_bytes", "as_key_ref", "encode_key"]  # they ask for or give what isn't public
 PRELUDE = {"Vec", "vec", "String", "ToString", "format", "HostRuntime", "Eprint", "eprintln", "assert", "assert_eq"}
 TOKEN = re.compile(r"""
     //[^\n]* | (?P<kept> b?"(?:\\.|[^"\\])*" | b?'(?:\\[^\n][^'\n]*|[^'\\\n])' | '[a-z_]\w* | \w+
@@ -47,6 +47,7 @@ class Source:
 
     def __init__(self, crate, text):
         self.crate, self.words = crate, words_of(text)
+        self.is_library = crate in MADE["src/proved"]
         self.behind, self.around, opened = {}, [], [-1]
         self.passed = None  # what the body of the call for C that stands here begins with
         for at in range(len(self.words)):
@@ -101,9 +102,22 @@ class Source:
         for phrase in (", Drop", "+ Drop", ": Drop"):
             if self.says(at, phrase) and not (phrase == ": Drop" and self[at + 2] == "+"):
                 return 2, ""
-        if self.says(at, "Drop +") or self.says(at, "Drop ,"):
-            return 2, ""
-        return None
+        return (2, "") if self.says(at, "Drop +") or self.says(at, "Drop ,") else None
+
+    def derived(self, at):
+        """In the library `Hash` follows `Eq`, and numbers derive no `Debug`."""
+        begin = self.around[at] if self.is_library and self[at] in ("Eq", "Debug") else -1
+        if begin < 0 or not self.says(begin - 3, "# [ derive ("):
+            return None
+        if self[at] == "Eq":
+            return 1, "Eq , Hash"
+        return (2, "") if self[self.behind[begin] + 3] in ("Uint", "UintRef") else None
+
+    def handle(self, at):
+        """What takes a handle of memory is called otherwise."""
+        first = self[at + 4] if self[at + 3] == "." else self[at + 2]
+        taken = self[at] == "try_clone" or self[at] == "new" and first in ("alloc", "memory")
+        return (1, f"{self[at]}_in") if taken and self[at + 1] == "(" else None
 
     def clone(self, at):
         if self[at] != "impl":
@@ -169,8 +183,8 @@ class Source:
         return None
 
     def narrowed(self, at):
-        """A public method with a `requires` or of the inside, and a public field beside a ghost one, are
-        `pub(crate)`."""
+        """A public method with a `requires`, with a handle or of the inside, and a public field beside a ghost one, are
+        `pub(crate)`. What other methods of the library give must be used."""
         around = self.around[at] if self[at] == "pub" else -1
         if around < 0:
             return None
@@ -179,7 +193,13 @@ class Source:
             end = self.until(name, ["{", ";", "requires"])
             while self[end - 1] in ("ensures", "*") or self[end - 2] in ("ensures", "*"):
                 end = self.until(self.behind[end], ["{", ";", "requires"])
-            meant = self[end] == "requires" or self.says(at, "pub fn") and self[name] in INSIDE
+            open_ = self.until(name, ["("])
+            given, pairs = self.behind[open_], {(self[it], self[it + 1]) for it in range(open_, self.behind[open_])}
+            inside = self[name] in INSIDE or self.handle(name)
+            meant = self[end] == "requires" or self.says(at, "pub fn") and inside
+            is_result = self[self.until(given, ["{", ";", "<", "where", "requires", "ensures"]) - 1] == "Result"
+            if not meant and self.is_library and self[given] == "->" and not is_result and ("&", "mut") not in pairs:
+                return 1, "# [ must_use ] pub"
         else:
             inside = range(around + 1, self.behind[around])
             meant = self[name + 1] == ":" and any(self[it] == "ghost" and self.around[it] == around for it in inside)
@@ -187,8 +207,8 @@ class Source:
 
     def formed(self, at):
         """The first form that stands here: its name, how many tokens it has, and what must stand in its place."""
-        for form in (self.ghost, self.clause, self.tactic, self.final, self.drop, self.clone,
-                     self.formatter, self.path, self.errors, self.empty, self.call, self.entry, self.narrowed):
+        for form in (self.ghost, self.clause, self.tactic, self.final, self.drop, self.derived,
+                     self.handle, self.clone, self.formatter, self.path, self.errors, self.empty, self.call, self.entry, self.narrowed):
             found = form(at)
             if found:
                 return form.__name__, found[0], found[1].split()

@@ -3,11 +3,10 @@
 A form is a function of the code and of a place in it. It gives an edit if it stands there, and else nothing. Its first
 sentence stands in README.md too.
 """
-import functools
 import re
-from dataclasses import dataclass
 
-from tokens import Refused
+from calls import body_of_call, slice_of_call
+from tokens import Edit, Refused
 
 LIBRARY = ("der_core", "spki_core", "pkcs1_params", "pkcs1", "pkcs8_core")
 TOOL = ("pkcs1_program", "pkcs1_tool")
@@ -17,21 +16,15 @@ PROGRAMS = ("examples", "pkcs1_vectors")
 MOVED = {it: f"crate::{place}::{it}" for place, crates in (("proved", LIBRARY), ("tool", TOOL), ("calls", CALLS), ("programs", PROGRAMS))
          for it in crates} \
     | {"std": "crate::rattle_std", "arrayvec": "crate::rattle_std::arrayvec", "hex": "crate::rattle_std::hex"}
-# Methods of public types that take or give what the crate doesn't make public: Global, Reader, ArrayVec.
-INSIDE = ("decode", "to_bytes", "try_clone")
+# Methods of public types that ask for or give what the crate doesn't make public: Reader, ArrayVec, traits of numbers.
+INSIDE = ("decode", "to_bytes", "as_key_ref", "encode_key")
+# What a handle of memory is called, and the types of numbers.
+HANDLES = ("alloc", "memory")
+NUMBERS = ("Uint", "UintRef")
 PRELUDE = ("Vec", "String", "ToString", "HostRuntime", "Eprint")
 PRELUDE_MACROS = ("vec", "format", "println", "eprintln", "assert", "assert_eq", "assert_ne")
 UNKNOWN = ("prove", "prove_eq", "prove_ne", "ghost", "requires", "ensures", "invariant", "decreases", "Drop",
            "derive_where")
-
-
-@dataclass(frozen=True)
-class Edit:
-    """A part of the text, and what stands in its place."""
-
-    begin: int
-    end: int
-    text: str = ""
 
 
 def above_docs(text, begin):
@@ -68,23 +61,11 @@ def ghost_item(code, at):
     return lines_of(code, at, end if code.word(end) in ";," else end - 1)
 
 
-def clause_end(code, at):
-    """The token behind a clause, if one stands here."""
-    if code.word(at) not in ("requires", "ensures"):
-        return at
-    brace = at + 1 + (code.word(at + 1) == "*")
-    brace += code.word(brace) != "{"
-    if code.word(brace) != "{":
-        raise Refused(f"line {code.line(at)}: a clause without braces")
-    end = code.closing[brace] + 1
-    return code.closing[end + 1] + 1 if code.reads(end, "by {") else end
-
-
 def clauses(code, at):
     """A `requires` or `ensures` is deleted, and so are those behind it."""
     end = at
-    while clause_end(code, end) != end:
-        end = clause_end(code, end)
+    while code.clause_end(end) != end:
+        end = code.clause_end(end)
     if end == at:
         return None
     if code.word(end) not in ("{", ";"):
@@ -102,18 +83,19 @@ def tactic(code, at):
     return None
 
 
-def derive_of_drop(code, at):
-    """`Drop` in a list of derived traits is deleted; a list of it alone is deleted too."""
+def derived(code, at):
+    """In a list of derived traits `Drop` is deleted; in the library `Hash` follows `Eq`, and of `Uint` and `UintRef`
+    `Debug` is deleted."""
     if not code.reads(at, "# [ derive ("):
         return None
     end = code.closing[at + 3]
     names = [it.text for it in code.tokens[at + 4:end] if it.text != ","]
-    if "Drop" not in names:
-        return None
+    gone = ("Drop", "Debug") if code.crate in LIBRARY and code.word(end + 4) in NUMBERS else ("Drop",)
+    more = {"Eq": ["Eq", "Hash"]} if code.crate in LIBRARY else {}
+    kept = [it for name in names if name not in gone for it in more.get(name, [name])]
     if names == ["Drop"]:
         return lines_of(code, at, end + 1, documented=False)
-    kept = ", ".join(it for it in names if it != "Drop")
-    return Edit(code.tokens[at + 3].end, code.tokens[end].begin, kept)
+    return Edit(code.tokens[at + 3].end, code.tokens[end].begin, ", ".join(kept)) if kept != names else None
 
 
 def bound_of_drop(code, at):
@@ -174,10 +156,10 @@ def path(code, at):
 def has_requires(code, at):
     """Whether the function whose `fn` stands here has a `requires`."""
     end = code.find(at, ("{", ";", "requires", "ensures"))
-    while clause_end(code, end) != end:
+    while code.clause_end(end) != end:
         if code.word(end) == "requires":
             return True
-        end = clause_end(code, end)
+        end = code.clause_end(end)
     return False
 
 
@@ -191,11 +173,37 @@ def method_with_requires(code, at):
     return Edit(code.tokens[at].begin, code.tokens[at].end, "pub(crate)")
 
 
+def call_with_handle(code, at):
+    """A `new` with a handle of memory is `new_in`, as Rust's own is, and each `try_clone` is `try_clone_in`."""
+    handle = at + 2 + 2 * (code.word(at + 3) == ".")
+    named = code.word(at) == "new" and code.word(handle) in HANDLES or code.word(at) == "try_clone"
+    if not named or code.word(at + 1) != "(":
+        return None
+    return Edit(code.tokens[at].begin, code.tokens[at].end, f"{code.word(at)}_in")
+
+
 def method_of_the_inside(code, at):
-    """A public method that takes or gives what the crate doesn't make public is `pub(crate)`."""
-    if not code.reads(at, "pub fn") or code.around[at] is None or code.word(at + 2) not in INSIDE:
+    """A public method that asks for or gives what the crate doesn't make public is `pub(crate)`, as that `new_in` is."""
+    if not code.reads(at, "pub fn") or code.around[at] is None:
+        return None
+    if code.word(at + 2) not in INSIDE and not call_with_handle(code, at + 2):
         return None
     return Edit(code.tokens[at].begin, code.tokens[at].end, "pub(crate)")
+
+
+def method_with_result(code, at):
+    """A public method of the library that gives a value, but no `Result`, and takes nothing by `&mut`, is
+    `must_use`."""
+    name = at + 2 + (code.word(at + 1) == "const")
+    if code.word(at) != "pub" or code.word(name - 1) != "fn" or code.around[at] is None or code.crate not in LIBRARY:
+        return None
+    open_ = code.find(name, "(")
+    given = code.closing[open_] + 1
+    result = [it.text for it in code.tokens[given:code.find(given, ("{", ";", "requires", "ensures", "where", "<"))]]
+    if result[:1] != ["->"] or result[-1] == "Result" or any(code.reads(it, "& mut") for it in range(open_, given)):
+        return None
+    margin = code.text[code.text.rfind("\n", 0, code.tokens[at].begin):code.tokens[at].begin]
+    return Edit(code.tokens[at].begin, code.tokens[at].end, f"#[must_use]{margin}pub")
 
 
 def field_with_invariant(code, at):
@@ -222,54 +230,6 @@ def empty_slice(code, at):
     return Edit(code.tokens[at].begin, code.tokens[at + 2].end, "crate::rattle_std::NO_OCTETS")
 
 
-@functools.cache
-def slices_of_calls(code):
-    """The calls for C: by where its body begins, each call's parameters that are slices: of each the name, where its
-    type begins and ends, and whether it is written to."""
-    calls = {}
-    for at in range(len(code.tokens)):
-        if code.around[at] is not None or not code.reads(at, 'extern "C" fn'):
-            continue
-        open_ = code.find(at, "(")
-        body = code.find(code.closing[open_] + 1, ("{", ";", "requires", "ensures"))
-        while clause_end(code, body) != body:
-            body = clause_end(code, body)
-        calls[body] = []
-        it = open_ + 1
-        while it < code.closing[open_]:
-            kind = it + 3 + (code.tokens[it + 3].kind == "lifetime")
-            written = code.word(kind) == "mut"
-            if code.word(it + 2) == "&" and code.word(kind + written) == "[":
-                calls[body].append((code.word(it), it + 2, code.closing[kind + written], written))
-            it = code.find(it, ",)") + 1
-    return calls
-
-
-def slice_of_call(code, at):
-    """A slice that C passes is an address and a length: the parameter of a call is two."""
-    if code.word(at) != "&" or code.word(at - 1) != ":" or 'extern "C"' not in code.text:
-        return None
-    for name, begin, end, written in (it for slices in slices_of_calls(code).values() for it in slices):
-        if begin == at:
-            first = next(it for it in range(at, end) if code.closing.get(it) == end)
-            of = code.text[code.tokens[first].end:code.tokens[end].begin]
-            return Edit(code.tokens[at].begin, code.tokens[end].end,
-                        f"{'*mut' if written else '*const'} {of}, {name}_len: usize")
-    return None
-
-
-def body_of_call(code, at):
-    """The body of a call for C begins with the slices of these addresses and lengths."""
-    if code.word(at) != "{" or code.around[at] is not None or 'extern "C"' not in code.text:
-        return None
-    slices = slices_of_calls(code).get(at)
-    if not slices:
-        return None
-    lines = "".join(f"\n    let {name} = unsafe {{ core::slice::from_raw_parts{'_mut' * written}({name}, {name}_len) }};"
-                    for name, _, _, written in slices)
-    return Edit(code.tokens[at].begin, code.tokens[at].end, "{" + lines)
-
-
 def main_of_program(code, at):
     """`main` of a program is public, so that another `main` calls it."""
     if code.reads(at, "fn main (") and code.around[at] is None and code.crate in TOOL + PROGRAMS:
@@ -294,6 +254,6 @@ def refused(code, at):
         raise Refused(f"line {code.line(at)}: no form is known here: {around!r}")
 
 
-FORMS = (ghost_item, clauses, tactic, derive_of_drop, bound_of_drop, final, clone_that_may_fail, writer_of_fmt,
-         formatter, path, method_with_requires, method_of_the_inside, field_with_invariant,
-         enum_of_errors, empty_slice, slice_of_call, body_of_call, main_of_program, runtime_of_test, refused)
+FORMS = (ghost_item, clauses, tactic, derived, bound_of_drop, final, clone_that_may_fail, writer_of_fmt,
+         formatter, path, method_with_requires, method_of_the_inside, method_with_result, call_with_handle,
+         field_with_invariant, enum_of_errors, empty_slice, slice_of_call, body_of_call, main_of_program, runtime_of_test, refused)

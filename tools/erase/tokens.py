@@ -24,6 +24,15 @@ class Token:
     end: int
 
 
+@dataclass(frozen=True)
+class Edit:
+    """A part of the text, and what stands in its place."""
+
+    begin: int
+    end: int
+    text: str = ""
+
+
 class Code:
     """The text of a file, and its tokens."""
 
@@ -69,6 +78,17 @@ class Code:
                 return at
             at = self.closing.get(at, at) + 1
         raise Refused(f"nothing of {ends} follows")
+
+    def clause_end(self, at):
+        """The token behind a clause, if one stands here."""
+        if self.word(at) not in ("requires", "ensures"):
+            return at
+        brace = at + 1 + (self.word(at + 1) == "*")
+        brace += self.word(brace) != "{"
+        if self.word(brace) != "{":
+            raise Refused(f"line {self.line(at)}: a clause without braces")
+        end = self.closing[brace] + 1
+        return self.closing[end + 1] + 1 if self.reads(end, "by {") else end
 
     def line(self, at):
         """The number of the token's line, for a message."""

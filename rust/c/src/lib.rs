@@ -5,6 +5,8 @@
 mod calls;
 #[path = "../../src/clones.rs"]
 mod clones;
+#[path = "../../src/numbers.rs"]
+mod numbers;
 #[path = "../../src/proved/mod.rs"]
 mod proved;
 #[path = "../../src/rattle_std/mod.rs"]

@@ -19,3 +19,19 @@ pub mod rattle_std;
 #[rustfmt::skip]
 pub mod tool;
 pub mod words;
+
+use proved::der_core::{Uint, UintRef};
+use std::fmt;
+
+// As Rattle derives it, which the rows have.
+impl fmt::Debug for UintRef<'_> {
+    fn fmt(&self, f: &mut fmt::Formatter<'_>) -> fmt::Result {
+        f.debug_struct("UintRef").field("bytes", &self.as_bytes()).finish()
+    }
+}
+
+impl fmt::Debug for Uint {
+    fn fmt(&self, f: &mut fmt::Formatter<'_>) -> fmt::Result {
+        f.debug_struct("Uint").field("bytes", &self.as_bytes()).finish()
+    }
+}

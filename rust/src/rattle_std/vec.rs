@@ -17,13 +17,13 @@ pub struct Vec<T> {
 
 impl<T> Vec<T> {
     /// An empty list. Nothing is allocated.
-    pub fn new(_alloc: Global) -> Vec<T> {
+    pub fn new_in(_alloc: Global) -> Vec<T> {
         Vec { items: Items::default() }
     }
 
     /// An empty list with room for so many items.
     pub fn with_room(alloc: Global, count: usize) -> Result<Vec<T>, AllocError> {
-        let mut made = Vec::new(alloc);
+        let mut made = Vec::new_in(alloc);
         made.reserve(count)?;
         Ok(made)
     }
@@ -63,7 +63,7 @@ impl<T> Vec<T> {
 impl<T: Copy> Vec<T> {
     /// A copy of the items.
     pub fn from_slice(alloc: Global, items: &[T]) -> Result<Vec<T>, AllocError> {
-        let mut copy = Vec::new(alloc);
+        let mut copy = Vec::new_in(alloc);
         copy.extend_from_slice(items)?;
         Ok(copy)
     }
@@ -78,7 +78,7 @@ impl<T: Copy> Vec<T> {
 
     /// The item, so many times.
     pub fn repeated(alloc: Global, item: T, count: usize) -> Result<Vec<T>, AllocError> {
-        let mut made = Vec::new(alloc);
+        let mut made = Vec::new_in(alloc);
         made.reserve(count)?;
         #[cfg(feature = "alloc")]
         made.items.resize(count, item);

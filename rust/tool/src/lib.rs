@@ -10,6 +10,8 @@ extern crate alloc;
 
 #[path = "../../src/clones.rs"]
 mod clones;
+#[path = "../../src/numbers.rs"]
+mod numbers;
 #[path = "../../src/proved/mod.rs"]
 #[allow(clippy::all, unused)]
 #[rustfmt::skip]

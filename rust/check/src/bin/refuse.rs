@@ -99,22 +99,22 @@ fn refuse_each(bytes: &[u8], count: &mut Count) {
     count.refuse(|| reencode_public_key(Global, bytes), |document| document.as_bytes().into());
     count.refuse(|| reencode_private_key(Global, bytes), |document| document.as_bytes().into());
     if let Ok(key) = RsaPublicKey::<Uint>::from_pkcs1_der(Global, bytes) {
-        count.refuse(|| TryClone::try_clone(&key, Global), encoded);
+        count.refuse(|| TryClone::try_clone_in(&key, Global), encoded);
         count.refuse(|| key.to_pkcs1_der(Global), |document| document.as_bytes().into());
     }
     if let Ok(key) = RsaPrivateKey::<Uint>::decode_owned_key(Global, bytes) {
-        count.refuse(|| TryClone::try_clone(&key, Global), encoded);
+        count.refuse(|| TryClone::try_clone_in(&key, Global), encoded);
         count.refuse(|| key.to_pkcs1_der(Global), |document| document.as_bytes().into());
     }
     let all = |spellings: &check::rattle_std::prelude::Vec<check::rattle_std::prelude::Vec<u8>>| {
         spellings.iter().flat_map(|spelling| spelling.to_vec()).collect()
     };
     if let Ok(params) = RsaPssParamsOwned::from_der(Global, bytes) {
-        count.refuse(|| -> Result<_, Error> { params.try_clone(Global) }, encoded);
+        count.refuse(|| -> Result<_, Error> { params.try_clone_in(Global) }, encoded);
         count.refuse(|| params.spellings(Global), all);
     }
     if let Ok(params) = RsaOaepParamsOwned::from_der(Global, bytes) {
-        count.refuse(|| -> Result<_, Error> { params.try_clone(Global) }, encoded);
+        count.refuse(|| -> Result<_, Error> { params.try_clone_in(Global) }, encoded);
         count.refuse(|| params.spellings(Global), all);
     }
 }

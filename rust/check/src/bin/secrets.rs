@@ -37,9 +37,9 @@ fn use_key(der: &[u8], out: &mut [u8]) {
     let key = RsaPrivateKeyRef::decode_key(Global, der).unwrap();
     let owned = RsaPrivateKey::<Uint>::decode_owned_key(Global, der).unwrap();
     black_box(format!("{key:?} {view:?} {owned:?} {:?}", owned.public_key()));
-    black_box((key.version(), TryClone::try_clone(&owned, Global).unwrap()));
-    assert!(key.encode_key(out).unwrap() == der.len() && owned.encode_key(out).unwrap() == der.len());
-    assert!(owned.encode_key(&mut out[..der.len() - 1]).is_err());
+    black_box((key.version(), TryClone::try_clone_in(&owned, Global).unwrap()));
+    assert!(key.encode_into(out).unwrap() == der.len() && owned.encode_into(out).unwrap() == der.len());
+    assert!(owned.encode_into(&mut out[..der.len() - 1]).is_err());
     let document = owned.to_pkcs1_der(Global).unwrap();
     black_box(format!("{document:?}"));
     black_box(document.as_bytes());

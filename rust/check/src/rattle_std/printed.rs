@@ -30,7 +30,7 @@ impl<T: Display> ToString for T {
 }
 
 impl String {
-    pub fn new(_alloc: Global) -> String {
+    pub fn new_in(_alloc: Global) -> String {
         String::default()
     }
 

@@ -10,6 +10,8 @@ extern crate std;
 
 #[path = "../../clones.rs"]
 mod clones;
+#[path = "../../numbers.rs"]
+mod numbers;
 #[path = "../../proved/mod.rs"]
 #[rustfmt::skip]
 mod proved;

@@ -28,17 +28,20 @@ fn fill(slice: &mut [u8], end: usize, bytes: &[u8]) -> usize {
 
 impl<'b> BackWriter<'b> {
     /// A writer over this slice, with nothing filled yet.
+    #[must_use]
     pub fn new(slice: &'b mut [u8]) -> BackWriter<'b> {
         let free = slice.len();
         BackWriter { slice, free }
     }
 
     /// How many octets there is still room for.
+    #[must_use]
     pub fn free(&self) -> usize {
         self.free
     }
 
     /// The filled part: the end of the slice.
+    #[must_use]
     pub fn finish(self) -> &'b [u8] {
         let free = self.free;
         let slice = self.slice;

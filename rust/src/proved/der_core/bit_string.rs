@@ -20,7 +20,7 @@ impl TagMarker for BitStringTag {
 }
 
 /// A BIT STRING of whole octets, which are the contents octets of a `C`. If bits are unused it is `Value` of BIT STRING.
-#[derive(Clone, Copy, Debug, PartialEq, Eq)]
+#[derive(Clone, Copy, Debug, PartialEq, Eq, Hash)]
 pub struct BitString<C>(pub C);
 
 /// A BIT STRING of any octets, which are borrowed.

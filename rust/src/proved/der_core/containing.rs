@@ -11,7 +11,7 @@ use crate::proved::der_core::writer::Writer;
 
 /// Contents octets that are one encoding of a `T`, as those of `BIT STRING (CONTAINING T)`. `TrailingData` if octets
 /// follow it.
-#[derive(Clone, Copy, Debug, PartialEq, Eq)]
+#[derive(Clone, Copy, Debug, PartialEq, Eq, Hash)]
 pub struct Containing<T>(pub T);
 
 impl<T: Encoding> Contents for Containing<T> {}

@@ -14,6 +14,7 @@ pub struct Counter {
 impl Counter {
     /// Nothing is counted yet.
     #[inline(always)]
+    #[must_use]
     pub fn new() -> Counter {
         Counter { sum: 0 }
     }

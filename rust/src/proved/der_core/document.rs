@@ -42,7 +42,7 @@ pub fn write_over<T: EncodeValue + FixedTag>(message: &T, out: &mut [u8]) {
 fn lemma_are_bytes(bytes: &[u8]) {}
 
 /// Marks documents that may be printed and compared.
-#[derive(PartialEq, Eq)]
+#[derive(PartialEq, Eq, Hash)]
 pub struct Open;
 
 /// Marks secret documents: they can't be compared, and their `Debug` shows no byte.
@@ -50,7 +50,7 @@ pub struct Secret;
 
 /// One whole SEQUENCE, of at most `Length::MAX` bytes, whatever its contents are. `S` says whether it is open or
 /// secret: what is said of a `Document` is said of a `SecretDocument` too.
-#[derive(PartialEq, Eq)]
+#[derive(PartialEq, Eq, Hash)]
 pub struct DocumentOf<S> {
     bytes: Vec<u8>,
     secrecy: PhantomData<S>,
@@ -92,11 +92,13 @@ impl<S> DocumentOf<S> {
     }
 
     /// The whole encoding: the bytes of one SEQUENCE, at most `Length::MAX`.
+    #[must_use]
     pub fn as_bytes(&self) -> &[u8] {
         self.bytes.as_slice()
     }
 
     /// How many bytes the encoding has.
+    #[must_use]
     pub fn len(&self) -> Length {
         Length::of(self.bytes.len())
     }

@@ -6,10 +6,10 @@ use crate::rattle_std::alloc::{AllocError, AllocFailed};
 use crate::rattle_std::fmt;
 
 /// What went wrong.
-#[derive(Clone, Copy, Debug, PartialEq, Eq)]
+#[derive(Clone, Copy, Debug, PartialEq, Eq, Hash)]
 #[non_exhaustive]
 pub enum ErrorKind {
-    /// An earlier call on the reader returned an error.
+    /// An earlier read failed, so nothing more is read.
     Failed,
     /// Fewer bytes are left than are needed.
     Incomplete,
@@ -47,7 +47,7 @@ pub enum ErrorKind {
 }
 
 impl fmt::Display for ErrorKind {
-    /// Prints the text of the kind, exactly as `kind_text` has it.
+    /// Prints the text of the kind, in lower case and without a full stop.
     fn fmt(&self, f: &mut fmt::Formatter<'_>) -> fmt::Result {
         let encoding = match *self {
             ErrorKind::Length { tag } => {
@@ -83,7 +83,7 @@ impl fmt::Display for ErrorKind {
 }
 
 /// The error of the calls in this crate.
-#[derive(Clone, Copy, Debug, PartialEq, Eq)]
+#[derive(Clone, Copy, Debug, PartialEq, Eq, Hash)]
 pub struct Error {
     /// What went wrong.
     pub kind: ErrorKind,
@@ -93,12 +93,14 @@ pub struct Error {
 pub type Result<T> = crate::rattle_std::result::Result<T, Error>;
 
 impl Error {
-    /// An error of this kind. To mark a reader as failed as well, call `Reader::error`.
+    /// An error of this kind.
+    #[must_use]
     pub fn new(kind: ErrorKind) -> Error {
         Error { kind }
     }
 
     /// What went wrong.
+    #[must_use]
     pub fn kind(&self) -> ErrorKind {
         self.kind
     }

@@ -8,7 +8,7 @@ use crate::proved::der_core::tag::Tag;
 use crate::rattle_std::arrayvec::ArrayVec;
 
 /// A tag and a length.
-#[derive(Clone, Copy, Debug, PartialEq, Eq)]
+#[derive(Clone, Copy, Debug, PartialEq, Eq, Hash)]
 pub struct Header {
     /// The tag of the encoding that begins here.
     pub tag: Tag,

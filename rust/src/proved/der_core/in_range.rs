@@ -11,7 +11,7 @@ use crate::proved::der_core::tag::Tag;
 use crate::proved::der_core::writer::Writer;
 
 /// An INTEGER from `MIN` to `MAX`. Another number is `Value` of INTEGER, where it is read and where it is written.
-#[derive(Clone, Copy, Debug, PartialEq, Eq)]
+#[derive(Clone, Copy, Debug, PartialEq, Eq, Hash)]
 pub struct InRange<const MIN: u8, const MAX: u8>(pub u8);
 
 impl<const MIN: u8, const MAX: u8> InRange<MIN, MAX> {

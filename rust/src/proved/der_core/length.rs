@@ -8,7 +8,7 @@ use crate::rattle_std::arrayvec::ArrayVec;
 use crate::rattle_std::marker::Model;
 
 /// A number of octets, at most `Length::MAX`.
-#[derive(Clone, Copy, Debug, PartialEq, Eq, PartialOrd, Ord)]
+#[derive(Clone, Copy, Debug, PartialEq, Eq, Hash, PartialOrd, Ord)]
 pub struct Length {
     value: u32,
 }
@@ -122,11 +122,14 @@ impl Length {
     }
 
     /// The number of octets, as slices count them. It is at most `MAX`.
+    #[must_use]
     pub fn to_usize(self) -> usize {
         self.value as usize
     }
 
-    /// The sum. `Overflow` exactly if it exceeds `MAX`.
+    /// The sum.
+    /// # Errors
+    /// `Overflow` exactly if it exceeds `MAX`.
     pub fn checked_add(self, other: Length) -> Result<Length> {
         match self.value.checked_add(other.value) {
             Some(value) => Ok(Length { value }),
@@ -134,7 +137,9 @@ impl Length {
         }
     }
 
-    /// The length of an encoding whose contents have this length. `Overflow` exactly if it exceeds `MAX`.
+    /// The length of an encoding whose contents have this length. It is the same under each tag, which has one octet.
+    /// # Errors
+    /// `Overflow` exactly if it exceeds `MAX`.
     pub fn for_tlv(self, _tag: Tag) -> Result<Length> {
         Length::counted(with_header(self.value as u64))
     }

@@ -13,7 +13,7 @@ impl TagMarker for NullTag {
 }
 
 /// NULL, which has no contents octets (8.8.2). `TrailingData` if there are some.
-#[derive(Clone, Copy, Debug, PartialEq, Eq)]
+#[derive(Clone, Copy, Debug, PartialEq, Eq, Hash)]
 pub struct Null;
 
 impl TaggedBy for Null {

@@ -12,13 +12,15 @@ use crate::proved::der_core::tag::Tag;
 use crate::proved::der_core::writer::Writer;
 
 /// An OCTET STRING of at most `Length::MAX` octets. It borrows them.
-#[derive(Clone, Copy, Debug, PartialEq, Eq)]
+#[derive(Clone, Copy, Debug, PartialEq, Eq, Hash)]
 pub struct OctetStringRef<'a> {
     bytes: &'a [u8],
 }
 
 impl<'a> OctetStringRef<'a> {
-    /// The string of these octets. `Overflow` exactly if there are more than `Length::MAX`.
+    /// The string of these octets.
+    /// # Errors
+    /// `Overflow` exactly if there are more than `Length::MAX`.
     pub fn new(bytes: &'a [u8]) -> Result<OctetStringRef<'a>> {
         if bytes.len() > Length::MAX.to_usize() {
             return Err(Error::new(ErrorKind::Overflow));
@@ -27,16 +29,19 @@ impl<'a> OctetStringRef<'a> {
     }
 
     /// The octets, borrowed from the input. They are at most `Length::MAX`.
+    #[must_use]
     pub fn as_bytes(&self) -> &'a [u8] {
         self.bytes
     }
 
     /// How many octets there are.
+    #[must_use]
     pub fn len(&self) -> Length {
         Length::of(self.bytes.len())
     }
 
     /// Whether there is no octet. An OCTET STRING may have none (X.690 8.7.2).
+    #[must_use]
     pub fn is_empty(&self) -> bool {
         self.bytes.is_empty()
     }

@@ -19,7 +19,7 @@ impl<T> TaggedBy for Vec<T> {
 
 impl<'a, T: Decode<&'a [u8], Global>> DecodeValue<&'a [u8], Global> for Vec<T> {
     fn read_value(memory: Global, contents: &'a [u8]) -> Result<Vec<T>> {
-        let mut items = Vec::new(memory);
+        let mut items = Vec::new_in(memory);
         let mut left = contents;
         while !left.is_empty() {
             let (item, behind) = T::read_one(memory, left)?;

@@ -26,6 +26,7 @@ impl<'a> SliceReader<'a> {
     }
 
     /// The bytes that are left, or none if the reader has failed.
+    #[must_use]
     pub fn rest(&self) -> &'a [u8] {
         if self.failed { crate::rattle_std::NO_OCTETS } else { self.bytes }
     }

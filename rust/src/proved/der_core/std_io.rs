@@ -20,6 +20,7 @@ pub struct FromRead<R> {
 
 impl<R: Read> FromRead<R> {
     /// A source over this reader, which counts no failed call yet.
+    #[must_use]
     pub fn new(inner: R) -> Self {
         FromRead { inner, faults: 0 }
     }
@@ -33,11 +34,13 @@ impl<R: Read> FromRead<R> {
     }
 
     /// The reader.
+    #[must_use]
     pub fn get_ref(&self) -> &R {
         &self.inner
     }
 
     /// Returns the reader.
+    #[must_use]
     pub fn into_inner(self) -> R {
         let FromRead { inner, faults: _ } = self;
         inner
@@ -68,6 +71,7 @@ pub struct ToWrite<W> {
 
 impl<W: Write> ToWrite<W> {
     /// A sink over this writer, which counts no failed call yet.
+    #[must_use]
     pub fn new(inner: W) -> Self {
         ToWrite { inner, faults: 0 }
     }
@@ -81,6 +85,7 @@ impl<W: Write> ToWrite<W> {
     }
 
     /// Returns the writer.
+    #[must_use]
     pub fn into_inner(self) -> W {
         let ToWrite { inner, faults: _ } = self;
         inner

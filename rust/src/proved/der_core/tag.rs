@@ -6,7 +6,7 @@ use crate::rattle_std::fmt;
 
 /// A tag of one octet (X.690 8.1.2): class in bits 8 and 7, the constructed bit in bit 6, the number in bits 5 to 1.
 /// Supported are all octets but `00`, `20` and those with the number 31.
-#[derive(Clone, Copy, Debug, PartialEq, Eq)]
+#[derive(Clone, Copy, Debug, PartialEq, Eq, Hash)]
 pub struct Tag {
     /// The identifier octet.
     pub(crate) octet: u8,
@@ -34,7 +34,9 @@ impl Tag {
     /// The tag of SEQUENCE (X.690 8.9) and SEQUENCE OF (8.10): universal, constructed, number 16.
     pub const SEQUENCE: Tag = Tag { octet: 0x30 };
 
-    /// The tag with this octet. `TagUnknown` exactly if the octet isn't supported.
+    /// The tag with this octet.
+    /// # Errors
+    /// `TagUnknown` exactly if the octet isn't supported.
     pub fn from_octet(octet: u8) -> Result<Tag> {
         if octet & 0x1f == 0x1f || octet == 0 || octet == 0x20 {
             Err(Error::new(ErrorKind::TagUnknown { octet }))
@@ -44,6 +46,7 @@ impl Tag {
     }
 
     /// The tag `[number]`: context-specific, constructed (X.690 8.1.2.2, 8.14.3).
+    #[must_use]
     pub fn context(number: TagNumber) -> Tag {
         Tag {
             octet: 0xa0 + number.value,
@@ -51,13 +54,14 @@ impl Tag {
     }
 
     /// The identifier octet.
+    #[must_use]
     pub const fn octet(self) -> u8 {
         self.octet
     }
 }
 
 /// A tag number of at most 30: greater ones need more than one octet (X.690 8.1.2.4).
-#[derive(Clone, Copy, Debug, PartialEq, Eq)]
+#[derive(Clone, Copy, Debug, PartialEq, Eq, Hash)]
 pub struct TagNumber {
     /// The number, without the class and the constructed bit.
     pub(crate) value: u8,
@@ -70,6 +74,7 @@ impl TagNumber {
     }
 
     /// The number, without the class and the constructed bit. It is at most 30.
+    #[must_use]
     pub fn value(self) -> u8 {
         self.value
     }

@@ -13,7 +13,7 @@ use crate::proved::der_core::writer::Writer;
 use crate::rattle_std::marker::PhantomData;
 
 /// The contents octets of a `C` under the tag of a marker, as in `[n] IMPLICIT` (8.14.3).
-#[derive(Clone, Copy, Debug, PartialEq, Eq)]
+#[derive(Clone, Copy, Debug, PartialEq, Eq, Hash)]
 pub struct Tagged<M, C> {
     /// What has these contents octets.
     pub contents: C,
@@ -26,6 +26,7 @@ pub type Explicit<M, T> = Tagged<M, Containing<T>>;
 impl<M, C> Tagged<M, C> {
     /// These contents under the tag.
     #[inline(always)]
+    #[must_use]
     pub fn new(contents: C) -> Tagged<M, C> {
         Tagged {
             contents,

@@ -14,7 +14,7 @@ const PIECE: usize = 65536;
 /// `File`, `OutOfMemory` or `Overflow`, as of `Document::read_from`, with `most` for the limit. It returns even if the
 /// source never ends. What was read before an error is lost.
 pub fn read_all<R: Source>(alloc: Global, source: &mut R, most: Length) -> Result<Vec<u8>> {
-    let mut bytes = Vec::new(alloc);
+    let mut bytes = Vec::new_in(alloc);
     let mut piece = [0u8; PIECE];
     loop {
         let count = match source.read(&mut piece) {

@@ -18,11 +18,13 @@ pub struct SliceWriter<'b> {
 
 impl<'b> SliceWriter<'b> {
     /// A writer over this slice, with nothing written. Bytes behind what is written stay as they are.
+    #[must_use]
     pub fn new(slice: &'b mut [u8]) -> SliceWriter<'b> {
         SliceWriter { slice, len: 0 }
     }
 
     /// The part that was written.
+    #[must_use]
     pub fn finish(self) -> &'b [u8] {
         let len = self.len;
         let slice = self.slice;

@@ -34,22 +34,22 @@ pub(crate) fn key_of<U, O>(numbers: KeyNumbers<U>, others: Option<O>) -> Private
 /// Copies four numbers.
 fn clone_four<U: TryClone>(a: &U, b: &U, c: &U, d: &U, alloc: Global) -> Result<(U, U, U, U)> {
     Ok((
-        a.try_clone(alloc)?,
-        b.try_clone(alloc)?,
-        c.try_clone(alloc)?,
-        d.try_clone(alloc)?,
+        a.try_clone_in(alloc)?,
+        b.try_clone_in(alloc)?,
+        c.try_clone_in(alloc)?,
+        d.try_clone_in(alloc)?,
     ))
 }
 
 impl<U: TryClone> TryClone for RsaPrivateKey<U> {
-    fn try_clone(&self, alloc: Global) -> Result<RsaPrivateKey<U>> {
-        self.try_clone(alloc)
+    fn try_clone_in(&self, alloc: Global) -> Result<RsaPrivateKey<U>> {
+        self.try_clone_in(alloc)
     }
 }
 
 impl<U: TryClone> RsaPrivateKey<U> {
     /// The same key, or `OutOfMemory`, which never comes if each number is always copied and there are no other primes.
-    pub(crate) fn try_clone(&self, alloc: Global) -> Result<RsaPrivateKey<U>> {
+    pub(crate) fn try_clone_in(&self, alloc: Global) -> Result<RsaPrivateKey<U>> {
         let key = self;
         let (modulus, public_exponent, private_exponent, prime1) = clone_four(
             &key.modulus,

@@ -50,11 +50,13 @@ impl<'a> OtherPrimes<'a> {
     }
 
     /// How many other primes are left.
+    #[must_use]
     pub fn remaining(&self) -> usize {
         self.left
     }
 
     /// The encodings of the primes that are left, one behind the other: a part of the input.
+    #[must_use]
     pub fn as_bytes(self) -> &'a [u8] {
         as_octets(self.bytes)
     }

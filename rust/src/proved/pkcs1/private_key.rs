@@ -67,6 +67,7 @@ pub type RsaPrivateKeyOwned = RsaPrivateKey<Uint>;
 
 impl<U, O> PrivateKeyOf<U, O> {
     /// The version: `Multi` exactly if there is a list of other primes.
+    #[must_use]
     pub fn version(&self) -> Version {
         if self.other_prime_infos.is_some() {
             Version::Multi
@@ -78,6 +79,7 @@ impl<U, O> PrivateKeyOf<U, O> {
 
 impl<U: UintEncoding> RsaPrivateKey<U> {
     /// The public key: the modulus and the public exponent.
+    #[must_use]
     pub fn public_key(&self) -> RsaPublicKeyRef<'_> {
         RsaPublicKey {
             modulus: self.modulus.as_uint_ref(),

@@ -9,7 +9,8 @@ use crate::proved::der_core::{
 use crate::proved::pkcs1_params::{Error, Result};
 use crate::rattle_std::alloc::Global;
 
-/// An RSA public key (RFC 8017 A.1.1). No relation between its numbers is checked.
+/// An RSA public key (RFC 8017 A.1.1). A `U` holds a number: see `RsaPublicKeyRef` and `RsaPublicKeyOwned`. No relation
+/// between the numbers is checked.
 ///
 /// ```text
 /// RSAPublicKey ::= SEQUENCE {
@@ -17,7 +18,7 @@ use crate::rattle_std::alloc::Global;
 ///     publicExponent  INTEGER
 /// }
 /// ```
-#[derive(Clone, Copy, Debug, PartialEq, Eq)]
+#[derive(Clone, Copy, Debug, PartialEq, Eq, Hash)]
 pub struct RsaPublicKey<U> {
     /// The modulus n.
     pub modulus: U,
@@ -58,17 +59,17 @@ impl<U: Encode> EncodeInParts for RsaPublicKey<U> {
 impl<U: EqualByValue> EqualByValue for RsaPublicKey<U> {}
 
 impl<U: TryClone> TryClone for RsaPublicKey<U> {
-    fn try_clone(&self, alloc: Global) -> crate::proved::der_core::Result<RsaPublicKey<U>> {
-        self.try_clone(alloc)
+    fn try_clone_in(&self, alloc: Global) -> crate::proved::der_core::Result<RsaPublicKey<U>> {
+        self.try_clone_in(alloc)
     }
 }
 
 impl<U: TryClone> RsaPublicKey<U> {
     /// The same key, or `OutOfMemory`, which never comes if both numbers are always copied.
-    pub(crate) fn try_clone(&self, alloc: Global) -> crate::proved::der_core::Result<RsaPublicKey<U>> {
+    pub(crate) fn try_clone_in(&self, alloc: Global) -> crate::proved::der_core::Result<RsaPublicKey<U>> {
         Ok(RsaPublicKey {
-            modulus: self.modulus.try_clone(alloc)?,
-            public_exponent: self.public_exponent.try_clone(alloc)?,
+            modulus: self.modulus.try_clone_in(alloc)?,
+            public_exponent: self.public_exponent.try_clone_in(alloc)?,
         })
     }
 }
@@ -85,7 +86,7 @@ impl<'a> TryFrom<&'a [u8]> for RsaPublicKey<UintRef<'a>> {
 
 impl<U: AsUintRef> RsaPublicKey<U> {
     /// The same key over numbers that it borrows, whatever the type of its numbers.
-    pub fn as_key_ref(&self) -> RsaPublicKeyRef<'_> {
+    pub(crate) fn as_key_ref(&self) -> RsaPublicKeyRef<'_> {
         RsaPublicKey {
             modulus: self.modulus.as_uint_ref(),
             public_exponent: self.public_exponent.as_uint_ref(),
@@ -97,7 +98,7 @@ impl<U: UintEncoding> RsaPublicKey<U> {
     /// Writes the key's only encoding, which is that of no other key, to the front of a slice, and returns its length.
     /// The bytes behind it stay as they were. After an error all of the slice does. It is `Overflow` exactly if the
     /// encoding is longer than `Length::MAX`, else `NoRoom` exactly if it is longer than the slice.
-    pub fn encode_key(&self, out: &mut [u8]) -> Result<usize> {
+    pub(crate) fn encode_key(&self, out: &mut [u8]) -> Result<usize> {
         Ok(write_only(&self.as_key_ref(), out)?)
     }
 }

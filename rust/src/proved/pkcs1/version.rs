@@ -23,6 +23,7 @@ pub enum Version {
 
 impl Version {
     /// Whether it is `Multi`: there are more than two primes.
+    #[must_use]
     pub fn is_multi(self) -> bool {
         matches!(self, Version::Multi)
     }

@@ -19,51 +19,61 @@ pub struct RsaPrivateKeyView<'a> {
 
 impl<'a> RsaPrivateKeyView<'a> {
     /// The version: `Multi` exactly if there are other primes.
+    #[must_use]
     pub fn version(&self) -> Version {
         self.key.version()
     }
 
     /// The modulus n.
+    #[must_use]
     pub fn modulus(&self) -> UintRef<'a> {
         self.key.modulus
     }
 
     /// The public exponent e.
+    #[must_use]
     pub fn public_exponent(&self) -> UintRef<'a> {
         self.key.public_exponent
     }
 
     /// The private exponent d.
+    #[must_use]
     pub fn private_exponent(&self) -> UintRef<'a> {
         self.key.private_exponent
     }
 
     /// The first prime p.
+    #[must_use]
     pub fn prime1(&self) -> UintRef<'a> {
         self.key.prime1
     }
 
     /// The second prime q.
+    #[must_use]
     pub fn prime2(&self) -> UintRef<'a> {
         self.key.prime2
     }
 
     /// The exponent of the first prime: d modulo p - 1.
+    #[must_use]
     pub fn exponent1(&self) -> UintRef<'a> {
         self.key.exponent1
     }
 
     /// The exponent of the second prime: d modulo q - 1.
+    #[must_use]
     pub fn exponent2(&self) -> UintRef<'a> {
         self.key.exponent2
     }
 
     /// The coefficient: the inverse of q modulo p.
+    #[must_use]
     pub fn coefficient(&self) -> UintRef<'a> {
         self.key.coefficient
     }
 
     /// The public key: the modulus and the public exponent.
+    #[must_use]
     pub fn public_key(&self) -> RsaPublicKeyRef<'a> {
         RsaPublicKey {
             modulus: self.modulus(),
@@ -72,6 +82,7 @@ impl<'a> RsaPrivateKeyView<'a> {
     }
 
     /// The primes after the first two, in order; none if the version is `TwoPrime`.
+    #[must_use]
     pub fn other_primes(&self) -> OtherPrimes<'a> {
         if let Some(primes) = self.key.other_prime_infos {
             return primes;
@@ -80,6 +91,7 @@ impl<'a> RsaPrivateKeyView<'a> {
     }
 
     /// The encoding of the key: the slice that was read, or the octets in the container's privateKey.
+    #[must_use]
     pub fn as_bytes(&self) -> &'a [u8] {
         self.bytes
     }

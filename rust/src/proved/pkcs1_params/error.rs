@@ -5,7 +5,7 @@ use crate::proved::der_core::ErrorKind;
 use crate::rattle_std::fmt;
 
 /// What went wrong.
-#[derive(Clone, Copy, Debug, PartialEq, Eq)]
+#[derive(Clone, Copy, Debug, PartialEq, Eq, Hash)]
 #[non_exhaustive]
 pub enum Error {
     /// An error of `der_core`.
@@ -18,7 +18,7 @@ pub enum Error {
     Version,
 }
 
-/// The result of the calls in this crate, except those of traits in `der_core`.
+/// The result of the calls on keys and parameters.
 pub type Result<T> = crate::rattle_std::result::Result<T, Error>;
 
 /// The kind of the error of `der_core` that a call returned, if it returned one.

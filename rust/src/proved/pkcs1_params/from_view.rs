@@ -65,6 +65,7 @@ fn mask_gen_from_view<'a>(
 impl<'a> RsaPssParamsView<'a> {
     /// The parameters as a struct that holds its identifiers.
     #[inline(always)]
+    #[must_use]
     pub fn to_params(self) -> RsaPssParamsRef<'a> {
         ObjectIdentifier::pss_from_view(self)
     }
@@ -73,6 +74,7 @@ impl<'a> RsaPssParamsView<'a> {
 impl<'a> RsaOaepParamsView<'a> {
     /// The parameters as a struct that holds its identifiers.
     #[inline(always)]
+    #[must_use]
     pub fn to_params(self) -> RsaOaepParamsRef<'a> {
         ObjectIdentifier::oaep_from_view(self)
     }

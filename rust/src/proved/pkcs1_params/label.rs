@@ -80,6 +80,7 @@ impl<'a> RsaOaepParams<AnyRef<'a>> {
 
     /// Whether parameters with each label of this many bytes have an encoding of at most `Length::MAX` octets. If not,
     /// they have none with any such label.
+    #[must_use]
     pub fn label_fits<D: AssociatedOid>(len: usize) -> bool {
         labelled_len::<D>(len).is_ok()
     }
@@ -87,6 +88,7 @@ impl<'a> RsaOaepParams<AnyRef<'a>> {
 
 impl<P: AnyValue> RsaOaepParams<P> {
     /// The octets of the label, or `None` if the source isn't pSpecified with an OCTET STRING.
+    #[must_use]
     pub fn label(&self) -> Option<&[u8]> {
         label_of(&self.p_source.as_view())
     }
@@ -94,6 +96,7 @@ impl<P: AnyValue> RsaOaepParams<P> {
 
 impl<'a> RsaOaepParamsView<'a> {
     /// Like `RsaOaepParams::label`.
+    #[must_use]
     pub fn label(&self) -> Option<&'a [u8]> {
         label_of(&self.p_source)
     }

@@ -13,7 +13,7 @@ fn encodings_under<T: EncodeParams>(
     count: u8,
     alloc: Global,
 ) -> crate::proved::der_core::Result<Vec<Vec<u8>>> {
-    let mut encodings = Vec::new(alloc);
+    let mut encodings = Vec::new_in(alloc);
     for mask in 0..count {
         let spelling = Spelling {
             params,

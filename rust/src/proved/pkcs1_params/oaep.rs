@@ -32,7 +32,7 @@ use crate::rattle_std::fmt;
 ///     pSourceAlgorithm  [2] PSourceAlgorithm  DEFAULT pSpecifiedEmpty
 /// }
 /// ```
-#[derive(Clone, Copy, PartialEq, Eq)]
+#[derive(Clone, Copy, PartialEq, Eq, Hash)]
 pub struct OaepParamsOf<O, P> {
     /// The hash function; SHA-1 with NULL by default.
     pub hash: AlgorithmIdentifierOf<O, P>,
@@ -120,6 +120,7 @@ impl<O: IdentifierValue, P> OaepParamsOf<O, P> {
 
 impl<'a> RsaOaepParams<AnyRef<'a>> {
     /// The hash function D with NULL, MGF1 with the same hash function, and the empty label.
+    #[must_use]
     pub fn new<D: AssociatedOid>() -> RsaOaepParams<AnyRef<'a>> {
         RsaOaepParams::of_hash::<D, NoMemory>(NoMemory)
     }
@@ -128,18 +129,18 @@ impl<'a> RsaOaepParams<AnyRef<'a>> {
 impl<P: AnyValue> EqualByValue for RsaOaepParams<P> {}
 
 impl<P: AnyValue + TryClone> TryClone for RsaOaepParams<P> {
-    fn try_clone(&self, alloc: Global) -> crate::proved::der_core::Result<RsaOaepParams<P>> {
-        self.try_clone(alloc)
+    fn try_clone_in(&self, alloc: Global) -> crate::proved::der_core::Result<RsaOaepParams<P>> {
+        self.try_clone_in(alloc)
     }
 }
 
 impl<P: AnyValue + TryClone> RsaOaepParams<P> {
     /// The same parameters, or `OutOfMemory`, which never comes if the parameters of each algorithm are always copied.
-    pub(crate) fn try_clone(&self, alloc: Global) -> crate::proved::der_core::Result<RsaOaepParams<P>> {
+    pub(crate) fn try_clone_in(&self, alloc: Global) -> crate::proved::der_core::Result<RsaOaepParams<P>> {
         Ok(RsaOaepParams {
-            hash: self.hash.try_clone(alloc)?,
-            mask_gen: self.mask_gen.try_clone(alloc)?,
-            p_source: self.p_source.try_clone(alloc)?,
+            hash: self.hash.try_clone_in(alloc)?,
+            mask_gen: self.mask_gen.try_clone_in(alloc)?,
+            p_source: self.p_source.try_clone_in(alloc)?,
         })
     }
 }
@@ -154,6 +155,7 @@ impl<'a, O: IdentifierValue> Default for OaepParamsOf<O, AnyRef<'a>> {
 
 impl RsaOaepParams<Any> {
     /// Every field at its default, owned. Nothing is allocated.
+    #[must_use]
     pub fn default_in(alloc: Global) -> RsaOaepParams<Any> {
         RsaOaepParams::of_hash::<Sha1, Global>(alloc)
     }

@@ -29,6 +29,7 @@ pub fn rsaes_oaep_oid() -> ObjectIdentifier {
 impl<O: IdentifierValue, P: AnyValue> OaepParamsOf<O, P> {
     /// The algorithm identifier id-RSAES-OAEP with these parameters, borrowed: to be written inside something larger.
     /// Such parameters may always be encoded.
+    #[must_use]
     pub fn to_algorithm(&self) -> AlgorithmView<'_, Borrowed<'_, OaepParamsOf<O, P>>> {
         self.lemma_is_valid();
         AlgorithmView {

@@ -40,12 +40,14 @@ impl<'b, O: IdentifierValue, P: AnyValue> EncodeParams for &'b OaepParamsOf<O, P
 impl<O: IdentifierValue, P: AnyValue> OaepParamsOf<O, P> {
     /// Whether the hash function is D, and the mask generation function is MGF1 with D: each of them by `is_hash`, so
     /// with NULL or without parameters.
+    #[must_use]
     pub fn uses_hash<D: AssociatedOid>(&self) -> bool {
         uses_hash::<D, O, P>(&self.hash, &self.mask_gen)
     }
 
     /// Whether both mean the same: all fields are equal, where a hash function with NULL and one without parameters are
     /// alike, in the mask generation function too. `==` tells these apart.
+    #[must_use]
     pub fn means_same<Q: IdentifierValue, R: AnyValue>(&self, other: &OaepParamsOf<Q, R>) -> bool {
         self.hash.is_same_hash(&other.hash)
             && is_same_mask(&self.mask_gen, &other.mask_gen)
@@ -53,6 +55,7 @@ impl<O: IdentifierValue, P: AnyValue> OaepParamsOf<O, P> {
     }
 
     /// How many fields equal their defaults.
+    #[must_use]
     pub fn default_fields(&self) -> u8 {
         count_defaults(self)
     }

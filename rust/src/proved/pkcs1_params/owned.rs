@@ -15,7 +15,7 @@ fn copy_any(alloc: Global, any: AnyRef<'_>) -> Result<Any> {
     if any.value().is_empty() {
         return Ok(Any::empty(alloc, any.tag()));
     }
-    Any::new(alloc, any.tag(), any.value())
+    Any::new_in(alloc, any.tag(), any.value())
 }
 
 /// Copies a hash function or a label source.

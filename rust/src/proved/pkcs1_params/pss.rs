@@ -33,7 +33,7 @@ use crate::rattle_std::fmt;
 ///     trailerField      [3] TrailerField      DEFAULT trailerFieldBC
 /// }
 /// ```
-#[derive(Clone, Copy, PartialEq, Eq)]
+#[derive(Clone, Copy, PartialEq, Eq, Hash)]
 pub struct PssParamsOf<O, P> {
     /// The hash function; SHA-1 with NULL by default.
     pub hash: AlgorithmIdentifierOf<O, P>,
@@ -129,6 +129,7 @@ impl<'a> RsaPssParams<AnyRef<'a>> {
 
     /// The hash function D with NULL, MGF1 with the same hash function, a salt of this many octets, and the trailer
     /// field.
+    #[must_use]
     pub fn new<D: AssociatedOid>(salt_len: u8) -> RsaPssParams<AnyRef<'a>> {
         RsaPssParams::of_hash::<D, NoMemory>(NoMemory, salt_len)
     }
@@ -137,17 +138,17 @@ impl<'a> RsaPssParams<AnyRef<'a>> {
 impl<P: AnyValue> EqualByValue for RsaPssParams<P> {}
 
 impl<P: AnyValue + TryClone> TryClone for RsaPssParams<P> {
-    fn try_clone(&self, alloc: Global) -> crate::proved::der_core::Result<RsaPssParams<P>> {
-        self.try_clone(alloc)
+    fn try_clone_in(&self, alloc: Global) -> crate::proved::der_core::Result<RsaPssParams<P>> {
+        self.try_clone_in(alloc)
     }
 }
 
 impl<P: AnyValue + TryClone> RsaPssParams<P> {
     /// The same parameters, or `OutOfMemory`, which never comes if the parameters of each algorithm are always copied.
-    pub(crate) fn try_clone(&self, alloc: Global) -> crate::proved::der_core::Result<RsaPssParams<P>> {
+    pub(crate) fn try_clone_in(&self, alloc: Global) -> crate::proved::der_core::Result<RsaPssParams<P>> {
         Ok(RsaPssParams {
-            hash: self.hash.try_clone(alloc)?,
-            mask_gen: self.mask_gen.try_clone(alloc)?,
+            hash: self.hash.try_clone_in(alloc)?,
+            mask_gen: self.mask_gen.try_clone_in(alloc)?,
             salt_len: self.salt_len,
             trailer_field: self.trailer_field,
         })
@@ -164,6 +165,7 @@ impl<'a, O: IdentifierValue> Default for PssParamsOf<O, AnyRef<'a>> {
 
 impl RsaPssParams<Any> {
     /// Every field at its default, owned. Nothing is allocated.
+    #[must_use]
     pub fn default_in(alloc: Global) -> RsaPssParams<Any> {
         RsaPssParams::of_hash::<Sha1, Global>(alloc, RsaPssParamsRef::SALT_LEN_DEFAULT)
     }

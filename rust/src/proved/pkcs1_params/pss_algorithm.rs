@@ -29,6 +29,7 @@ pub fn rsassa_pss_oid() -> ObjectIdentifier {
 impl<O: IdentifierValue, P: AnyValue> PssParamsOf<O, P> {
     /// The algorithm identifier id-RSASSA-PSS with these parameters, borrowed: to be written inside something larger.
     /// Such parameters may always be encoded.
+    #[must_use]
     pub fn to_algorithm(&self) -> AlgorithmView<'_, Borrowed<'_, PssParamsOf<O, P>>> {
         self.lemma_is_valid();
         AlgorithmView {

@@ -17,6 +17,7 @@ pub struct Shortest<T: EncodeParams> {
 impl<T: EncodeParams> Shortest<T> {
     /// The wrapper of these parameters.
     #[inline(always)]
+    #[must_use]
     pub fn of(params: T) -> Shortest<T> {
         Shortest {
             params,
@@ -26,6 +27,7 @@ impl<T: EncodeParams> Shortest<T> {
 
     /// The algorithm identifier of D with these parameters, which may always be encoded.
     #[inline(always)]
+    #[must_use]
     pub fn identified<D: AssociatedOid>(params: T) -> AlgorithmView<'static, Shortest<T>> {
         params.lemma_is_valid();
         AlgorithmView {

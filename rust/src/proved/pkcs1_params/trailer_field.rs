@@ -11,7 +11,7 @@ use crate::proved::der_core::{
 /// ```text
 /// TrailerField ::= INTEGER { trailerFieldBC(1) }
 /// ```
-#[derive(Clone, Copy, Debug, PartialEq, Eq)]
+#[derive(Clone, Copy, Debug, PartialEq, Eq, Hash)]
 pub enum TrailerField {
     /// The octet `bc`.
     BC = 1,

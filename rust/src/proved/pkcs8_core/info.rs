@@ -88,6 +88,7 @@ impl<'a, O: ReadIdentifier<'a>> EncodeInParts for PrivateKeyInfoOf<'a, O> {
 
 impl<'a, O: ReadIdentifier<'a>> PrivateKeyInfoOf<'a, O> {
     /// The contents octets of the attributes. `None` exactly if there are none.
+    #[must_use]
     pub fn attributes(&self) -> Option<&'a [u8]> {
         self.attributes
     }

@@ -21,7 +21,7 @@ use crate::rattle_std::fmt;
 ///     parameters  ANY DEFINED BY algorithm OPTIONAL
 /// }
 /// ```
-#[derive(Clone, Copy, PartialEq, Eq)]
+#[derive(Clone, Copy, PartialEq, Eq, Hash)]
 pub struct AlgorithmIdentifierOf<O, P> {
     /// The identifier of the algorithm.
     pub oid: O,
@@ -92,16 +92,16 @@ impl<O: IdentifierValue, P: Encode> EncodeValue for AlgorithmIdentifierOf<O, P> 
 }
 
 impl<P: TryClone> TryClone for AlgorithmIdentifier<P> {
-    fn try_clone(&self, alloc: Global) -> Result<AlgorithmIdentifier<P>> {
-        self.try_clone(alloc)
+    fn try_clone_in(&self, alloc: Global) -> Result<AlgorithmIdentifier<P>> {
+        self.try_clone_in(alloc)
     }
 }
 
 impl<P: TryClone> AlgorithmIdentifier<P> {
     /// The same identifier with a copy of the parameters, or `OutOfMemory` where copying these may return it.
-    pub(crate) fn try_clone(&self, alloc: Global) -> Result<AlgorithmIdentifier<P>> {
+    pub(crate) fn try_clone_in(&self, alloc: Global) -> Result<AlgorithmIdentifier<P>> {
         let parameters = match &self.parameters {
-            Some(parameters) => Some(parameters.try_clone(alloc)?),
+            Some(parameters) => Some(parameters.try_clone_in(alloc)?),
             None => None,
         };
         Ok(AlgorithmIdentifier {
@@ -125,6 +125,7 @@ impl<P> AlgorithmIdentifier<P> {
 impl<'a, P> AlgorithmView<'a, P> {
     /// The same identifier, as a copy of its octets, and the same parameters.
     #[inline(always)]
+    #[must_use]
     pub fn to_algorithm_identifier(self) -> AlgorithmIdentifier<P> {
         ObjectIdentifier::algorithm_from_view(self)
     }
@@ -156,6 +157,7 @@ impl<'a> ReadIdentifier<'a> for ObjectIdentifier {
 impl<O: IdentifierValue, P: AnyValue> AlgorithmIdentifierOf<O, P> {
     /// The algorithm identifier, borrowed.
     #[inline(always)]
+    #[must_use]
     pub fn as_view(&self) -> AlgorithmView<'_, AnyRef<'_>> {
         AlgorithmView {
             oid: self.oid.as_identifier_view(),
@@ -168,6 +170,7 @@ impl<O: IdentifierValue, P: AnyValue> AlgorithmIdentifierOf<O, P> {
 
     /// Whether this is the hash function D: its identifier, with NULL or without parameters. Both mean the same
     /// function (RFC 4055 2.1), though `==` tells them apart.
+    #[must_use]
     pub fn is_hash<D: AssociatedOid>(&self) -> bool {
         self.oid.as_identifier_view().as_bytes() == D::octets()
             && self.parameters_or_null() == AnyRef::null()
@@ -175,6 +178,7 @@ impl<O: IdentifierValue, P: AnyValue> AlgorithmIdentifierOf<O, P> {
 
     /// Whether both are the same hash function: the identifiers are equal, and so are the parameters, where NULL and
     /// none are alike.
+    #[must_use]
     pub fn is_same_hash<Q: IdentifierValue, R: AnyValue>(
         &self,
         other: &AlgorithmIdentifierOf<Q, R>,

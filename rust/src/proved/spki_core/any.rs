@@ -10,7 +10,7 @@ use crate::rattle_std::alloc::Global;
 use crate::rattle_std::fmt;
 
 /// A tag and contents octets, which are opaque. It borrows them.
-#[derive(Clone, Copy, Debug, PartialEq, Eq)]
+#[derive(Clone, Copy, Debug, PartialEq, Eq, Hash)]
 pub struct AnyRef<'a> {
     tag: WideTag,
     contents: &'a [u8],
@@ -35,6 +35,7 @@ impl<'a> AnyRef<'a> {
     }
 
     /// NULL (X.690 8.8), which has no contents octets.
+    #[must_use]
     pub const fn null() -> AnyRef<'static> {
         AnyRef {
             tag: WideTag::of(Tag::NULL),
@@ -43,11 +44,13 @@ impl<'a> AnyRef<'a> {
     }
 
     /// The tag, of any class and number.
+    #[must_use]
     pub fn tag(&self) -> Tag {
         self.tag.tag()
     }
 
     /// The contents octets. They are at most `Length::MAX`.
+    #[must_use]
     pub fn value(&self) -> &'a [u8] {
         self.contents
     }
@@ -70,6 +73,7 @@ impl<'a> AnyRef<'a> {
 
     /// Whether it is this tag without contents octets.
     #[inline(always)]
+    #[must_use]
     pub fn is_alone(&self, tag: Tag) -> bool {
         self.tag() == tag && self.contents.is_empty()
     }
@@ -135,7 +139,7 @@ impl Encode for AnyRef<'_> {
 
 impl<'a> TryClone for AnyRef<'a> {
     /// The same tag, over the same contents. Never `OutOfMemory`.
-    fn try_clone(&self, _alloc: Global) -> Result<AnyRef<'a>> {
+    fn try_clone_in(&self, _alloc: Global) -> Result<AnyRef<'a>> {
         Ok(*self)
     }
 }

@@ -32,12 +32,14 @@ impl<'a> IdentifierView<'a> {
 
     /// The contents octets, which are valid: at least one, at most 39.
     #[inline(always)]
+    #[must_use]
     pub fn as_bytes(&self) -> &'a [u8] {
         self.octets
     }
 
     /// Copies the octets.
     #[inline(always)]
+    #[must_use]
     pub fn to_object_identifier(self) -> ObjectIdentifier {
         ObjectIdentifier::new(self.octets)
     }

@@ -100,12 +100,14 @@ impl ObjectIdentifier {
     }
 
     /// The contents octets, which are valid: at least one, at most 39.
+    #[must_use]
     pub fn as_bytes(&self) -> &[u8] {
         &self.octets[..self.length as usize]
     }
 
     /// The identifier of an algorithm.
     #[inline(always)]
+    #[must_use]
     pub fn of<D: AssociatedOid>() -> ObjectIdentifier {
         ObjectIdentifier::new(D::octets())
     }

@@ -10,7 +10,7 @@ use crate::proved::der_core::{
 use crate::rattle_std::alloc::Global;
 
 /// A tag and contents octets, which are opaque. It owns them.
-#[derive(Debug, PartialEq, Eq)]
+#[derive(Debug, PartialEq, Eq, Hash)]
 pub struct Any {
     tag: Tag,
     contents: Vec<u8>,
@@ -19,7 +19,7 @@ pub struct Any {
 impl Any {
     /// A copy of these contents, with this tag. `Overflow` exactly if they are longer than `Length::MAX`, else
     /// `OutOfMemory` if there is no memory for them.
-    pub fn new(alloc: Global, tag: Tag, contents: &[u8]) -> Result<Any> {
+    pub(crate) fn new_in(alloc: Global, tag: Tag, contents: &[u8]) -> Result<Any> {
         if contents.len() > Length::MAX.to_usize() {
             return Err(Error::new(ErrorKind::Overflow));
         }
@@ -27,7 +27,7 @@ impl Any {
     }
 
     /// A copy of the tag and contents. The only error is `OutOfMemory`.
-    pub(crate) fn try_clone(&self, alloc: Global) -> Result<Any> {
+    pub(crate) fn try_clone_in(&self, alloc: Global) -> Result<Any> {
         Any::copy_of(alloc, self.tag, self.contents.as_slice())
     }
 
@@ -94,13 +94,13 @@ impl AnyParams<Global> for Any {
     fn empty(memory: Global, tag: Tag) -> Any {
         Any {
             tag,
-            contents: Vec::new(memory),
+            contents: Vec::new_in(memory),
         }
     }
 }
 
 impl TryClone for Any {
-    fn try_clone(&self, alloc: Global) -> Result<Any> {
-        self.try_clone(alloc)
+    fn try_clone_in(&self, alloc: Global) -> Result<Any> {
+        self.try_clone_in(alloc)
     }
 }

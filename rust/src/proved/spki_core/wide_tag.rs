@@ -5,7 +5,7 @@ use crate::proved::der_core::Tag;
 use crate::rattle_std::fmt;
 
 /// A tag in eight octets: with one, `AnyRef` would have padding, and would be copied piece by piece.
-#[derive(Clone, Copy, PartialEq, Eq)]
+#[derive(Clone, Copy, PartialEq, Eq, Hash)]
 pub(crate) struct WideTag {
     pub(crate) octet: u64,
 }

@@ -15,7 +15,7 @@ use crate::proved::der_core::writer::Writer;
 use crate::rattle_std::alloc::Global;
 
 /// An unsigned number as big-endian bytes: no leading zeros, and one zero byte for 0. It owns them.
-#[derive(Debug, PartialEq, Eq)]
+#[derive(PartialEq, Eq, Hash)]
 pub struct Uint {
     bytes: Vec<u8>,
 }
@@ -24,17 +24,18 @@ impl Uint {
     /// The number with these big-endian bytes, which may have leading zeros. `Length` of INTEGER exactly if there is
     /// no byte, `Overflow` exactly if more than `Length::MAX` bytes remain without leading zeros. `OutOfMemory` is
     /// returned only for bytes that are a number.
-    pub fn new(alloc: Global, bytes: &[u8]) -> Result<Uint> {
+    pub(crate) fn new_in(alloc: Global, bytes: &[u8]) -> Result<Uint> {
         Uint::copy(alloc, UintRef::new(bytes)?)
     }
 
     /// The bytes, most significant first: at least one, at most `Length::MAX`, and no needless zero in front.
+    #[must_use]
     pub fn as_bytes(&self) -> &[u8] {
         self.bytes.as_slice()
     }
 
     /// The same number, or `OutOfMemory`.
-    pub(crate) fn try_clone(&self, alloc: Global) -> Result<Uint> {
+    pub(crate) fn try_clone_in(&self, alloc: Global) -> Result<Uint> {
         Uint::copy(alloc, self.as_uint_ref())
     }
 
@@ -55,8 +56,8 @@ impl AsUintRef for Uint {
 impl UintEncoding for Uint {}
 
 impl TryClone for Uint {
-    fn try_clone(&self, alloc: Global) -> Result<Uint> {
-        self.try_clone(alloc)
+    fn try_clone_in(&self, alloc: Global) -> Result<Uint> {
+        self.try_clone_in(alloc)
     }
 }
 

@@ -14,7 +14,7 @@ use crate::proved::der_core::writer::Writer;
 use crate::rattle_std::alloc::Global;
 
 /// An unsigned number as big-endian bytes: no leading zeros, and one zero byte for 0. It borrows them.
-#[derive(Clone, Copy, Debug, PartialEq, Eq)]
+#[derive(Clone, Copy, PartialEq, Eq, Hash)]
 pub struct UintRef<'a> {
     bytes: &'a [u8],
 }
@@ -46,8 +46,10 @@ fn strip(bytes: &[u8]) -> &[u8] {
 }
 
 impl<'a> UintRef<'a> {
-    /// The number with these big-endian bytes, which may have leading zeros. `Length` of INTEGER exactly if there is
-    /// no byte, `Overflow` exactly if more than `Length::MAX` bytes remain without leading zeros.
+    /// The number with these big-endian bytes, which may have leading zeros.
+    /// # Errors
+    /// `Length` of INTEGER exactly if there is no byte, `Overflow` exactly if more than `Length::MAX` bytes remain
+    /// without leading zeros.
     pub fn new(bytes: &'a [u8]) -> Result<UintRef<'a>> {
         let bytes = strip(bytes);
         if bytes.is_empty() {
@@ -62,6 +64,7 @@ impl<'a> UintRef<'a> {
     /// The number with these big-endian bytes. `None` exactly if there is no byte, if a needless zero stands in front,
     /// or if they are more than `Length::MAX`.
     #[inline(always)]
+    #[must_use]
     pub fn from_canonical(bytes: &'a [u8]) -> Option<UintRef<'a>> {
         match bytes {
             [] | [0, _, ..] => None,
@@ -76,11 +79,13 @@ impl<'a> UintRef<'a> {
     }
 
     /// The bytes, most significant first: at least one, at most `Length::MAX`, and no needless zero in front.
+    #[must_use]
     pub fn as_bytes(&self) -> &'a [u8] {
         self.bytes
     }
 
     /// The bit length of the number, as 2048 of the modulus of an RSA-2048 key: the least n with it below 2^n, 0 of 0.
+    #[must_use]
     pub fn bit_len(&self) -> u64 {
         8 * self.bytes.len() as u64 - self.bytes[0].leading_zeros() as u64
     }
@@ -104,7 +109,7 @@ pub(crate) fn integer(contents: &[u8]) -> Result<UintRef<'_>> {
 
 impl<'a> TryClone for UintRef<'a> {
     /// The same number, over the same bytes. Never `OutOfMemory`.
-    fn try_clone(&self, _alloc: Global) -> Result<UintRef<'a>> {
+    fn try_clone_in(&self, _alloc: Global) -> Result<UintRef<'a>> {
         Ok(*self)
     }
 }

@@ -44,7 +44,7 @@ impl<U: Encode + UintEncoding> RsaPrivateKey<U> {
     /// The bytes behind it stay as they were. After an error all of the slice does. It is `Value` of SEQUENCE exactly
     /// if the list of other primes is there but empty, which is looked at first, `Overflow` exactly if the encoding is
     /// longer than `Length::MAX`, else `NoRoom` exactly if it is longer than the slice.
-    pub fn encode_key(&self, out: &mut [u8]) -> crate::proved::pkcs1::Result<usize> {
+    pub(crate) fn encode_key(&self, out: &mut [u8]) -> crate::proved::pkcs1::Result<usize> {
         require_listed(&self.other_prime_infos)?;
         Ok(self.encode_into(out)?)
     }

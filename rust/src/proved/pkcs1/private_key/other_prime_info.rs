@@ -49,18 +49,18 @@ impl<U: Encoding> Record for OtherPrimeInfo<U> {
 }
 
 impl<U: TryClone> TryClone for OtherPrimeInfo<U> {
-    fn try_clone(&self, alloc: Global) -> Result<OtherPrimeInfo<U>> {
-        self.try_clone(alloc)
+    fn try_clone_in(&self, alloc: Global) -> Result<OtherPrimeInfo<U>> {
+        self.try_clone_in(alloc)
     }
 }
 
 impl<U: TryClone> OtherPrimeInfo<U> {
     /// The same numbers, or `OutOfMemory`, which never comes if each is always copied.
-    pub(crate) fn try_clone(&self, alloc: Global) -> Result<OtherPrimeInfo<U>> {
+    pub(crate) fn try_clone_in(&self, alloc: Global) -> Result<OtherPrimeInfo<U>> {
         Ok(OtherPrimeInfo {
-            prime: self.prime.try_clone(alloc)?,
-            exponent: self.exponent.try_clone(alloc)?,
-            coefficient: self.coefficient.try_clone(alloc)?,
+            prime: self.prime.try_clone_in(alloc)?,
+            exponent: self.exponent.try_clone_in(alloc)?,
+            coefficient: self.coefficient.try_clone_in(alloc)?,
         })
     }
 }
@@ -157,7 +157,7 @@ pub(crate) fn clone_other_primes<U: TryClone>(
     alloc: Global,
 ) -> Result<Option<OtherPrimeInfos<U>>> {
     match others {
-        Some(others) => Ok(Some(others.try_clone(alloc)?)),
+        Some(others) => Ok(Some(others.try_clone_in(alloc)?)),
         None => Ok(None),
     }
 }

@@ -66,6 +66,7 @@ impl<U: Encoding, O: Encoding> PrivateKeyOf<U, O> {
     /// The key's parts in a row, whatever holds the other primes: for types of these of one's own. It is written as the
     /// key's contents. An empty list of other primes is written as one.
     #[inline(always)]
+    #[must_use]
     pub fn row(&self) -> KeyRow<'_, U, O> {
         let prime1 = (
             Borrowed(&self.prime1),

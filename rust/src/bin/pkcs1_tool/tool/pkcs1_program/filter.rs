@@ -59,8 +59,8 @@ fn answer_lines<W: Sink>(
     held: &mut Vec<u8>,
     sink: &mut W,
 ) -> Result<(), Fault> {
-    let mut encodings = Encodings::new(alloc);
-    let mut answer = Vec::new(alloc);
+    let mut encodings = Encodings::new_in(alloc);
+    let mut answer = Vec::new_in(alloc);
     let mut rest = input;
     while !rest.is_empty() {
         let (line, more) = split_line(rest);
@@ -77,7 +77,7 @@ fn answer_lines<W: Sink>(
 /// Writes the output for each line, in order, and flushes the sink. If memory runs out, the output for the lines before
 /// is written.
 fn answer_input<W: Sink>(alloc: Global, input: &[u8], sink: &mut W) -> Result<(), Fault> {
-    let mut held = Vec::new(alloc);
+    let mut held = Vec::new_in(alloc);
     match answer_lines(alloc, input, &mut held, sink) {
         Ok(()) => finish(held.as_slice(), sink),
         Err(Fault::Memory) => {

@@ -45,10 +45,10 @@ pub struct Encodings {
 
 impl Encodings {
     /// Empty buffers; allocates nothing.
-    pub fn new(alloc: Global) -> Encodings {
+    pub(crate) fn new_in(alloc: Global) -> Encodings {
         Encodings {
-            first: Vec::new(alloc),
-            second: Vec::new(alloc),
+            first: Vec::new_in(alloc),
+            second: Vec::new_in(alloc),
         }
     }
 }

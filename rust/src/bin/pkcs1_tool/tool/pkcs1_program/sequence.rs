@@ -43,7 +43,7 @@ fn fault_of(alloc: Global, bytes: &[u8]) -> Option<Error> {
 /// if the source never ends. Err: `File` if a call failed, `OutOfMemory` or `Overflow`, as of `Document::read_from`; or
 /// what came has this fault as a document, which isn't that it is too short. What was read before an error is lost.
 pub fn read_sequence<R: Source>(alloc: Global, source: &mut R) -> Result<Vec<u8>> {
-    let mut bytes = Vec::new(alloc);
+    let mut bytes = Vec::new_in(alloc);
     let mut piece = [0u8; PIECE];
     loop {
         let count = match source.read(&mut piece) {

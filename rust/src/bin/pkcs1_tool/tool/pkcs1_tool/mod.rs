@@ -21,7 +21,7 @@ const USAGE: &str = "usage: pkcs1_tool [copy pub|priv IN OUT]";
 
 /// The arguments, the program's name first.
 fn arguments(rt: &HostRuntime) -> io::Result<Vec<String>> {
-    let mut arguments = Vec::new(rt.alloc());
+    let mut arguments = Vec::new_in(rt.alloc());
     for argument in env::args(rt)? {
         arguments.push(argument)?;
     }

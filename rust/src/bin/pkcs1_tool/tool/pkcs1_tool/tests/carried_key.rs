@@ -19,7 +19,7 @@ pub struct CarriedKey {
 
 /// Copies the bytes.
 fn copied(alloc: Global, bytes: &[u8]) -> crate::proved::der_core::Result<Vec<u8>> {
-    let mut copy = Vec::new(alloc);
+    let mut copy = Vec::new_in(alloc);
     copy.extend_from_slice(bytes)?;
     Ok(copy)
 }

@@ -60,7 +60,7 @@ fn documents_go_to_sinks() -> Result<(), Fail> { let rt = HostRuntime;
 
 /// A document of more than 1 MiB, which is more than 16 pieces of 64 KiB.
 fn long_encoding(alloc: Global) -> Result<Vec<u8>, Fail> {
-    let mut encoding = Vec::new(alloc);
+    let mut encoding = Vec::new_in(alloc);
     encoding.extend_from_slice(&[0x30, 0x83, 0x10, 0x00, 0x00])?;
     for place in 0..0x10_0000_u32 {
         encoding.push(u8::try_from(place % 251).unwrap_or(0))?;

@@ -100,7 +100,7 @@ impl Sink for Narrow {
 /// A sink that takes up to `most` bytes per call.
 pub fn taking(alloc: Global, most: usize, failing: u64) -> Narrow {
     Narrow {
-        taken: Vec::new(alloc),
+        taken: Vec::new_in(alloc),
         most,
         failing,
         calls: 0,
@@ -169,7 +169,7 @@ impl Write for FailingWriter {
 
 pub fn failing_at(alloc: Global, failing: u64) -> ToWrite<FailingWriter> {
     ToWrite::new(FailingWriter {
-        taken: Vec::new(alloc),
+        taken: Vec::new_in(alloc),
         failing,
         calls: 0,
     })

@@ -101,7 +101,7 @@ fn copies_call_files_in_order() { let rt = HostRuntime;
         (b"0\x00".as_slice(), Way::Beside(None), READ, None),
         (b"1\x00".as_slice(), Way::Beside(None), &READ[..2], None),
     ] {
-        let calls = RefCell::new(Vec::new(alloc));
+        let calls = RefCell::new(Vec::new_in(alloc));
         let mut recorder = Recorder {
             way,
             ..files(&calls, input, None)
@@ -119,17 +119,17 @@ fn copies_call_files_in_order() { let rt = HostRuntime;
 fn keys_call_files_in_order() -> Result<(), Fail> { let rt = HostRuntime;
     let alloc = rt.alloc();
     let (from, to) = (Path::new("in"), Path::new("out"));
-    let calls = RefCell::new(Vec::new(alloc));
+    let calls = RefCell::new(Vec::new_in(alloc));
     let mut recorder = files(&calls, PRIVATE, None);
     let key = RsaPrivateKeyOwned::read_pkcs1_der_file(&mut recorder, alloc, from)?;
     key.write_pkcs1_der_file(&mut recorder, alloc, to)?;
     equal(&rt, calls.into_inner().as_slice(), READ_AND_WRITTEN);
-    let calls = RefCell::new(Vec::new(alloc));
+    let calls = RefCell::new(Vec::new_in(alloc));
     let mut recorder = files(&calls, PUBLIC, None);
     let key = RsaPublicKeyOwned::read_pkcs1_der_file(&mut recorder, alloc, from)?;
     key.write_pkcs1_der_file(&mut recorder, alloc, to)?;
     equal(&rt, calls.into_inner().as_slice(), READ_AND_WRITTEN);
-    let calls = RefCell::new(Vec::new(alloc));
+    let calls = RefCell::new(Vec::new_in(alloc));
     let mut recorder = files(&calls, PUBLIC, None);
     let key = RsaPublicKeyRef::try_from(PUBLIC)?;
     key.write_pkcs1_der_file(&mut recorder, alloc, to)?;
@@ -139,7 +139,7 @@ fn keys_call_files_in_order() -> Result<(), Fail> { let rt = HostRuntime;
 
 /// The calls of reading a public key's file.
 fn calls_of_reading(alloc: Global, input: &[u8], failing: Option<Call>) -> Vec<Call> {
-    let calls = RefCell::new(Vec::new(alloc));
+    let calls = RefCell::new(Vec::new_in(alloc));
     let mut recorder = files(&calls, input, failing);
     let _ = RsaPublicKeyOwned::read_pkcs1_der_file(&mut recorder, alloc, Path::new("in"));
     calls.into_inner()
@@ -171,7 +171,7 @@ fn a_new_file_is_removed() { let rt = HostRuntime;
         (Call::SyncName, REPLACED, &REMOVED[2..]),
     ] {
         for also_failing in [None, Some(Call::Remove)] {
-            let calls = RefCell::new(Vec::new(alloc));
+            let calls = RefCell::new(Vec::new_in(alloc));
             let mut recorder = Recorder {
                 also_failing,
                 ..files(&calls, PRIVATE, Some(failing))
@@ -194,7 +194,7 @@ fn a_new_file_is_removed() { let rt = HostRuntime;
 fn a_new_file_of_a_public_key_has_a_mode() { let rt = HostRuntime;
     let alloc = rt.alloc();
     for (replaced, bits, umask_takes) in [(None, 0o664, true), (Some(0o100640), 0o640, false)] {
-        let calls = RefCell::new(Vec::new(alloc));
+        let calls = RefCell::new(Vec::new_in(alloc));
         let mut recorder = Recorder {
             way: Way::Beside(replaced),
             mode: Mode { bits, umask_takes },

@@ -21,7 +21,7 @@ fn answers_lines() -> Result<(), Fail> { let rt = HostRuntime;
         (odd.as_slice(), b"bad line\nbad line\n".as_slice()),
     ] {
         let mut source = FromRead::new(input);
-        let mut sink = ToWrite::new(Vec::new(rt.alloc()));
+        let mut sink = ToWrite::new(Vec::new_in(rt.alloc()));
         run(rt.alloc(), &mut source, &mut sink)?;
         equal(&rt, (source.faults(), sink.faults()), (0, 0));
         equal(&rt, sink.into_inner().as_slice(), want);
@@ -33,7 +33,7 @@ fn answers_lines() -> Result<(), Fail> { let rt = HostRuntime;
 fn stops_on_a_failed_read() { let rt = HostRuntime;
     for failing in 0..48 {
         let mut source = giving(INPUT, failing);
-        let mut sink = ToWrite::new(Vec::new(rt.alloc()));
+        let mut sink = ToWrite::new(Vec::new_in(rt.alloc()));
         let done = run(rt.alloc(), &mut source, &mut sink);
         let stops = failing >= 1 && failing <= 46;
         let (want, output) = if stops {
@@ -73,7 +73,7 @@ fn stops_past_the_longest_input() { let rt = HostRuntime;
         (&[b'\n'; 65536], u64::MAX, Err(Fault::Read), b"".as_slice()),
     ] {
         let mut source = Many { block, left };
-        let mut sink = ToWrite::new(Vec::new(rt.alloc()));
+        let mut sink = ToWrite::new(Vec::new_in(rt.alloc()));
         let done = run(rt.alloc(), &mut source, &mut sink);
         assert_eq!(rt; done, want, "of {left}");
         assert_eq!(rt; sink.into_inner().as_slice(), output);
@@ -138,7 +138,7 @@ fn prints_faults() -> Result<(), Fail> { let rt = HostRuntime;
 
 /// The words of a line.
 fn words_in(rt: &HostRuntime, line: &str) -> Result<Vec<String>, Fail> {
-    let mut words = Vec::new(rt.alloc());
+    let mut words = Vec::new_in(rt.alloc());
     for word in line.split(' ') {
         words.push(String::from_str(rt.alloc(), word)?)?;
     }

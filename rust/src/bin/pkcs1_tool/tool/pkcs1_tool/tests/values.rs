@@ -137,12 +137,12 @@ fn parameters_are_printed_by_their_fields() -> Result<(), Fail> { let rt = HostR
 fn long_values_are_copied() -> Result<(), Fail> { let rt = HostRuntime;
     let alloc = rt.alloc();
     let octets = vec![in alloc; 0x11u8; 0x10_0000]?;
-    let number = Uint::new(alloc, octets.as_slice())?;
-    let copy = number.try_clone(alloc)?;
+    let number = Uint::new_in(alloc, octets.as_slice())?;
+    let copy = number.try_clone_in(alloc)?;
     holds(&rt, number.as_bytes() == octets.as_slice());
     holds(&rt, copy.as_bytes() == octets.as_slice());
-    let any = Any::new(alloc, Tag::NULL, octets.as_slice())?;
-    let copy = any.try_clone(alloc)?;
+    let any = Any::new_in(alloc, Tag::NULL, octets.as_slice())?;
+    let copy = any.try_clone_in(alloc)?;
     holds(&rt, any.as_any_ref().value() == octets.as_slice());
     holds(&rt, copy.as_any_ref().value() == octets.as_slice());
     let mut encoding = Vec::from_slice(alloc, &[0x30, 0x83, 0x10, 0x00, 0x00])?;
