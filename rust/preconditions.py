@@ -36,9 +36,9 @@ MET = [
     Met("src/identifier.rs", "proved::IdentifierView::over(self.as_bytes())", "",
         "an `ObjectIdentifier` is made of a text that is one, or of an identifier that was read"),
     Met("src/idioms.rs", "else { Ok(TagNumber::new(number)) }", "if number > 30 {", "the number is at most 30"),
-    Met("src/param_calls.rs", "(&view).encode_spelling_into(mask, out)?", "if mask >> view.default_fields() != 0 {",
-        "the mask is below two to the number of defaults"),
 ]
+MET += [Met(file, "(&view).encode_spelling_into(mask, out)?", "if mask >> view.default_fields() != 0 {",
+            "the mask is below two to the number of defaults") for file in ("src/oaep.rs", "src/pss.rs")]
 
 
 class Function(NamedTuple):

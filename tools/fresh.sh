@@ -7,7 +7,7 @@ set -eu
 unset CDPATH
 cd "$(dirname "$0")/.."
 generated=ffi/lib/generated
-text='rust/src/clones.rs rust/src/proved rust/src/rattle_std rust/src/bin/pkcs1_tool/rattle_std
+text='rust/src/clones.rs rust/src/numbers.rs rust/src/proved rust/src/rattle_std rust/src/bin/pkcs1_tool/rattle_std
     rust/src/bin/pkcs1_tool/tool rust/c/src rust/tool/src'
 makers='tools/generate.sh tools/debian_rust.sh tools/generate/plain.py tools/generate/marks.py
     tools/generate/rust_names.py tools/generate/provenance.sh tools/generate/border.c tools/generate/ir2c'

@@ -11,7 +11,7 @@ failure=2
 contents=(
     Makefile CMakeLists.txt README.md CHANGELOG.md SECURITY.md LICENSE-APACHE LICENSE-MIT
     docs/{USING,PROMISES,DECISIONS,RELEASE}.md
-    ffi/{lib,examples,tests/fuzz} ffi/tests/{check.sh,check_abi.sh,abi,keys,test.h,{test,rows,large,lengths,states,interrupt,freestanding}.c} rust :!rust/{check,check.sh,preconditions.py} tools/erase/{README.md,{compare,erase,forms,tokens}.py}
+    ffi/{lib,examples,tests/fuzz} ffi/tests/{check.sh,check_abi.sh,abi,keys,test.h,{test,rows,large,lengths,states,interrupt,freestanding}.c} rust :!rust/{check,check.sh,preconditions.py} tools/erase/{README.md,{calls,compare,erase,forms,tokens}.py}
     docs/CLAIM.md
     crates/pkcs1_tool/{run_built,copies,refuse_memory,all_rows}.sh
     crates/pkcs1_tool/{refuse_memory.c,rows,stdin,stdout,pkcs1_tool.1}

@@ -7,6 +7,7 @@ use crate::proved::der_core::{self as proved, read_borrowed};
 use crate::proved::pkcs1::{TrailerField, Version};
 use crate::proved::spki_core::AlgorithmView;
 use crate::values::{Held, Number};
+use core::convert::identity;
 
 /// An identifier, and parameters that are there or not (RFC 5280 4.1.1.2). An `O` holds the object identifier.
 ///
@@ -35,7 +36,7 @@ pub type AlgorithmIdentifierOwned = AlgorithmIdentifier<Any>;
 pub(crate) type MaskGen<P, O = ObjectIdentifier> = AlgorithmIdentifier<AlgorithmIdentifier<P, O>, O>;
 
 /// An algorithm identifier of the proved crates.
-type View<'a> = AlgorithmView<'a, crate::proved::spki_core::AnyRef<'a>>;
+type View<'a> = AlgorithmView<'a, AnyRef<'a>>;
 
 impl<P, O> AlgorithmIdentifier<P, O> {
     /// The algorithm of a proved crate, with its parameters held otherwise.
@@ -52,11 +53,6 @@ impl<P, O> AlgorithmIdentifier<P, O> {
 }
 
 impl<P, O: Identifier> AlgorithmIdentifier<P, O> {
-    /// The contents octets of the identifier.
-    pub(crate) fn octets(&self) -> &[u8] {
-        self.oid.as_identifier().0.as_bytes()
-    }
-
     /// The algorithm of a proved crate, with its parameters held otherwise.
     #[inline]
     pub(crate) fn lent<'s, V>(&'s self, held: impl FnOnce(&'s P) -> V) -> AlgorithmView<'s, V> {
@@ -88,7 +84,7 @@ impl<P> AlgorithmIdentifier<P> {
 impl<P: Held, O: Identifier> AlgorithmIdentifier<P, O> {
     #[inline]
     pub(crate) fn as_view(&self) -> View<'_> {
-        self.lent(|parameters| parameters.as_any().0)
+        self.lent(Held::as_any)
     }
 
     /// Whether this is the hash function D: its identifier, with NULL or without parameters. Both mean the same
@@ -119,12 +115,12 @@ decoded! {
     {} OctetStringRef<'a>, bytes => read_borrowed(bytes);
     {} ObjectIdentifierRef<'a>, bytes => Ok(ObjectIdentifierRef(read_borrowed(bytes)?));
     {} ObjectIdentifier, bytes => Ok(ObjectIdentifierRef::from_der(bytes)?.into());
-    {} AnyRef<'a>, bytes => Ok(AnyRef(read_borrowed(bytes)?));
+    {} AnyRef<'a>, bytes => read_borrowed(bytes);
     {} Any, bytes => AnyRef::from_der(bytes)?.try_into();
     {} Version, bytes => proved::Decode::from_der(proved::NoMemory, bytes);
     {} TrailerField, bytes => proved::Decode::from_der(proved::NoMemory, bytes);
     {O: OfIdentifier<'a>} AlgorithmIdentifier<AnyRef<'a>, O>, bytes => {
-        Ok(AlgorithmIdentifier::of(read_borrowed(bytes)?, AnyRef))
+        Ok(AlgorithmIdentifier::of(read_borrowed(bytes)?, identity))
     };
     {} AlgorithmIdentifier<Any>, bytes => AlgorithmIdentifierRef::from_der(bytes)?.map(|any| Any::try_from(*any));
 }
@@ -134,8 +130,8 @@ encoded! {
     {} OctetStringRef<'_>, octets => *octets;
     {} ObjectIdentifierRef<'_>, oid => oid.as_identifier().0;
     {} ObjectIdentifier, oid => oid.as_identifier().0;
-    {} AnyRef<'_>, any => any.0;
-    {} Any, any => any.as_any().0;
+    {} AnyRef<'_>, any => *any;
+    {} Any, any => any.as_any();
     {} Version, version => *version;
     {} TrailerField, field => *field;
     {P: Held, O: Identifier} AlgorithmIdentifier<P, O>, algorithm => algorithm.as_view();

@@ -1,13 +1,13 @@
 //! Reading of contents octets, where another reader has read the header.
 
 use crate::der::asn1::{AnyRef, UintRef};
-use crate::der::{Result, Tag};
+use crate::der::{Result, Tag, decoded};
 use crate::identifier::OfIdentifier;
 use crate::keys::{OtherPrimeInfos, RsaPrivateKey, asn1, private_key};
-use crate::params::{RsaOaepParams, RsaPssParams};
 use crate::proved::der_core::{NoMemory, read_contents};
 use crate::proved::pkcs1::{self as proved, OtherPrimeInfo, RsaPublicKey, TrailerField, Version};
 use crate::rattle_std::alloc::Global;
+use crate::{RsaOaepParams, RsaPssParams};
 
 /// A type that is read from its contents octets, without a header.
 ///
@@ -27,17 +27,8 @@ pub trait DecodeContents<'a>: Sized {
     fn from_contents(contents: &'a [u8]) -> Result<Self>;
 }
 
-macro_rules! from_contents {
-    ($({$($generics:tt)*} $name:ty, $contents:ident => $read:expr;)*) => { $(
-        impl<'a, $($generics)*> DecodeContents<'a> for $name {
-            #[inline]
-            fn from_contents($contents: &'a [u8]) -> Result<$name> {
-                $read
-            }
-        }
-    )* };
-}
-from_contents! {
+decoded! {
+    DecodeContents::from_contents:
     {} Version, contents => read_contents(NoMemory, contents);
     {} TrailerField, contents => read_contents(NoMemory, contents);
     {} OtherPrimeInfo<UintRef<'a>>, contents => read_contents(NoMemory, contents);

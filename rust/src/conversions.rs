@@ -76,16 +76,12 @@ fn copied_any<P: Held>(any: &P) -> der::Result<Any> {
     Any::new(any.tag(), any.value())
 }
 
-fn lent_number<U: Number>(number: &U) -> Result<UintRef<'_>, Infallible> {
-    Ok(number.as_number())
-}
-
 fn lent_any<P: Held>(any: &P) -> Result<AnyRef<'_>, Infallible> {
     Ok(any.as_any())
 }
 
 both_ways! {
-    UintRef Uint, number => copied_number(number), lent_number(number);
+    UintRef Uint, number => copied_number(number), Ok::<_, Infallible>(number.as_number());
     AnyRef Any, any => copied_any(any), lent_any(any);
     AlgorithmIdentifierRef AlgorithmIdentifierOwned, algorithm => algorithm.map(copied_any), algorithm.map(lent_any);
     RsaPublicKeyRef RsaPublicKeyOwned, key => copied_key(key), Ok::<_, Infallible>(public_key(key));

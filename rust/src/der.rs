@@ -13,7 +13,8 @@ pub use proved::{Error, ErrorKind, Length, Result, Tag, TagNumber};
 pub mod asn1 {
     pub use crate::identifier::{ObjectIdentifier, ObjectIdentifierRef};
     pub use crate::proved::der_core::{OctetStringRef, Uint, UintRef};
-    pub use crate::values::{Any, AnyRef};
+    pub use crate::proved::spki_core::AnyRef;
+    pub use crate::values::Any;
 }
 
 /// Object identifiers, and types that name one.
@@ -92,12 +93,6 @@ pub(crate) fn to_der<T: proved::Encode>(message: &T) -> Result<alloc::vec::Vec<u
     Ok(encoding.into())
 }
 
-/// A list of these octets.
-#[cfg(feature = "alloc")]
-pub(crate) fn copied(octets: &[u8]) -> Result<alloc::vec::Vec<u8>> {
-    Ok(Vec::from_slice(Global, octets)?.into())
-}
-
 /// `Clone` of a type with `try_clone`.
 macro_rules! cloned {
     ($({$($generics:tt)*} $name:ty;)*) => { $(
@@ -112,16 +107,19 @@ macro_rules! cloned {
 }
 pub(crate) use cloned;
 
-/// `Decode` of a type.
+/// `Decode` of a type, or the trait that stands in front, with its call.
 macro_rules! decoded {
-    ($({$($generics:tt)*} $name:ty, $bytes:ident => $read:expr;)*) => { $(
-        impl<'a, $($generics)*> $crate::der::Decode<'a> for $name {
+    ($trait:ident::$call:ident: $({$($generics:tt)*} $name:ty, $bytes:ident => $read:expr;)*) => { $(
+        impl<'a, $($generics)*> $crate::der::$trait<'a> for $name {
             #[inline]
-            fn from_der($bytes: &'a [u8]) -> $crate::der::Result<$name> {
+            fn $call($bytes: &'a [u8]) -> $crate::der::Result<$name> {
                 $read
             }
         }
     )* };
+    ($($types:tt)*) => {
+        $crate::der::decoded! { Decode::from_der: $($types)* }
+    };
 }
 pub(crate) use decoded;
 
@@ -165,34 +163,3 @@ macro_rules! encoded {
     )* };
 }
 pub(crate) use encoded;
-
-/// What no call of the crate does, but a program that is proved may: it appends to a writer, and ends a reader.
-#[cfg(test)]
-mod from_the_front {
-    use super::{ErrorKind, asn1::UintRef};
-    use crate::proved::der_core::{Encode, Reader, SliceReader, SliceWriter};
-
-    #[test]
-    fn what_is_appended_is_what_is_written_to_a_slice() {
-        let (mut octets, mut room, mut other) = ([1; 0x1_0000], [0; 0x1_0006], [0; 0x1_0006]);
-        for first in [0x7f, 0x80, 0x81] {
-            octets[0] = first;
-            for len in [1, 0x7e, 0x7f, 0x80, 0xfe, 0xff, 0x100, 0xfffe, 0xffff, 0x1_0000] {
-                let number = UintRef::new(&octets[..len]).unwrap();
-                let mut writer = SliceWriter::new(&mut room);
-                number.encode(&mut writer).unwrap();
-                let written = number.encode_to_slice(&mut other).unwrap();
-                assert!(writer.finish() == written, "{len} octets, of which the first is {first}");
-            }
-        }
-    }
-
-    #[test]
-    fn a_reader_ends_where_no_byte_is_left() {
-        for left in 0..3 {
-            let mut reader = SliceReader::new(&[0; 3][..left]).unwrap();
-            let error = reader.finish().err().map(|error| error.kind());
-            assert_eq!(error, (left > 0).then_some(ErrorKind::TrailingData), "{left} bytes");
-        }
-    }
-}

@@ -1,12 +1,12 @@
 //! Documents: one whole SEQUENCE each, in memory.
 
-use crate::der::{Decode, Encode, Error, Length, Result, cloned, copied};
+use crate::der::{Decode, Encode, Error, Length, Result, cloned};
 #[cfg(feature = "std")]
 use crate::files::{FileError, Host};
 use crate::proved::der_core as proved;
-use crate::rattle_std::alloc::Global;
 #[cfg(feature = "std")]
 use crate::rattle_std::path::Path;
+use crate::rattle_std::{alloc::Global, prelude::Vec as List};
 use alloc::vec::Vec;
 use core::fmt;
 
@@ -95,7 +95,7 @@ impl Document {
     /// There is no memory.
     #[must_use]
     pub fn to_vec(&self) -> Vec<u8> {
-        copied(self.as_bytes()).expect("no memory was found")
+        List::from_slice(Global, self.as_bytes()).expect("no memory was found").into()
     }
 
     /// Writes the document to a file, which is created or truncated.

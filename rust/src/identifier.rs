@@ -113,10 +113,6 @@ pub trait OfIdentifier<'a>: Sealed + Sized {
     fn of_identifier(oid: ObjectIdentifierRef<'a>) -> Self;
 }
 
-impl Sealed for ObjectIdentifier {}
-
-impl Sealed for ObjectIdentifierRef<'_> {}
-
 impl Identifier for ObjectIdentifier {
     #[inline]
     fn as_identifier(&self) -> ObjectIdentifierRef<'_> {
@@ -189,15 +185,8 @@ pub trait AssociatedOid {
     const OID: ObjectIdentifier;
 }
 
-/// The identifier of each such type, in memory that stays.
-trait Kept: AssociatedOid {
-    const KEPT: &'static ObjectIdentifier = &Self::OID;
-}
-
-impl<D: AssociatedOid> Kept for D {}
-
 impl<D: AssociatedOid> proved::AssociatedOid for D {
-    const OID: &'static [u8] = D::KEPT.as_bytes();
+    const OID: &'static [u8] = const { &<D as AssociatedOid>::OID }.as_bytes();
 
     #[inline]
     fn octets() -> &'static [u8] {

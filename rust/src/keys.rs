@@ -223,17 +223,12 @@ impl<U> fmt::Debug for OtherPrimeInfo<U> {
 }
 
 /// What only `Error::Asn1` may hold.
+#[inline(always)]
 pub(crate) fn asn1<T>(read: Result<T>) -> der::Result<T> {
     read.map_err(|error| match error {
         Error::Asn1(error) => error,
         _ => der::Error::new(der::ErrorKind::Failed),
     })
-}
-
-/// What `from_der` of a view gives, in line: a struct of it is then made without a copy in memory.
-#[inline(always)]
-fn view(bytes: &[u8]) -> der::Result<RsaPrivateKeyView<'_>> {
-    asn1(RsaPrivateKeyView::try_from(bytes))
 }
 
 /// The public key as it is written.
@@ -244,9 +239,9 @@ pub(crate) fn public_key<U: Number>(key: &RsaPublicKey<U>) -> RsaPublicKeyRef<'_
 
 decoded! {
     {} OtherPrimeInfo<UintRef<'a>>, bytes => read_borrowed(bytes);
-    {} RsaPrivateKey<UintRef<'a>>, bytes => RsaPrivateKey::of_view(&view(bytes)?);
+    {} RsaPrivateKey<UintRef<'a>>, bytes => RsaPrivateKey::of_view(&asn1(RsaPrivateKeyView::try_from(bytes))?);
     {} RsaPrivateKey<Uint>, bytes => RsaPrivateKeyRef::from_der(bytes)?.try_into();
-    {} RsaPrivateKeyView<'a>, bytes => view(bytes);
+    {} RsaPrivateKeyView<'a>, bytes => asn1(RsaPrivateKeyView::try_from(bytes));
     {} RsaPublicKey<UintRef<'a>>, bytes => read_borrowed(bytes);
     {} RsaPublicKey<Uint>, bytes => RsaPublicKeyRef::from_der(bytes)?.try_into();
 }

@@ -1,34 +1,10 @@
 //! RSA keys and parameters of PKCS #1 (RFC 8017) in DER, made of what is proved.
 //!
-//! ```
-//! use pkcs1_proved::RsaPublicKeyRef;
-//! use pkcs1_proved::der::Encode;
-//!
-//! let key = RsaPublicKeyRef::try_from(&[0x30, 6, 2, 1, 7, 2, 1, 3][..])?;
-//! assert_eq!((key.modulus.as_bytes(), key.public_exponent.as_bytes()), (&[7][..], &[3][..]));
-//!
-//! let mut room = [0; 8];
-//! assert_eq!(key.encode_to_slice(&mut room)?, [0x30, 6, 2, 1, 7, 2, 1, 3]);
-//! # Ok::<(), pkcs1_proved::Error>(())
-//! ```
-//!
-//! A private key is read in the same way, into a struct or a view, and so are parameters. Types that own their octets
-//! end in `Owned`:
-//!
-//! ```no_run
-//! # #[cfg(feature = "std")] {
-//! use pkcs1_proved::{DecodeRsaPrivateKey, EncodeRsaPrivateKey, RsaPrivateKeyOwned};
-//!
-//! let key = RsaPrivateKeyOwned::read_pkcs1_der_file("key.der")?;
-//! key.to_pkcs8_der()?.write_der_file("container.der")?;
-//! key.write_pkcs1_der_file("copy.der")?;
-//! # }
-//! # Ok::<(), pkcs1_proved::Error>(())
-//! ```
+#![doc = include_str!("front.md")]
 //!
 //! The functions that read and write stand in `src/proved`: a machine has proved that they do what their contracts in
-//! the language Rattle say. This crate and the compiler aren't proved, but tested. The README has more: which name is for
-//! what, what stands beside RustCrypto's `pkcs1`, what isn't read, and what needs the feature `alloc`.
+//! the language Rattle say. This crate and the compiler aren't proved, but tested. The README has more: what stands
+//! beside RustCrypto's `pkcs1`, what isn't read, and what may panic.
 #![no_std]
 #![cfg_attr(docsrs, feature(doc_cfg))]
 #![forbid(unsafe_code)]
@@ -56,8 +32,8 @@ mod identifier;
 mod idioms;
 mod keys;
 mod numbers;
+mod oaep;
 mod oid_text;
-mod param_calls;
 mod params;
 pub mod pkcs8;
 // Without the proof, names are left that only contracts used, and functions that only they called.
@@ -72,6 +48,7 @@ pub mod pkcs8;
     unused_variables
 )]
 mod proved;
+mod pss;
 #[cfg_attr(not(feature = "std"), allow(dead_code))]
 #[allow(unnameable_types)]
 mod rattle_std;
@@ -84,14 +61,12 @@ pub use der::asn1::{ObjectIdentifier, Uint, UintRef};
 #[cfg(feature = "std")]
 pub use files::FileError;
 pub use keys::{OtherPrimeInfos, RsaPrivateKey, RsaPrivateKeyOwned, RsaPrivateKeyRef};
-pub use param_calls::{
-    RsaOaepParamsOwned, RsaOaepParamsRef, RsaOaepParamsView, RsaPssParamsOwned, RsaPssParamsRef, RsaPssParamsView,
-};
-pub use params::{RsaOaepParams, RsaPssParams};
+pub use oaep::{RsaOaepParams, RsaOaepParamsOwned, RsaOaepParamsRef, RsaOaepParamsView};
 pub use proved::pkcs1::{
     Error, OtherPrimeInfo, OtherPrimes, Result, RsaPrivateKeyView, RsaPublicKey, RsaPublicKeyOwned, RsaPublicKeyRef,
     TrailerField, Version,
 };
+pub use pss::{RsaPssParams, RsaPssParamsOwned, RsaPssParamsRef, RsaPssParamsView};
 pub use traits::{DecodeRsaPrivateKey, DecodeRsaPublicKey};
 #[cfg(feature = "alloc")]
 pub use traits::{EncodeRsaPrivateKey, EncodeRsaPublicKey};
@@ -115,7 +90,3 @@ pub mod spki {
     pub use crate::algorithm::{AlgorithmIdentifier, AlgorithmIdentifierOwned, AlgorithmIdentifierRef};
     pub use crate::identifier::{AssociatedOid, ObjectIdentifier};
 }
-
-#[cfg(all(doctest, feature = "std"))]
-#[doc = include_str!("../README.md")]
-struct Readme;

@@ -1,108 +1,27 @@
-//! Parameters of RSASSA-PSS (RFC 8017 A.2.3) and RSAES-OAEP (A.2.1).
+//! What parameters of RSASSA-PSS and of RSAES-OAEP have in common.
 
+use crate::Error;
 use crate::algorithm::{AlgorithmIdentifier, MaskGen};
-use crate::algorithms::{Mgf1, PSpecified};
-use crate::der::Tag;
-use crate::der::asn1::{AnyRef, ObjectIdentifier};
-use crate::identifier::{AssociatedOid, Identifier};
-use crate::proved::pkcs1_params::{self as proved, TrailerField};
-use crate::proved::spki_core::AlgorithmView;
+use crate::algorithms::Mgf1;
+use crate::der::asn1::{Any, AnyRef};
+use crate::der::{decoded, encoded, from_slices};
+use crate::identifier::{AssociatedOid, Identifier, OfIdentifier};
+use crate::keys::asn1;
+use crate::oaep::{RsaOaepParams, RsaOaepParamsOwned, RsaOaepParamsRef, RsaOaepParamsView};
+use crate::proved::{der_core::NoMemory, pkcs1_params as proved};
+use crate::pss::{RsaPssParams, RsaPssParamsOwned, RsaPssParamsRef, RsaPssParamsView};
+#[cfg(feature = "alloc")]
+use crate::rattle_std::{alloc::Global, prelude::Vec};
 use crate::values::Held;
-
-/// Parameters of RSASSA-PSS. A `P` holds the parameters of a hash function, an `O` each object identifier: see
-/// `RsaPssParamsRef`, `RsaPssParamsOwned` and `RsaPssParamsView`. Explicit defaults are read, but not written.
-///
-/// ```text
-/// RSASSA-PSS-params ::= SEQUENCE {
-///     hashAlgorithm     [0] HashAlgorithm     DEFAULT sha1,
-///     maskGenAlgorithm  [1] MaskGenAlgorithm  DEFAULT mgf1SHA1,
-///     saltLength        [2] INTEGER           DEFAULT 20,
-///     trailerField      [3] TrailerField      DEFAULT trailerFieldBC
-/// }
-/// ```
-///
-/// ```
-/// use pkcs1_proved::{RsaPssParamsRef, RsaPssParamsView, Sha256, der::Encode};
-///
-/// let params = RsaPssParamsRef::new::<Sha256>(32);
-/// let mut room = [0; 80];
-/// let der = params.encode_to_slice(&mut room)?;
-/// let view = RsaPssParamsView::from_der_strict(der)?;
-/// assert!(view.uses_hash::<Sha256>() && view.salt_len == 32);
-/// # Ok::<(), pkcs1_proved::Error>(())
-/// ```
-#[derive(Clone, Copy, Debug, PartialEq, Eq, Hash)]
-pub struct RsaPssParams<P, O = ObjectIdentifier> {
-    /// The hash function; SHA-1 with NULL by default.
-    pub hash: AlgorithmIdentifier<P, O>,
-    /// The mask generation function and its hash function; MGF1 with SHA-1 with NULL by default.
-    pub mask_gen: AlgorithmIdentifier<AlgorithmIdentifier<P, O>, O>,
-    /// The salt length in octets, from 0 to 255; 20 by default.
-    pub salt_len: u8,
-    /// The trailer field of an encoded message; `BC` by default.
-    pub trailer_field: TrailerField,
-}
-
-/// Parameters of RSAES-OAEP. A `P` holds the parameters of a hash function or a source, an `O` each object identifier:
-/// see `RsaOaepParamsRef`, `RsaOaepParamsOwned` and `RsaOaepParamsView`. Explicit defaults are read, but not written.
-///
-/// ```text
-/// RSAES-OAEP-params ::= SEQUENCE {
-///     hashAlgorithm     [0] HashAlgorithm     DEFAULT sha1,
-///     maskGenAlgorithm  [1] MaskGenAlgorithm  DEFAULT mgf1SHA1,
-///     pSourceAlgorithm  [2] PSourceAlgorithm  DEFAULT pSpecifiedEmpty
-/// }
-/// ```
-#[derive(Clone, Copy, Debug, PartialEq, Eq, Hash)]
-pub struct RsaOaepParams<P, O = ObjectIdentifier> {
-    /// The hash function; SHA-1 with NULL by default.
-    pub hash: AlgorithmIdentifier<P, O>,
-    /// The mask generation function and its hash function; MGF1 with SHA-1 with NULL by default.
-    pub mask_gen: AlgorithmIdentifier<AlgorithmIdentifier<P, O>, O>,
-    /// The source of the label; pSpecified with an empty OCTET STRING by default.
-    pub p_source: AlgorithmIdentifier<P, O>,
-}
-
-impl<P, O> RsaPssParams<P, O> {
-    /// The default salt length in octets: that of a SHA-1 hash.
-    pub const SALT_LEN_DEFAULT: u8 = 20;
-}
-
-impl<'a> RsaPssParams<AnyRef<'a>> {
-    /// The hash function D with NULL, MGF1 with the same hash function, a salt of this many octets, and the trailer
-    /// field.
-    #[must_use]
-    pub const fn new<D: AssociatedOid>(salt_len: u8) -> RsaPssParams<AnyRef<'a>> {
-        let (hash, mask_gen) = (plain::<D>(), mgf1::<D>());
-        RsaPssParams { hash, mask_gen, salt_len, trailer_field: TrailerField::BC }
-    }
-}
-
-impl<'a> RsaOaepParams<AnyRef<'a>> {
-    /// The hash function D with NULL, MGF1 with the same hash function, and the empty label.
-    #[must_use]
-    pub fn new<D: AssociatedOid>() -> RsaOaepParams<AnyRef<'a>> {
-        RsaOaepParams::new_with_label::<D>(&[])
-    }
-
-    /// The hash function D with NULL, MGF1 with the same hash function, and this label.
-    /// # Panics
-    /// The label is longer than `Length::MAX`.
-    #[must_use]
-    pub fn new_with_label<D: AssociatedOid>(label: &'a (impl AsRef<[u8]> + ?Sized)) -> RsaOaepParams<AnyRef<'a>> {
-        let label = AnyRef::new(Tag::OCTET_STRING, label.as_ref()).expect("the label is too long");
-        let p_source = AlgorithmIdentifier { oid: PSpecified::OID, parameters: Some(label) };
-        RsaOaepParams { hash: plain::<D>(), mask_gen: mgf1::<D>(), p_source }
-    }
-}
+use core::convert::{Infallible, identity};
 
 /// The hash function D with NULL.
-const fn plain<'a, D: AssociatedOid>() -> AlgorithmIdentifier<AnyRef<'a>> {
+pub(crate) const fn plain<'a, D: AssociatedOid>() -> AlgorithmIdentifier<AnyRef<'a>> {
     AlgorithmIdentifier { oid: D::OID, parameters: Some(AnyRef::NULL) }
 }
 
 /// MGF1 with the hash function D with NULL.
-const fn mgf1<'a, D: AssociatedOid>() -> MaskGen<AnyRef<'a>> {
+pub(crate) const fn mgf1<'a, D: AssociatedOid>() -> MaskGen<AnyRef<'a>> {
     AlgorithmIdentifier { oid: Mgf1::OID, parameters: Some(plain::<D>()) }
 }
 
@@ -111,18 +30,108 @@ pub(crate) fn uses_hash<D: AssociatedOid, P: Held, O: Identifier>(
     hash: &AlgorithmIdentifier<P, O>,
     mask_gen: &MaskGen<P, O>,
 ) -> bool {
-    let is_mgf1 = proved::is_mgf1(mask_gen.octets());
+    let is_mgf1 = proved::is_mgf1(mask_gen.oid.as_identifier().as_bytes());
     is_mgf1 && hash.is_hash::<D>() && mask_gen.parameters.as_ref().is_some_and(AlgorithmIdentifier::is_hash::<D>)
 }
 
-impl<P: Held, O: Identifier> RsaOaepParams<P, O> {
-    /// The octets of the label, or `None` if the source isn't pSpecified with an OCTET STRING.
-    #[inline]
-    #[must_use]
-    pub fn label(&self) -> Option<&[u8]> {
-        // Of the other fields, which `label` doesn't look at, nothing is copied.
-        let p_source = self.p_source.as_view();
-        let mask_gen = AlgorithmView { oid: p_source.oid, parameters: None };
-        proved::RsaOaepParamsView { hash: p_source, mask_gen, p_source }.label()
+/// All spellings, as lists of std.
+#[cfg(feature = "alloc")]
+pub(crate) fn listed(spellings: Vec<Vec<u8>>) -> crate::der::Result<alloc::vec::Vec<alloc::vec::Vec<u8>>> {
+    let mut list = Vec::with_room(Global, spellings.len())?;
+    for spelling in alloc::vec::Vec::from(spellings) {
+        list.push(spelling.into())?;
     }
+    Ok(list.into())
+}
+
+/// What has no name of its own of a type of parameters: how it is made of its view, and lent as one, and its traits.
+macro_rules! parameters {
+    ($($name:ident $reference:ident $owned:ident $view:ident [$($sub:ident)?] [$($plain:ident)*];)*) => { $(
+        impl<'a, O: OfIdentifier<'a>> $name<AnyRef<'a>, O> {
+            #[inline(always)]
+            pub(crate) fn of_view(view: proved::$view<'a>) -> Self {
+                $name {
+                    hash: AlgorithmIdentifier::of(view.hash, identity),
+                    mask_gen: AlgorithmIdentifier::of(view.mask_gen, |hash| AlgorithmIdentifier::of(hash, identity)),
+                    $($sub: AlgorithmIdentifier::of(view.$sub, identity),)?
+                    $($plain: view.$plain,)*
+                }
+            }
+        }
+
+        impl<P: Held, O: Identifier> $name<P, O> {
+            #[inline]
+            pub(crate) fn view(&self) -> proved::$view<'_> {
+                proved::$view {
+                    hash: self.hash.as_view(),
+                    mask_gen: self.mask_gen.lent(AlgorithmIdentifier::as_view),
+                    $($sub: self.$sub.as_view(),)?
+                    $($plain: self.$plain,)*
+                }
+            }
+
+            /// The parameters with those of their algorithms held otherwise.
+            pub(crate) fn map<'p, Q, E>(&'p self, held: impl Fn(&'p P) -> Result<Q, E>) -> Result<$name<Q>, E> {
+                Ok($name {
+                    hash: self.hash.map(&held)?,
+                    mask_gen: self.mask_gen.map(|hash| hash.map(&held))?,
+                    $($sub: self.$sub.map(&held)?,)?
+                    $($plain: self.$plain,)*
+                })
+            }
+        }
+
+        impl<'a> From<$view<'a>> for $reference<'a> {
+            /// Copies the identifiers.
+            fn from(view: $view<'a>) -> $reference<'a> {
+                let Ok(params) = view.map(|any| Ok::<_, Infallible>(*any));
+                params
+            }
+        }
+
+        impl<'a, O: OfIdentifier<'a>> Default for $name<AnyRef<'a>, O> {
+            /// Each field at its default.
+            fn default() -> $name<AnyRef<'a>, O> {
+                // In the encoding without a field, each has its default.
+                Self::try_from(&[0x30, 0][..]).expect("no field is read")
+            }
+        }
+
+        impl Default for $owned {
+            /// Each field at its default. Nothing is allocated.
+            fn default() -> $owned {
+                $reference::default().try_into().expect("no octet takes memory")
+            }
+        }
+
+        impl<'a, O: OfIdentifier<'a>> TryFrom<&'a [u8]> for $name<AnyRef<'a>, O> {
+            type Error = Error;
+
+            /// Reads the whole slice.
+            #[inline]
+            fn try_from(bytes: &'a [u8]) -> Result<Self, Error> {
+                proved::$view::try_from(bytes).map(Self::of_view)
+            }
+        }
+
+        impl<'a, O: OfIdentifier<'a>> TryFrom<AnyRef<'a>> for $name<AnyRef<'a>, O> {
+            type Error = Error;
+
+            /// Reads the parameters of an algorithm.
+            fn try_from(any: AnyRef<'a>) -> Result<Self, Error> {
+                Ok(Self::of_view(any.decode_as_in(NoMemory)?))
+            }
+        }
+
+        decoded! {
+            {O: OfIdentifier<'a>} $name<AnyRef<'a>, O>, bytes => asn1(Self::try_from(bytes));
+            {} $name<Any>, bytes => $reference::from_der(bytes)?.try_into();
+        }
+        from_slices! { $name<Any>; }
+        encoded! { {P: Held, O: Identifier} $name<P, O>, params => params.view(); }
+    )* };
+}
+parameters! {
+    RsaPssParams RsaPssParamsRef RsaPssParamsOwned RsaPssParamsView [] [salt_len trailer_field];
+    RsaOaepParams RsaOaepParamsRef RsaOaepParamsOwned RsaOaepParamsView [p_source] [];
 }

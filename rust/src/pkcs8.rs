@@ -3,7 +3,7 @@
 use crate::algorithm::{AlgorithmIdentifier, AlgorithmIdentifierRef};
 #[cfg(feature = "alloc")]
 use crate::der::SecretDocument;
-use crate::der::asn1::{AnyRef, OctetStringRef};
+use crate::der::asn1::OctetStringRef;
 use crate::der::{decoded, encoded, from_slices};
 use crate::identifier::Identifier;
 use crate::proved::pkcs8_core::{self as proved, PrivateKeyInfoView};
@@ -48,7 +48,7 @@ impl<'a> PrivateKeyInfoRef<'a> {
     pub fn rsa_view(&self) -> Result<RsaPrivateKeyView<'a>> {
         let algorithm = AlgorithmIdentifierOf {
             oid: self.algorithm.oid.as_identifier().0.to_object_identifier(),
-            parameters: self.algorithm.parameters.map(|any| any.0),
+            parameters: self.algorithm.parameters,
         };
         let info = proved::PrivateKeyInfoRef { algorithm, private_key: self.private_key, attributes: None };
         info.rsa_view()
@@ -65,7 +65,7 @@ impl core::fmt::Debug for PrivateKeyInfoRef<'_> {
 decoded! {
     {} PrivateKeyInfoRef<'a>, bytes => {
         let view = PrivateKeyInfoView::try_from(bytes)?;
-        let algorithm = AlgorithmIdentifier::of(view.algorithm, AnyRef);
+        let algorithm = AlgorithmIdentifier::of(view.algorithm, core::convert::identity);
         Ok(PrivateKeyInfoRef { algorithm, private_key: view.private_key, attributes: view.attributes })
     };
 }

@@ -9,6 +9,17 @@ use crate::{Result, RsaPrivateKeyOwned, RsaPublicKeyOwned};
 use crate::{RsaPrivateKey, RsaPublicKey, values::Number};
 
 /// A private key that can be decoded from PKCS #1.
+///
+/// ```no_run
+/// # #[cfg(feature = "std")] {
+/// use pkcs1_proved::{DecodeRsaPrivateKey, EncodeRsaPrivateKey, RsaPrivateKeyOwned};
+///
+/// let key = RsaPrivateKeyOwned::read_pkcs1_der_file("key.der")?;
+/// key.to_pkcs8_der()?.write_der_file("container.der")?;
+/// key.write_pkcs1_der_file("copy.der")?;
+/// # }
+/// # Ok::<(), pkcs1_proved::Error>(())
+/// ```
 pub trait DecodeRsaPrivateKey: Sized {
     /// Decodes a key from the whole slice.
     /// # Errors

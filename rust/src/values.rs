@@ -1,8 +1,9 @@
 //! Numbers that own their octets, and encodings of any tag.
 
+use crate::der::asn1::{ObjectIdentifier, ObjectIdentifierRef};
 use crate::der::{self, Result, Tag, cloned};
 use crate::proved::der_core::{self as proved, AsUintRef, Uint, UintRef};
-use crate::proved::spki_core::{self, AnyParams, AnyValue};
+use crate::proved::spki_core::{self, AnyParams, AnyRef, AnyValue};
 use crate::rattle_std::alloc::Global;
 use core::cmp::Ordering;
 use core::hash::{Hash, Hasher};
@@ -17,7 +18,7 @@ use sealed::Sealed;
 macro_rules! seal {
     ($($name:ty)*) => { $( impl Sealed for $name {} )* };
 }
-seal! { UintRef<'_> Uint AnyRef<'_> Any }
+seal! { UintRef<'_> Uint AnyRef<'_> Any ObjectIdentifier ObjectIdentifierRef<'_> }
 
 impl Uint {
     /// The number with these big-endian bytes, which may have leading zeros.
@@ -55,40 +56,15 @@ impl Number for Uint {
     }
 }
 
-/// A tag and contents octets, which are opaque. It borrows them.
-#[derive(Clone, Copy, Debug, PartialEq, Eq, Hash)]
-pub struct AnyRef<'a>(pub(crate) spki_core::AnyRef<'a>);
-
 impl<'a> AnyRef<'a> {
     /// NULL (X.690 8.8), which has no contents octets.
-    pub const NULL: AnyRef<'static> = AnyRef(spki_core::AnyRef::null());
-
-    /// These contents octets under this tag.
-    /// # Errors
-    /// `Overflow` if there are more than `Length::MAX`.
-    pub fn new(tag: Tag, contents: &'a [u8]) -> Result<AnyRef<'a>> {
-        Ok(AnyRef(readable(spki_core::AnyRef::new(tag, contents)?)))
-    }
-
-    /// The tag, of any class and number.
-    #[inline]
-    #[must_use]
-    pub fn tag(&self) -> Tag {
-        self.0.tag()
-    }
-
-    /// The contents octets.
-    #[inline]
-    #[must_use]
-    pub fn value(&self) -> &'a [u8] {
-        self.0.value()
-    }
+    pub const NULL: AnyRef<'static> = AnyRef::null();
 
     /// Whether it is NULL.
     #[inline]
     #[must_use]
     pub fn is_null(&self) -> bool {
-        self.0.is_alone(Tag::NULL)
+        self.is_alone(Tag::NULL)
     }
 
     /// Decodes the contents octets as those of a `T`.
@@ -135,21 +111,21 @@ pub trait Held: Sealed {
 impl Held for AnyRef<'_> {
     #[inline]
     fn as_any(&self) -> AnyRef<'_> {
-        *self
+        readable(*self)
     }
 }
 
 impl Held for Any {
     #[inline]
     fn as_any(&self) -> AnyRef<'_> {
-        AnyRef(readable(self.0.as_any_ref()))
+        readable(self.0.as_any_ref())
     }
 }
 
 /// The same, with no octets only at an address that may be read. The `memcmp` of glibc reads at it on processors with
 /// AVX-512, even where it compares none, and a fault takes the time of several calls.
 #[inline]
-fn readable(any: spki_core::AnyRef<'_>) -> spki_core::AnyRef<'_> {
+pub(crate) fn readable(any: AnyRef<'_>) -> AnyRef<'_> {
     if any.value().is_empty() { AnyParams::empty(proved::NoMemory, any.tag()) } else { any }
 }
 
@@ -173,7 +149,7 @@ macro_rules! of_any {
             type Error = der::Error;
 
             fn try_from(any: AnyRef<'a>) -> Result<$name> {
-                any.0.decode_as(proved::NoMemory)
+                any.decode_as_in(proved::NoMemory)
             }
         }
     )* };

@@ -4,6 +4,7 @@ mod made;
 
 use pkcs1_proved::der::asn1::AnyRef;
 use pkcs1_proved::der::{Encode, ErrorKind, Tag, oid::AssociatedOid};
+use pkcs1_proved::holders::Held;
 use pkcs1_proved::spki::AlgorithmIdentifier;
 use pkcs1_proved::{
     Mgf1, PSpecified, RsaOaepParamsRef, RsaPssParamsRef, RsaPssParamsView, Sha1, Sha256, Sha384, Sha512, TrailerField,
@@ -39,10 +40,10 @@ fn a_default_that_is_written_is_read_but_not_strictly() {
 /// Comparing slices at an address that may not be read takes 100 ns on some processors, even where they are empty.
 #[test]
 fn no_octets_stand_at_an_address_that_may_be_read() {
-    let oaep = RsaOaepParamsRef::new::<Sha256>();
+    let (oaep, empty) = (RsaOaepParamsRef::new::<Sha256>(), AnyRef::new(Tag::OCTET_STRING, &[]).unwrap());
     let slices = [
         AnyRef::NULL.value(),
-        AnyRef::new(Tag::OCTET_STRING, &[]).unwrap().value(),
+        empty.as_any().value(),
         oaep.label().unwrap(),
         oaep.hash.parameters.unwrap().value(),
         RsaPssParamsRef::try_from(&[0x30, 0][..]).unwrap().hash.parameters.unwrap().value(),

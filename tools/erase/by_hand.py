@@ -21,6 +21,7 @@ MODULES = {pathlib.Path(it).name for it in MADE}
 APART = {
     "UintRef": {"len", "is_empty"},
     "Uint": {"new", "bit_len", "len", "is_empty", "try_clone"},
+    "AnyRef": {"NULL", "is_null", "decode_as"},
     "RsaPublicKeyOwned": {"try_clone"},
     "OtherPrimeInfo": {"try_clone"},
 }

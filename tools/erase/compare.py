@@ -18,7 +18,7 @@ MADE = {"src/proved": ["der_core", "spki_core", "pkcs1_params", "pkcs1", "pkcs8_
 PLACES = {"std": "crate :: rattle_std", "arrayvec": "crate :: rattle_std :: arrayvec",
           "hex": "crate :: rattle_std :: hex"}
 PLACES |= {crate: f"crate :: {folder.split('/')[-1]} :: {crate}" for folder, its in MADE.items() for crate in its}
-INSIDE = ["decode", "to_bytes", "as_key_ref", "encode_key"]  # they ask for or give what isn't public
+INSIDE = ["decode", "to_bytes", "as_key_ref", "encode_key", "null", "is_alone"]  # of what isn't public, or has others
 PRELUDE = {"Vec", "vec", "String", "ToString", "format", "HostRuntime", "Eprint", "eprintln", "assert", "assert_eq"}
 TOKEN = re.compile(r"""
     //[^\n]* | (?P<kept> b?"(?:\\.|[^"\\])*" | b?'(?:\\[^\n][^'\n]*|[^'\\\n])' | '[a-z_]\w* | \w+
@@ -116,8 +116,9 @@ class Source:
     def handle(self, at):
         """What takes a handle of memory is called otherwise."""
         first = self[at + 4] if self[at + 3] == "." else self[at + 2]
-        taken = self[at] == "try_clone" or self[at] == "new" and first in ("alloc", "memory")
-        return (1, f"{self[at]}_in") if taken and self[at + 1] == "(" else None
+        taken = self[at] in ("try_clone", "decode_as") or self[at] == "new" and first in ("alloc", "memory")
+        called = self[at + 1] == "(" or self[at] == "decode_as" and self[at + 1] in ("<", "::")
+        return (1, f"{self[at]}_in") if taken and called else None
 
     def clone(self, at):
         if self[at] != "impl":
@@ -196,7 +197,7 @@ class Source:
             open_ = self.until(name, ["("])
             given, pairs = self.behind[open_], {(self[it], self[it + 1]) for it in range(open_, self.behind[open_])}
             inside = self[name] in INSIDE or self.handle(name)
-            meant = self[end] == "requires" or self.says(at, "pub fn") and inside
+            meant = self[end] == "requires" or self[at + 1] in ("fn", "const") and inside
             is_result = self[self.until(given, ["{", ";", "<", "where", "requires", "ensures"]) - 1] == "Result"
             if not meant and self.is_library and self[given] == "->" and not is_result and ("&", "mut") not in pairs:
                 return 1, "# [ must_use ] pub"

@@ -16,8 +16,9 @@ PROGRAMS = ("examples", "pkcs1_vectors")
 MOVED = {it: f"crate::{place}::{it}" for place, crates in (("proved", LIBRARY), ("tool", TOOL), ("calls", CALLS), ("programs", PROGRAMS))
          for it in crates} \
     | {"std": "crate::rattle_std", "arrayvec": "crate::rattle_std::arrayvec", "hex": "crate::rattle_std::hex"}
-# Methods of public types that ask for or give what the crate doesn't make public: Reader, ArrayVec, traits of numbers.
-INSIDE = ("decode", "to_bytes", "as_key_ref", "encode_key")
+# Methods of public types that ask for or give what the crate doesn't make public, such as a Reader or an ArrayVec, or
+# for which it has others.
+INSIDE = ("decode", "to_bytes", "as_key_ref", "encode_key", "null", "is_alone")
 # What a handle of memory is called, and the types of numbers.
 HANDLES = ("alloc", "memory")
 NUMBERS = ("Uint", "UintRef")
@@ -174,19 +175,21 @@ def method_with_requires(code, at):
 
 
 def call_with_handle(code, at):
-    """A `new` with a handle of memory is `new_in`, as Rust's own is, and each `try_clone` is `try_clone_in`."""
+    """A `new` with a handle of memory is `new_in`, as Rust's own is, and so for each `try_clone` and `decode_as`."""
     handle = at + 2 + 2 * (code.word(at + 3) == ".")
-    named = code.word(at) == "new" and code.word(handle) in HANDLES or code.word(at) == "try_clone"
-    if not named or code.word(at + 1) != "(":
+    ends = {"new": ["("] if code.word(handle) in HANDLES else [], "try_clone": ["("], "decode_as": ["(", "<", "::"]}
+    if code.word(at + 1) not in ends.get(code.word(at), []):
         return None
     return Edit(code.tokens[at].begin, code.tokens[at].end, f"{code.word(at)}_in")
 
 
 def method_of_the_inside(code, at):
-    """A public method that asks for or gives what the crate doesn't make public is `pub(crate)`, as that `new_in` is."""
-    if not code.reads(at, "pub fn") or code.around[at] is None:
+    """A public method that asks for or gives what the crate doesn't make public, or has otherwise, is `pub(crate)`, and
+    so is one with a handle of memory that is renamed."""
+    name = at + 2 + (code.word(at + 1) == "const")
+    if code.word(at) != "pub" or code.word(name - 1) != "fn" or code.around[at] is None:
         return None
-    if code.word(at + 2) not in INSIDE and not call_with_handle(code, at + 2):
+    if code.word(name) not in INSIDE and not call_with_handle(code, name):
         return None
     return Edit(code.tokens[at].begin, code.tokens[at].end, "pub(crate)")
 

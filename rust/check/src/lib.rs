@@ -8,6 +8,8 @@ extern crate std;
 
 #[path = "../../src/clones.rs"]
 mod clones;
+#[cfg(test)]
+mod from_the_front;
 #[cfg(feature = "programs")]
 #[rustfmt::skip]
 pub mod programs;

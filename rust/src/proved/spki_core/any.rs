@@ -35,8 +35,7 @@ impl<'a> AnyRef<'a> {
     }
 
     /// NULL (X.690 8.8), which has no contents octets.
-    #[must_use]
-    pub const fn null() -> AnyRef<'static> {
+    pub(crate) const fn null() -> AnyRef<'static> {
         AnyRef {
             tag: WideTag::of(Tag::NULL),
             contents: crate::rattle_std::NO_OCTETS,
@@ -58,7 +57,7 @@ impl<'a> AnyRef<'a> {
     /// Decodes all of the contents octets as those of a `T`. Ok only if the tag is the type's and they are those of a
     /// value: then this value. Err: `TagUnexpected` of another tag, else the first fault of the contents, or
     /// `OutOfMemory` where the type may allocate. Any other kind than `OutOfMemory` means that there is no value.
-    pub fn decode_as<T: DecodeValue<&'a [u8], M> + FixedTag, M: Memory>(
+    pub(crate) fn decode_as_in<T: DecodeValue<&'a [u8], M> + FixedTag, M: Memory>(
         self,
         memory: M,
     ) -> Result<T> {
@@ -73,8 +72,7 @@ impl<'a> AnyRef<'a> {
 
     /// Whether it is this tag without contents octets.
     #[inline(always)]
-    #[must_use]
-    pub fn is_alone(&self, tag: Tag) -> bool {
+    pub(crate) fn is_alone(&self, tag: Tag) -> bool {
         self.tag() == tag && self.contents.is_empty()
     }
 
