@@ -106,6 +106,20 @@ mod with_alloc {
     }
 
     #[test]
+    fn lists_of_other_primes_are_gone_through() {
+        let der = made::private_key(3);
+        let key = RsaPrivateKeyRef::try_from(&der[..]).unwrap();
+        let owned = RsaPrivateKeyOwned::try_from(&key).unwrap();
+        let (others, copies) = (&key.other_prime_infos.unwrap(), &owned.other_prime_infos.unwrap());
+        let mut left = 3;
+        for (other, copy) in others.into_iter().zip(copies) {
+            assert_eq!((other.prime, other.coefficient), (copy.prime.as_number(), copy.coefficient.as_number()));
+            left -= 1;
+        }
+        assert_eq!(left, 0);
+    }
+
+    #[test]
     fn documents_are_made_of_keys() {
         let (private, public) = (made::private_key(2), made::public_key());
         let key = RsaPrivateKeyRef::try_from(&private[..]).unwrap();
@@ -121,6 +135,9 @@ mod with_alloc {
     fn numbers_are_printed_in_hexadecimal() {
         let number = Uint::new(&[0, 0xc1, 0x7f]).unwrap();
         assert_eq!((format!("{number:?} {number:x}"), number.as_ref()), ("0xc17f c17f".into(), &[0xc1, 0x7f][..]));
-        assert_eq!((number.len().to_usize(), number.is_empty()), (2, false));
+        assert_eq!(
+            (format!("{:?}", number.as_number()), number.len().to_usize(), number.is_empty()),
+            ("0xc17f".into(), 2, false)
+        );
     }
 }

@@ -106,6 +106,10 @@ fn errors_say_what_is_wrong() {
         Ok(())
     }
     assert_eq!(fails().unwrap_err().to_string(), "PKCS#1 ASN.1 error: the input ends too early");
+    let kinds =
+        [ErrorKind::Incomplete, ErrorKind::Value { tag: Tag::INTEGER }, ErrorKind::Value { tag: Tag::SEQUENCE }];
+    let errors = kinds.into_iter().chain(kinds).map(|kind| Error::Asn1(kind.into()));
+    assert_eq!(errors.collect::<std::collections::HashSet<_>>().len(), 3);
 }
 
 #[test]
