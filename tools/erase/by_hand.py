@@ -119,11 +119,11 @@ class Hand:
     """All files by hand, and the names of the types of the made text."""
 
     def __init__(self, top):
-        made = [path for folder in MADE for path in sorted((top / folder).rglob("*.rs"))]
-        texts = "\n".join(text_of(it) for it in made)
-        self.made = set(re.findall(r"\b(?:struct|enum|union|type|trait) (\w+)", texts))
+        self.texts = {path: text_of(path) for folder in MADE for path in sorted((top / folder).rglob("*.rs"))}
+        names = r"\b(?:struct|enum|union|type|trait) (\w+)"
+        self.made = {name for text in self.texts.values() for name in re.findall(names, text)}
         there = [path for folder in ROOTS for path in sorted((top / folder).rglob("*.rs"))]
-        self.files = [File(top, it) for it in there if it not in made]
+        self.files = [File(top, it) for it in there if it not in self.texts]
 
     def declares(self, file, path, seen=()):
         """Whether the path in this file is of a type by hand, or nothing if that can't be told."""
@@ -179,6 +179,11 @@ def messages(top):
             if not path or not is_apart and not hand.is_by_hand(file, path):
                 yield (f"{top}/{file.name}: line {file.code.line(at)} gives methods to "
                        f"{'::'.join(path) or 'what can not be told'}, which is of the made text")
+    apart = set().union(*APART.values())
+    for path, text in hand.texts.items():
+        for trait in re.findall(r"^(?:pub(?:\(crate\))? )?trait .*?(?:\}$|^\})", text, re.M | re.S):
+            yield from (f"{path} has a trait with {it}, which APART has"
+                        for it in re.findall(r"\b(?:fn|const) (\w+)", trait) if it in apart)
     for file in hand.files:
         words = [it.text for it in file.code.tokens]
         last = max((at for at in range(len(words)) if words[at] == "mod" and words[at + 1] in MODULES), default=0)

@@ -208,8 +208,9 @@ class Source:
 
     def formed(self, at):
         """The first form that stands here: its name, how many tokens it has, and what must stand in its place."""
-        for form in (self.ghost, self.clause, self.tactic, self.final, self.drop, self.derived,
-                     self.handle, self.clone, self.formatter, self.path, self.errors, self.empty, self.call, self.entry, self.narrowed):
+        for form in (self.ghost, self.clause, self.tactic, self.final, self.drop, self.derived, self.handle,
+                     self.clone, self.formatter, self.path, self.errors, self.empty, self.call, self.entry,
+                     self.narrowed):
             found = form(at)
             if found:
                 return form.__name__, found[0], found[1].split()

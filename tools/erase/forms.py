@@ -259,4 +259,5 @@ def refused(code, at):
 
 FORMS = (ghost_item, clauses, tactic, derived, bound_of_drop, final, clone_that_may_fail, writer_of_fmt,
          formatter, path, method_with_requires, method_of_the_inside, method_with_result, call_with_handle,
-         field_with_invariant, enum_of_errors, empty_slice, slice_of_call, body_of_call, main_of_program, runtime_of_test, refused)
+         field_with_invariant, enum_of_errors, empty_slice, slice_of_call, body_of_call, main_of_program,
+         runtime_of_test, refused)
