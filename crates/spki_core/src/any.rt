@@ -27,7 +27,9 @@ pub struct AnyRef<'a> {
 impl<'a> AnyRef<'a> {
     ghost use Rattle.spki_core.specs.Words.{any_of, same_any};
 
-    /// This tag with these contents. `Overflow` exactly if they are longer than `Length::MAX`.
+    /// This tag with these contents.
+    /// # Errors
+    /// `Overflow` exactly if they are longer than `Length::MAX`.
     pub fn new(tag: Tag, contents: &'a [u8]) -> Result<AnyRef<'a>>
         ensures ok { IfOk result (λ any. any_of any ≡ record { tag = tag.octet; contents = contents.now }) }
         ensures err { IfErr result (λ e. (e.kind ≡ ErrorKind.Overflow) × (limit < length contents.now)) }
