@@ -17,7 +17,9 @@ pub struct AnyRef<'a> {
 }
 
 impl<'a> AnyRef<'a> {
-    /// This tag with these contents. `Overflow` exactly if they are longer than `Length::MAX`.
+    /// This tag with these contents.
+    /// # Errors
+    /// `Overflow` exactly if they are longer than `Length::MAX`.
     pub fn new(tag: Tag, contents: &'a [u8]) -> Result<AnyRef<'a>> {
         if contents.len() > Length::MAX.to_usize() {
             return Err(Error::new(ErrorKind::Overflow));
