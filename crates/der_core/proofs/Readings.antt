@@ -1,7 +1,7 @@
 -- What functions read: other tags, a list with a fault, values that spellings mean. For
 -- `from_der` of each type, `decode_as`, and `lemma_encodings_are_read`.
-use Rattle.std.proofs.Common.{ℕ, false, List, ◌≡◌, ◌≤◌, length, arith, ⊎_elim, nat_lt, ◌≢◌, ◌==◌, refl, ap, ◌∙◌, Ok, Err, subst, Result}
-use Rattle.der_core.specs.Words.{WithinLimit, cond_cases, limit, FrontReading, Reading, limited, whole, InFront, ReadsContents, ReadsFronts, alone_reads, Tag, AreBytes, any_contents_reads, same_tag, unexpected, contents_behind, read_document, is_allowed, sequence_tag, Tlv, checked_as, tagged_reads, ReadsFrontAlike, ReadsFrontPrinted, Spells, Answers, Error, ok_of, value_in, values_alike, whole_alike, meant_decodes}
+use Rattle.std.proofs.Common.{ℕ, false, List, ◌≡◌, arith, ◌≢◌, ◌==◌, refl, ap, ◌∙◌, Ok, Err, subst, Result}
+use Rattle.der_core.specs.Words.{FrontReading, whole, Tag, AreBytes, same_tag, unexpected, contents_behind, is_allowed, checked_as, ReadsFrontAlike, ReadsFrontPrinted, Spells, Answers, Error, ok_of, value_in, values_alike, whole_alike, meant_decodes}
 use Rattle.standard.specs.Statement.{Decodes}
 use Rattle.der_core.specs.declared.error.ErrorKind.TheVariants.{TagUnexpected, TagUnknown}
 

@@ -1,12 +1,12 @@
 -- Reading keys: a private one part by part, faults, what calls decode. A key has one encoding. For the calls that
 -- decode keys, and their laws.
-use Rattle.std.proofs.Common.{◌≡◌, ℕ, List, [], ap, ◌∙◌, inl, inr, Some, None, Ok, Err, subst, ◌++◌, ◌≤◌, length, sym, arith, append-nil}
+use Rattle.std.proofs.Common.{◌≡◌, ℕ, List, [], ap, ◌∙◌, inl, inr, Some, None, Ok, Err, subst, ◌++◌, sym}
 use Rattle.der_core.specs.declared.error.ErrorKind.{ErrorKind}
-use Rattle.der_core.specs.Words.{AreBytes, front_reading_reads, ReadsFrontAlike, ReadsFrontPrinted, FrontReading, ◌>>=◌, made, tagged_law, made_tells, whole, value_in, FaultOrMemory, NoValueOrMemory, Reading, prints_one, limit, PrintsOne}
-use Rattle.pkcs1.specs.Words.{AllocatesInKey, front_read, eight_numbers_before, others_read, private_key_read, EightNumbersThen, eight_numbers_as, fronts_alike, front_law, version_number, number_front, whole_private_key, public_read, rsa_private_key, rsa_public_key, integer_law, private_law, public_law, private_stated, public_stated, AreDelimited, public_encoding, private_key_back, private_encoding, private_spells, private_as, AnyNumber, PrivateIsValid, PublicIsValid, public_from, printed_front_unique}
+use Rattle.der_core.specs.Words.{AreBytes, front_reading_reads, ReadsFrontAlike, ReadsFrontPrinted, FrontReading, ◌>>=◌, made, tagged_law, value_in, FaultOrMemory, NoValueOrMemory, Reading, prints_one}
+use Rattle.pkcs1.specs.Words.{AllocatesInKey, front_read, eight_numbers_before, others_read, private_key_read, EightNumbersThen, eight_numbers_as, fronts_alike, front_law, version_number, integer_law, private_law, public_law, private_stated, public_stated, AreDelimited, public_encoding, private_key_back, private_encoding, private_spells, private_as, AnyNumber, PrivateIsValid, PublicIsValid, public_from, printed_front_unique}
 use Rattle.pkcs1.specs.declared.version.Version.{Version}
 use Rattle.der_core.specs.Tags as tags
-use Rattle.pkcs1_params.specs.Words.{FaultsTell, whole_tells, same_by_shortest}
+use Rattle.pkcs1_params.specs.Words.{FaultsTell, same_by_shortest}
 use Rattle.standard.specs.Statement.{Decodes, AtMostOne, PrivateKey, PrivateKeyEncoding, PublicKey, PublicKeyEncoding, SameByShortest}
 
 -- What a version and eight numbers mean.

@@ -1,15 +1,14 @@
 -- Faults of parameters: they are about the bytes, what holds of errors, and the first default that is written. For the
 -- calls that decode parameters, and their laws.
-use Rattle.std.proofs.Common.{ℕ, Bool, true, false, List, ◌≡◌, ⊎_elim, Option, Some, None, Err, Result, length, ◌==◌, nat_lt, bytes_eq, Ok, IfErr, OnErr, ◌∙◌, ap, inl, inr, refl, subst, sym, ◌↔◌, [], ◌∷◌, ◌++◌, ◌<◌, ◌+◌, drop, arith, if◌then◌else◌}
+use Rattle.std.proofs.Common.{ℕ, Bool, true, false, List, ◌≡◌, ⊎_elim, Option, Some, None, Err, Result, length, ◌==◌, bytes_eq, Ok, IfErr, OnErr, ◌∙◌, ap, inl, inr, refl, subst, sym, ◌↔◌, [], ◌∷◌, ◌++◌, ◌<◌, ◌+◌, drop, arith, if◌then◌else◌}
 use Rattle.der_core.specs.declared.error.ErrorKind.{ErrorKind}
 use Rattle.der_core.specs.declared.error.ErrorKind.TheVariants.{Noncanonical, TagUnknown}
 use Rattle.der_core.specs.declared.tag.Tag.{Tag}
-use Rattle.der_core.specs.Words.{cond_cases, alone_law, bind_err, unexpected_tells, limit, ReadsFrontPrinted, TellsOfBytes, FrontReading, checked, tagged, whole, context_octet, is_allowed, ok_of, value_in, ◌>>=◌, whole_takes, is_next}
+use Rattle.der_core.specs.Words.{cond_cases, bind_err, unexpected_tells, TellsOfBytes, checked, tagged, whole, context_octet, is_allowed, ok_of, ◌>>=◌, whole_takes, is_next}
 use Rattle.der_core.specs.Tags as tags
 use Rattle.spki_core.specs.Words.{FieldRecord, first_written, record_means, record_strictly, spelling_read, strict_whole, record_front_law, record_law, noncanonical, unless_found, AreLawful, AreNumbered, Kind, Spelling, Values, fields_of, spelling_means, field_printed, spelling_printed, strict_value, spelled_from, spelled_not_next, is_identifier}
-use Rattle.pkcs1_params.specs.Words.{identified, parameters_as, whole_algorithm, plain_law, FaultsTell, plain_front, Error, IsAsn1, AnswersAsn1, IsEncoded, fault_in, fault_told, NamesFirstDefaultIn, FirstWritten, NamesFirstDefault, same_contents, whole_tells}
+use Rattle.pkcs1_params.specs.Words.{identified, parameters_as, whole_algorithm, plain_law, FaultsTell, plain_front, Error, AnswersAsn1, IsEncoded, fault_in, fault_told, NamesFirstDefaultIn, FirstWritten, NamesFirstDefault, same_contents, whole_tells}
 use Rattle.standard.specs.Statement.{Algorithm, Field, TagAndContents, Decodes, Fields, SequenceOf, sequence}
-use Rattle.der_core.specs.declared.error.Error as der
 use Rattle.pkcs1_params.specs.declared.error.Error.TheVariants as error
 use Rattle.std.proofs.Math.Seq.{drop-append_seam}
 use Rattle.spki_core.proofs.StrictFields.{noncanonical_is}

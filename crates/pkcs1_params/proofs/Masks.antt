@@ -1,14 +1,14 @@
 -- What is written of parameters: of equal values, under a mask; and what their encodings exclude. For
 -- `src/spelling.rt`, `src/contents.rt` and the laws of spellings. What holds of any encoding, the crates above cite
 -- too.
-use Rattle.std.proofs.Common.{ℕ, List, ◌≡◌, ◌<◌, length, refl, subst, take, Result, Ok, Err, ◌↔◌, Option, Some, None, [], ◌∷◌, ◌++◌, ◌+◌, ◌*◌, Bool, true, false, arith, ap, ◌∙◌, sym, ◌^◌, if◌then◌else◌, pow_pos, inl, inr, append-nil, ◌≤◌, slice_index}
+use Rattle.std.proofs.Common.{ℕ, List, ◌≡◌, ◌<◌, length, refl, subst, take, Result, Ok, Err, ◌↔◌, Option, Some, None, [], ◌∷◌, ◌++◌, ◌+◌, ◌*◌, Bool, true, false, arith, ap, ◌∙◌, sym, ◌^◌, if◌then◌else◌, pow_pos, inl, inr, append-nil, slice_index}
 use Rattle.der_core.specs.Words.{limit, EncodeError, no_encoding, too_long, no_room, another, Appends, Counts, Unwritten, WhyOctetsNotCounted, encode_error, octets_appended_as, one_spelling_shortest, tagged_shortest, Spells, WritesShortest, prints_one, Excludes}
 use Rattle.der_core.specs.declared.error.Error as errors
 use Rattle.der_core.specs.declared.error.ErrorKind.{ErrorKind}
 use Rattle.der_core.specs.declared.error.ErrorKind.TheVariants.{Overflow}
 use Rattle.der_core.specs.declared.error.ErrorKind.TheVariants as kinds
 use Rattle.pkcs1_params.specs.Words.{Refuses, Error, bit_of, bits_of, EncodingOfFields, EncodingUnderMask, MaskIsInRange, IsMask, AreDelimited, EachHasMaskZero, DefaultsAreCounted, EachHasOneMask, EachMaskHasOne, ShortestHasNoDefaults, PlainEncoding, asn1_as, same_contents, encodes_as, refuses_as, shortest_as, oaep_fields_begin_high, pss_fields_begin_high, record_differs}
-use Rattle.standard.specs.Statement.{AlgorithmEncoding, Encodes, IsShortest, Field, sequence, Fields, SameByShortest, SequenceOf, IsOaep, IsPss, OaepAlgorithmEncoding, OaepEncoding, OaepParameters, PssEncoding, PssAlgorithmEncoding, PssParameters, id_rsaes_oaep, id_rsassa_pss, length_octets, oaep_fields, pss_fields, tlv}
+use Rattle.standard.specs.Statement.{AlgorithmEncoding, Encodes, IsShortest, Field, sequence, Fields, SequenceOf, IsOaep, IsPss, OaepAlgorithmEncoding, OaepEncoding, PssEncoding, PssAlgorithmEncoding, id_rsaes_oaep, id_rsassa_pss, length_octets, oaep_fields, pss_fields, tlv}
 use Rattle.spki_core.specs.Words.{AreSpelled, FieldRecord, WrittenField, are_defaults, octets_under, out_under, record_fields, record_under, rest_under, spelling_printed, Spelling, under_valid, octets_spelled, record_means, record_front_law, spelled_from}
 use Rattle.spki_core.proofs.RecordEncodings.{default_count_only, default_count_there, default_count, encoding_under, mask_below_count, under_spelled, zero_least, zero_shortest, encoding_has_one_mask, encoding_under_only, under_is_one}
 use Rattle.pkcs1_params.proofs.Wrapped.{wrapped_front}

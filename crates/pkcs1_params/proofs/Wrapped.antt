@@ -4,7 +4,7 @@ use Rattle.std.proofs.Common.{ℕ, List, [], ◌++◌, ◌≡◌, ◌<◌, ◌�
 use Rattle.std.proofs.Math.Seq.{drop-append_seam}
 use Rattle.std.proofs.lemmas.Bool.{cases_lt}
 use Rattle.std.proofs.lemmas.List.{get_or-map, length-map}
-use Rattle.der_core.specs.Words.{octets_grow, tlv_fit, tlv_made, tlv_split, limit}
+use Rattle.der_core.specs.Words.{octets_grow, tlv_fit, limit}
 use Rattle.pkcs1_params.specs.Words.{front_contents}
 use Rattle.standard.specs.Statement.{AlgorithmEncoding, AreAll, Decodes, Field, Fields, FieldsUnder, IsShortest, SequenceOf, length_octets, longest, sequence, tlv}
 

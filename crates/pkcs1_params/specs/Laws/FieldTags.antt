@@ -1,5 +1,5 @@
 -- SEQUENCEs that differ by their contents: of fields, which have tags from 160 on, and of what begins with a lower tag.
-use Rattle.std.proofs.Common.{ℕ, List, [], ◌++◌, ◌≡◌, ◌<◌, ◌≤◌, length, refl, sym, subst, ap, ◌∙◌, arith, inl, inr, ◌+◌, ◌∷◌, slice_index}
+use Rattle.std.proofs.Common.{ℕ, List, [], ◌++◌, ◌≡◌, ◌<◌, ◌≤◌, length, refl, sym, subst, ap, ◌∙◌, arith, inl, inr, ◌∷◌, slice_index}
 use Rattle.der_core.specs.Words.{tlv_made, tlv_split, limit}
 use Rattle.standard.specs.Statement.{Field, Fields, SequenceOf, sequence, OaepParameters, PssParameters, oaep_fields, pss_fields}
 
