@@ -7,6 +7,8 @@
 #                      the tests of tools/erase
 #     crate            with each feature, without a warning: its tests, clippy, documentation, layout and package;
 #                      clippy and layout of the tool over the C library
+#     own              types of one's own: what sequence! makes is, token for token, what is proved of the same types in
+#                      crates/examples, and mistakes in it are refused at their places
 #     preconditions    no function with a `requires` is reached from outside; calls of one by hand are known
 #     rows             the worked rows, the tests in Rattle and the tool, erased
 #     beside           COUNT inputs by chance, beside the library that rt compiles, the other compiler of the same proof:
@@ -37,7 +39,7 @@ export CARGO_TARGET_DIR=$OUT/target CARGO_TERM_QUIET=true
 crate=rust/Cargo.toml check=rust/check/Cargo.toml tool=rust/tool/Cargo.toml
 rows=(crates/pkcs1_vectors/stdin crates/pkcs1_tool/rows)
 keys=(ffi/tests/keys/{priv2,priv3,p8_2,p8_3}.der)
-parts=(erase crate preconditions rows beside memory secrets rustcrypto oldest machines wasm)
+parts=(erase crate own preconditions rows beside memory secrets rustcrypto oldest machines wasm)
 
 # quietly WHAT COMMAND..: what the command prints is shown if it fails.
 quietly() {
@@ -100,6 +102,26 @@ beside_another() {
     cargo check --offline --manifest-path "$folder/Cargo.toml"
 }
 
+own() {
+    local folder=$OUT/mistakes
+    mkdir -p "$folder"
+    RUSTC_BOOTSTRAP=1 cargo rustc --manifest-path $crate --test proved_records -- -Zunpretty=expanded > "$OUT/expanded"
+    tools/erase/expanded.py "$OUT/expanded"
+    planted_in_expansion 's/let (r, (s, ())) = row/let (s, (r, ())) = row/'
+    planted_in_expansion 's/SequenceTag/IntegerTag/'
+    planted_in_expansion 's/then_some/xor/'
+    printf '[package]\nname = "mistakes"\nedition = "2024"\n[lib]\npath = "%s"\n[dependencies]\n%s\n[workspace]\n' \
+        "$PWD/rust/check/mistakes/mistakes.rs" "pkcs1-proved = { path = \"$PWD/rust\" }" > "$folder/Cargo.toml"
+    ! cargo check --offline --manifest-path "$folder/Cargo.toml" --message-format=json > "$OUT/messages" 2> "$OUT/log" ||
+        stop "the mistakes are compiled"
+    rust/check/mistakes/mistakes.py rust/check/mistakes/mistakes.rs < "$OUT/messages"
+}
+# planted_in_expansion COMMAND: what sequence! makes, changed by the command, isn't what is proved.
+planted_in_expansion() {
+    sed "$1" "$OUT/expanded" > "$OUT/planted_expansion"
+    ! tools/erase/expanded.py "$OUT/planted_expansion" > "$OUT/log" || stop "expanded.py doesn't notice $1"
+}
+
 # planted FILE COMMAND MESSAGE: with this file of src changed by the command, preconditions.py says so.
 planted() {
     rm -rf "$OUT/planted"
@@ -126,6 +148,12 @@ preconditions() {
     planted idioms.rs '$a use crate::proved::spki_core::read_field as field;' 'calls read_field,'
     planted values.rs '$a fn more(it: impl der_core::EncodeValue) { it.append_value(todo!()) }' 'calls append_value,'
     planted identifier.rs '$a fn more() { proved::ObjectIdentifier::new(&[]); }' 'calls new,'
+    planted kernel.rs 's/OctetStringTag, /OctetStringTag, BackWriter, /' 'BackWriter is named, and writes'
+    planted kernel.rs '$a pub use crate::proved::der_core::Prepend;' 'Prepend is named, and writes'
+    planted kernel.rs '$a pub use crate::proved::der_core::Decode;' 'read_one has a'
+    planted lib.rs '$a pub use proved::der_core::PrependRow;' 'PrependRow is named, and writes'
+    planted part.rs 's/fn read_value(memory: Global/fn read_all(memory: Global/' 'calls read_value,'
+    planted list.rs 's/T::read_one(memory, left)/read_front(memory, left)/' 'which calls no such function'
     planted conversions.rs 's/Length::of(self.as_bytes().len())/self.len()/' 'is 0 calls'
 }
 

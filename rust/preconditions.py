@@ -4,7 +4,10 @@
 From outside none may be reached. The text that is made of crates/ stands in a private module, so reached are: what a
 `pub use` names, methods of types, and methods of a trait that is named, or that is above one.
 
-Each call of one by hand must stand in MET, with what meets the `requires` there.
+src/kernel.rs is public and names some of these traits, as the text that `sequence!` makes implements them. Of their
+calls only those may be there that take a writer or an operation: no type of these has a name outside.
+
+Each call of one by hand must stand in MET, with what meets the `requires` there, or in HANDED_ON.
 """
 import pathlib
 import re
@@ -40,6 +43,21 @@ MET = [
 MET += [Met(file, "(&view).encode_spelling_into(mask, out)?", "if mask >> view.default_fields() != 0 {",
             "the mask is below two to the number of defaults") for file in ("src/oaep.rs", "src/pss.rs")]
 
+# What writes, and what is done to a row: a call that takes one can't be called without one.
+HANDLES = {"Prepend", "Writer", "RowOperation"}
+# Impls by hand of the traits of reading and writing, by the file: in each function, the functions of parts that it
+# calls. What is required of these is what is required of it: contents within the limit, a value that has an encoding, and
+# room for it.
+HANDED_ON = {
+    "src/default.rs": {"prepend_value": {"prepend"}},
+    "src/kernel.rs": {"prepend_value": {"prepend_value"}, "append_value": {"append_value"}},
+    "src/list.rs": {"read_value": {"read_value", "read_one"}, "prepend_value": {"prepend"}, "prepend_all": {"prepend"},
+                    "append_all": {"append"}},
+    "src/part.rs": {"read_value": {"read_value"}, "prepend_value": {"prepend_value"}, "append_value": {"append_value"},
+                    "read_one": {"read_one"}, "prepend": {"prepend"}, "append": {"append"}},
+    "src/sequence.rs": {"with_row": {"apply"}},
+}
+
 
 class Function(NamedTuple):
     """A function with a `requires`, of a trait, of a type or of neither."""
@@ -49,6 +67,7 @@ class Function(NamedTuple):
     type: str
     takes_self: bool
     is_reached: bool  # from outside, if what it is of is named there
+    handle: str  # the trait of what it takes, of HANDLES, or nothing
 
 
 def stands_in(code, at):
@@ -91,9 +110,10 @@ def with_requires():
             takes_self = any(code.reads(first, it) for it in ("self", "& self", "& mut self"))
             is_public = code.word(public) == "pub"
             is_reached = trait or is_public and not method_with_requires(code, public)
+            bounds = {code.word(it) for it in range(at, first)} | {trait}
             if trait or is_public or code.reads(public - 3, "pub ( crate )"):
                 yield Function(code.word(at), trait, "" if trait or not head else type_of(head), takes_self,
-                               bool(is_reached) and code.crate in LIBRARY)
+                               bool(is_reached) and code.crate in LIBRARY, "".join(sorted(bounds & HANDLES)[:1]))
 
 
 def code_of(path):
@@ -102,16 +122,25 @@ def code_of(path):
 
 
 def named(crate):
-    """The words of each `pub use` of the files by hand, and why these files don't keep the made text in."""
+    """The words of each `pub use` of the files by hand, those of kernel.rs, and why these files don't keep the made
+    text in."""
     texts = {path: code_of(path) for path in sorted((crate / "src").glob("*.rs"))}
-    words, wrong = set(), []
+    words, of_kernel, wrong = set(), set(), []
     for path, text in texts.items():
         for use in re.findall(r"pub use (?!algorithms::\*)([^;]*);", text):
-            words |= set(re.findall(r"\w+|\*", use))
+            found = of_kernel if path.name == "kernel.rs" else words
+            found |= set(re.findall(r"\w+|\*", use))
         wrong += [f"{path}: {it} can be reached" for it in re.findall(r"pub mod (?:proved|rattle_std)\b", text)]
         above = re.findall(r"pub trait [^:{]*:([^{]*)\{", text)
         wrong += [f"{path}: a trait is below {it}" for it in above if it.strip() not in ("Sized", "Sealed", "Sealed + Sized")]
-    return words, wrong + (["a `pub use` names all of a module"] if "*" in words else [])
+    return words, of_kernel, wrong + (["a `pub use` names all of a module"] if "*" in words | of_kernel else [])
+
+
+def handles(words):
+    """The words that name a trait of what writes, or a type of one of HANDLES."""
+    text = "\n".join(code_of(it) for it in sorted((TOP / "rust/src/proved").rglob("*.rs")))
+    types = set(re.findall(rf"\b(?:{'|'.join(HANDLES)})\b(?:<[^{{;]*>)? for (\w+)", text))
+    return words & (types | HANDLES - {"RowOperation"})
 
 
 def owner(code, at):
@@ -160,6 +189,9 @@ def met(file, code, at):
     """What meets the `requires` of the call at a token, or nothing."""
     begin = code.tokens[at].begin
     above = code.text[code.text.rfind("fn ", 0, begin):begin]
+    function, call = re.match(r"fn (\w*)|", above)[1], code.word(at)
+    if call in HANDED_ON.get(file, {}).get(function, ()):
+        return file, function, call
     for it in MET:
         starts = [found.start() for found in re.finditer(re.escape(it.call), code.text)]
         if it.file == file and it.above in above and any(start <= begin < start + len(it.call) for start in starts):
@@ -191,18 +223,23 @@ def unmet(crate, functions):
     for it in MET:
         if found.count(it) != 1:
             yield f"MET has {it.call} of {it.file}, which is {found.count(it)} calls"
+    for it in ((file, *it) for file, functions in HANDED_ON.items() for it in functions.items()):
+        yield from (f"HANDED_ON has {call} in {it[1]} of {it[0]}, which calls no such function" for call in sorted(it[2])
+                    if (*it[:2], call) not in found)
 
 
 def main():
     crate = pathlib.Path(sys.argv[1]) if sys.argv[1:] else TOP / "rust"
-    words, wrong = named(crate)
+    words, of_kernel, wrong = named(crate)
     functions = [*with_requires()]
     reached = [it for it in functions if it.is_reached]
     wrong += [f"{it.name} has a `requires`, and can be reached" for it in reached
-              if it.type or (it.trait or it.name) in words]
+              if it.type or (it.trait or it.name) in (words if it.handle else words | of_kernel)]
+    wrong += [f"{it} is named, and writes" for it in sorted(handles(words | of_kernel))]
     wrong += unmet(crate, functions)
     print("\n".join(wrong) or f"preconditions: of {len(reached)} functions with a `requires` that are public or of a "
-          f"trait, none can be reached from outside. {len(MET)} calls by hand meet what is required")
+          f"trait, none can be reached from outside. {len(MET)} calls by hand meet what is required, and "
+          f"{sum(len(it) for functions in HANDED_ON.values() for it in functions.values())} kinds of them hand it on")
     sys.exit(bool(wrong))
 
 

@@ -12,7 +12,9 @@ pub use proved::{Error, ErrorKind, Length, Result, Tag, TagNumber};
 /// The types of ASN.1.
 pub mod asn1 {
     pub use crate::identifier::{ObjectIdentifier, ObjectIdentifierRef};
-    pub use crate::proved::der_core::{OctetStringRef, Uint, UintRef};
+    pub use crate::list::{Item, SequenceOf, SequenceOfItems};
+    pub use crate::part::OpaqueSet;
+    pub use crate::proved::der_core::{BitString, BitStringRef, InRange, Null, OctetStringRef, Uint, UintRef};
     pub use crate::proved::spki_core::AnyRef;
     pub use crate::values::Any;
 }

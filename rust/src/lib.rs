@@ -2,6 +2,23 @@
 //!
 #![doc = include_str!("front.md")]
 //!
+//! [`sequence!`] makes types of your own, such as an ECDSA signature:
+//!
+//! ```
+//! use pkcs1_proved::{UintRef, der::Decode, sequence};
+//!
+//! sequence! {
+//!     struct EcdsaSigValue<'a> {
+//!         r: UintRef<'a>,
+//!         s: UintRef<'a>,
+//!     }
+//! }
+//!
+//! let signature = EcdsaSigValue::from_der(&[0x30, 6, 2, 1, 7, 2, 1, 3])?;
+//! assert_eq!(signature.s.as_bytes(), [3]);
+//! # Ok::<(), pkcs1_proved::der::Error>(())
+//! ```
+//!
 //! The functions that read and write stand in `src/proved`: a machine has proved that they do what their contracts in
 //! the language Rattle say. This crate and the compiler aren't proved, but tested. The README has more: what stands
 //! beside RustCrypto's `pkcs1`, what isn't read, and what may panic.
@@ -20,9 +37,11 @@ extern crate std;
 
 mod algorithm;
 pub mod algorithms;
+mod asked;
 mod clones;
 mod contents;
 mod conversions;
+mod default;
 pub mod der;
 #[cfg(feature = "alloc")]
 mod documents;
@@ -30,11 +49,16 @@ mod documents;
 mod files;
 mod identifier;
 mod idioms;
+#[doc(hidden)]
+#[allow(missing_docs)]
+pub mod kernel;
 mod keys;
+mod list;
 mod numbers;
 mod oaep;
 mod oid_text;
 mod params;
+mod part;
 pub mod pkcs8;
 // Without the proof, names are left that only contracts used, and functions that only they called.
 #[rustfmt::skip]
@@ -52,6 +76,8 @@ mod pss;
 #[cfg_attr(not(feature = "std"), allow(dead_code))]
 #[allow(unnameable_types)]
 mod rattle_std;
+mod row;
+mod sequence;
 mod traits;
 mod values;
 

@@ -1,0 +1,125 @@
+//! Mistakes in `sequence!`. What the first error of the call says stands after `//~`, at its line.
+#![allow(dead_code)]
+use pkcs1_proved::der::asn1::{AnyRef, Null, SequenceOf, UintRef};
+use pkcs1_proved::sequence;
+
+sequence! {
+    struct NoTypeOfAsn1<'a> {
+        number: UintRef<'a>,
+        text: String, //~ `String` can't be a field of `sequence!`
+    }
+}
+
+sequence! {
+    struct Slice<'a> {
+        octets: &'a [u8], //~ `&'a [u8]` can't be a field of `sequence!`
+    }
+}
+
+sequence! {
+    struct Twice {
+        number: Option<
+            Option<u8>, //~ `Option<u8>` can't be a field of `sequence!`
+        >,
+    }
+}
+
+sequence! {
+    struct Items<'a> {
+        texts: SequenceOf<'a, &'a str>, //~ SequenceOf<'a, &'a str>` can't be a field of `sequence!`
+    }
+}
+
+sequence! {
+    struct AnyInFront<'a> {
+        any: Option<AnyRef<'a>>, //~ AnyRef<'a>` has no tag of its own
+        number: UintRef<'a>,
+    }
+}
+
+sequence! {
+    struct AnyImplicit<'a> {
+        any: [0] implicit AnyRef<'a>, //~ AnyRef<'a>` has no tag of its own
+    }
+}
+
+sequence! { //~ `number`: a context tag is from [0] to [30]
+    struct TagAboveThirty {
+        number: [31] explicit u8,
+    }
+}
+
+sequence! { //~ `number`: after a context tag, such as [0], comes `explicit` or `implicit`, and then the type
+    struct WordOfTag {
+        number: [0] explcit u8,
+    }
+}
+
+sequence! { //~ `number`: after a context tag, such as [0], comes `explicit` or `implicit`, and then the type
+    struct NoWordOfTag {
+        number: [0] u8,
+    }
+}
+
+sequence! { //~ `first`: after its type comes a comma, and then the next field
+    struct NoComma {
+        first: u8
+        second: u8,
+    }
+}
+
+sequence! { //~ `SameTag`: an OPTIONAL field, or one with a default, begins with the tag of a later one
+    struct SameTag<'a> {
+        first: Option<UintRef<'a>>,
+        second: u8,
+    }
+}
+
+sequence! { //~ `SameTagLater`: an OPTIONAL field, or one with a default, begins with the tag of a later one
+    struct SameTagLater<'a> {
+        first: bool = false,
+        any: AnyRef<'a>,
+    }
+}
+
+sequence! { //~ these fields can't stand in a row
+    struct ThreeOptional {
+        first: [0] explicit Option<u8>,
+        second: [1] explicit Option<u8>,
+        third: [2] explicit Option<u8>,
+    }
+}
+
+sequence! { //~ `number`: the only default is that of `bool = false`
+    struct Default {
+        number: u8 = 7,
+    }
+}
+
+sequence! { //~ a field without a name is `_: Expected<N>`
+    struct NoName {
+        _: Null,
+    }
+}
+
+sequence! { //~ a field is `name: Type`, and not `u8,`
+    struct NoField {
+        u8,
+    }
+}
+
+sequence! { //~ `sequence!` takes structs with named fields
+    enum Choice {
+        Number(u8),
+    }
+}
+
+sequence! { //~ `sequence!` takes structs with named fields
+    struct Tuple(u8);
+}
+
+sequence! { //~ `sequence!` takes structs with named fields
+    struct Bounds<T: Clone> {
+        it: T,
+    }
+}
