@@ -103,18 +103,25 @@ beside_another() {
 }
 
 own() {
-    local folder=$OUT/mistakes
-    mkdir -p "$folder"
+    local it
     RUSTC_BOOTSTRAP=1 cargo rustc --manifest-path $crate --test proved_records -- -Zunpretty=expanded > "$OUT/expanded"
     tools/erase/expanded.py "$OUT/expanded"
     planted_in_expansion 's/let (r, (s, ())) = row/let (s, (r, ())) = row/'
     planted_in_expansion 's/SequenceTag/IntegerTag/'
     planted_in_expansion 's/then_some/xor/'
+    for it in types words; do
+        refused "$it"
+    done
+}
+# refused NAME: the calls of sequence! in this file of mistakes are refused as it says.
+refused() {
+    local folder=$OUT/mistakes/$1 source=$PWD/rust/check/mistakes/$1.rs
+    mkdir -p "$folder"
     printf '[package]\nname = "mistakes"\nedition = "2024"\n[lib]\npath = "%s"\n[dependencies]\n%s\n[workspace]\n' \
-        "$PWD/rust/check/mistakes/mistakes.rs" "pkcs1-proved = { path = \"$PWD/rust\" }" > "$folder/Cargo.toml"
+        "$source" "pkcs1-proved = { path = \"$PWD/rust\" }" > "$folder/Cargo.toml"
     ! cargo check --offline --manifest-path "$folder/Cargo.toml" --message-format=json > "$OUT/messages" 2> "$OUT/log" ||
-        stop "the mistakes are compiled"
-    rust/check/mistakes/mistakes.py rust/check/mistakes/mistakes.rs < "$OUT/messages"
+        stop "$source is compiled"
+    rust/check/mistakes/mistakes.py "$source" < "$OUT/messages"
 }
 # planted_in_expansion COMMAND: what sequence! makes, changed by the command, isn't what is proved.
 planted_in_expansion() {

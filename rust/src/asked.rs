@@ -98,6 +98,18 @@ macro_rules! __asked {
     (@tags $name:ident $lifetimes:tt [$($parameter:ident)+] $tags:tt $parts:tt) => {};
 }
 
+/// What stands at some places. rustc points to the token that doesn't, where the text of an error can't.
+#[doc(hidden)]
+#[macro_export]
+macro_rules! __expected {
+    (after_tag explicit $($rest:tt)*) => {};
+    (after_tag implicit $($rest:tt)*) => {};
+    (without_name: Expected<$number:literal> $($rest:tt)*) => {};
+    (field $name:ident: $($rest:tt)*) => {};
+    (default false $($rest:tt)*) => {};
+    (after_type $type:ty, $($rest:tt)*) => {};
+}
+
 /// `to_der` of a type, if there is an allocator.
 #[cfg(feature = "alloc")]
 #[doc(hidden)]

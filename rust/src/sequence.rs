@@ -39,6 +39,7 @@ macro_rules! __sequence {
     };
     (@fields $head:tt $fields:tt $parts:tt $(#[$attribute:meta])* _ $($rest:tt)*) => {
         compile_error! { "a field without a name is `_: Expected<N>`, the INTEGER that it has to be" }
+        $crate::__expected! { without_name $($rest)* }
     };
     (
         @fields $head:tt $fields:tt $parts:tt
@@ -61,6 +62,7 @@ macro_rules! __sequence {
         compile_error! { concat!(
             "`", stringify!($field), "`: after a context tag, such as [0], comes `explicit` or `implicit`, and then the type"
         ) }
+        $crate::__expected! { after_tag $($rest)* }
     };
     (
         @fields $head:tt $fields:tt $parts:tt
@@ -82,6 +84,7 @@ macro_rules! __sequence {
     };
     (@fields $head:tt $fields:tt $parts:tt $($rest:tt)*) => {
         compile_error! { concat!("a field is `name: Type`, and not `", stringify!($($rest)*), "`") }
+        $crate::__expected! { field $($rest)* }
     };
     (
         @type $head:tt [$($fields:tt)*] [$($parts:tt)*] [$($front:tt)*] $field:ident $how:tt
@@ -107,6 +110,7 @@ macro_rules! __sequence {
             "`", stringify!($field), "`: the only default is that of `bool = false`. For another one, take an `Option` of \
             a type of all other values, such as `Option<InRange<1, 2>>`"
         ) }
+        $crate::__expected! { default $($rest)* }
     };
     (
         @type $head:tt [$($fields:tt)*] [$($parts:tt)*] [$($front:tt)*] $field:ident $how:tt
@@ -119,6 +123,7 @@ macro_rules! __sequence {
     };
     (@type $head:tt $fields:tt $parts:tt $front:tt $field:ident $how:tt $($rest:tt)*) => {
         compile_error! { concat!("`", stringify!($field), "`: after its type comes a comma, and then the next field") }
+        $crate::__expected! { after_type $($rest)* }
     };
 
     // The struct, and what makes it a record of the row.

@@ -1,8 +1,8 @@
 #!/usr/bin/env python3
-"""mistakes.py SOURCE < MESSAGES: each call of `sequence!` in mistakes.rs is refused as it says.
+"""mistakes.py SOURCE < MESSAGES: each call of `sequence!` in this file is refused as it says.
 
-MESSAGES are those of `cargo check --message-format=json`. Of each call the first error has to stand at the line with
-`//~`, and to have the text after that. How rustc prints the path of a type differs.
+MESSAGES are those of `cargo check --message-format=json`. At each line with `//~` an error has to stand with the text
+after that, and the first error of a call is one of these. How rustc prints the path of a type differs.
 """
 import json
 import re
@@ -10,15 +10,15 @@ import sys
 
 
 def calls(lines):
-    """Of each call its first and its last line, that of its error, and what this says."""
+    """Of each call its first and its last line, and the lines of its errors, with what these say."""
     begin = None
     for number, line in enumerate(lines, 1):
         if line.startswith("sequence!"):
-            begin, meant = number, None
+            begin, meant = number, []
         if begin and (found := re.search(r"//~ (.*)", line)):
-            meant = number, found[1]
+            meant.append((number, found[1]))
         if begin and line == "}":
-            yield begin, number, *meant
+            yield begin, number, meant
             begin = None
 
 
@@ -30,24 +30,28 @@ def errors(messages):
             yield spans[0], " ".join([message["message"], *(it["label"] or "" for it in spans)])
 
 
-def outer(span):
-    """The line of the text that a span stands for: of a macro's text, where it was called."""
-    while not span["file_name"].endswith("mistakes.rs") and span.get("expansion"):
+def outer(span, path):
+    """The line of the file that a span stands for: of a macro's text, where it was called."""
+    while not path.endswith(span["file_name"]) and span.get("expansion"):
         span = span["expansion"]["span"]
     return span["line_start"]
 
 
 def main():
-    with open(sys.argv[1], encoding="utf-8") as source:
+    path = sys.argv[1]
+    with open(path, encoding="utf-8") as source:
         meant = list(calls(source.read().splitlines()))
-    found = [(outer(span), text) for span, text in errors(sys.stdin)]
+    found = [(outer(span, path), text) for span, text in errors(sys.stdin)]
     wrong = []
-    for begin, end, line, text in meant:
-        first = next((it for it in found if begin <= it[0] <= end), (0, "no error"))
-        if first[0] != line or text not in first[1]:
-            wrong.append(f"mistakes.rs: line {line} isn't refused by {text!r}, but line {first[0]} by {first[1]!r}")
-    wrong += [f"mistakes.rs: {it} is in no call" for it in found if not any(a <= it[0] <= b for a, b, *_ in meant)]
-    print("\n".join(wrong) or f"mistakes: {len(meant)} calls of sequence! are refused as they should be")
+    for begin, end, said in meant:
+        its = [it for it in found if begin <= it[0] <= end]
+        for line, text in said:
+            if not any(it[0] == line and text in it[1] for it in its):
+                wrong.append(f"{path}: line {line} isn't refused by {text!r}, but these are: {its[:3]}")
+        if not any(it[0] == line and text in it[1] for it in its[:1] for line, text in said):
+            wrong.append(f"{path}: the first error of line {begin} is {its[:1]}")
+    wrong += [f"{path}: {it} is in no call" for it in found if not any(begin <= it[0] <= end for begin, end, _ in meant)]
+    print("\n".join(wrong) or f"{path}: {len(meant)} calls of sequence! are refused as they should be")
     sys.exit(bool(wrong) or not meant)
 
 

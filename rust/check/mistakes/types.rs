@@ -1,6 +1,7 @@
-//! Mistakes in `sequence!`. What the first error of the call says stands after `//~`, at its line.
+//! Mistakes in the types of `sequence!`. What errors say stands after `//~`, at their lines, and that of the first one
+//! is among it.
 #![allow(dead_code)]
-use pkcs1_proved::der::asn1::{AnyRef, Null, SequenceOf, UintRef};
+use pkcs1_proved::der::asn1::{AnyRef, SequenceOf, UintRef};
 use pkcs1_proved::sequence;
 
 sequence! {
@@ -49,25 +50,6 @@ sequence! { //~ `number`: a context tag is from [0] to [30]
     }
 }
 
-sequence! { //~ `number`: after a context tag, such as [0], comes `explicit` or `implicit`, and then the type
-    struct WordOfTag {
-        number: [0] explcit u8,
-    }
-}
-
-sequence! { //~ `number`: after a context tag, such as [0], comes `explicit` or `implicit`, and then the type
-    struct NoWordOfTag {
-        number: [0] u8,
-    }
-}
-
-sequence! { //~ `first`: after its type comes a comma, and then the next field
-    struct NoComma {
-        first: u8
-        second: u8,
-    }
-}
-
 sequence! { //~ `SameTag`: an OPTIONAL field, or one with a default, begins with the tag of a later one
     struct SameTag<'a> {
         first: Option<UintRef<'a>>,
@@ -87,39 +69,5 @@ sequence! { //~ these fields can't stand in a row
         first: [0] explicit Option<u8>,
         second: [1] explicit Option<u8>,
         third: [2] explicit Option<u8>,
-    }
-}
-
-sequence! { //~ `number`: the only default is that of `bool = false`
-    struct Default {
-        number: u8 = 7,
-    }
-}
-
-sequence! { //~ a field without a name is `_: Expected<N>`
-    struct NoName {
-        _: Null,
-    }
-}
-
-sequence! { //~ a field is `name: Type`, and not `u8,`
-    struct NoField {
-        u8,
-    }
-}
-
-sequence! { //~ `sequence!` takes structs with named fields
-    enum Choice {
-        Number(u8),
-    }
-}
-
-sequence! { //~ `sequence!` takes structs with named fields
-    struct Tuple(u8);
-}
-
-sequence! { //~ `sequence!` takes structs with named fields
-    struct Bounds<T: Clone> {
-        it: T,
     }
 }
