@@ -136,9 +136,9 @@ def named(crate):
     return words, of_kernel, wrong + (["a `pub use` names all of a module"] if "*" in words | of_kernel else [])
 
 
-def handles(words):
+def handles(crate, words):
     """The words that name a trait of what writes, or a type of one of HANDLES."""
-    text = "\n".join(code_of(it) for it in sorted((TOP / "rust/src/proved").rglob("*.rs")))
+    text = "\n".join(code_of(it) for it in sorted((crate / "src").rglob("*.rs")))
     types = set(re.findall(rf"\b(?:{'|'.join(HANDLES)})\b(?:<[^{{;]*>)? for (\w+)", text))
     return words & (types | HANDLES - {"RowOperation"})
 
@@ -235,7 +235,7 @@ def main():
     reached = [it for it in functions if it.is_reached]
     wrong += [f"{it.name} has a `requires`, and can be reached" for it in reached
               if it.type or (it.trait or it.name) in (words if it.handle else words | of_kernel)]
-    wrong += [f"{it} is named, and writes" for it in sorted(handles(words | of_kernel))]
+    wrong += [f"{it} is named, and writes" for it in sorted(handles(crate, words | of_kernel))]
     wrong += unmet(crate, functions)
     print("\n".join(wrong) or f"preconditions: of {len(reached)} functions with a `requires` that are public or of a "
           f"trait, none can be reached from outside. {len(MET)} calls by hand meet what is required, and "

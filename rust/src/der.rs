@@ -24,7 +24,8 @@ pub mod oid {
     pub use crate::identifier::{AssociatedOid, ObjectIdentifier, ObjectIdentifierRef};
 }
 
-/// A type that is read from its encoding. A type of one's own may be one, such as SubjectPublicKeyInfo:
+/// A type that is read from its encoding. [`sequence!`](crate::sequence) makes types of one's own. By hand one may be
+/// made of calls of others', such as SubjectPublicKeyInfo:
 ///
 /// ```
 /// use pkcs1_proved::der::{Decode, ErrorKind, Result, Tag, asn1::AnyRef};

@@ -93,6 +93,12 @@ pub struct SequenceOfItems<'a, T> {
     left: Items<'a, T>,
 }
 
+impl<T> Clone for SequenceOfItems<'_, T> {
+    fn clone(&self) -> Self {
+        SequenceOfItems { left: self.left }
+    }
+}
+
 impl<'a, T: Item<'a> + Clone> Iterator for SequenceOfItems<'a, T> {
     type Item = T;
 
@@ -112,6 +118,8 @@ impl<'a, T: Item<'a> + Clone> Iterator for SequenceOfItems<'a, T> {
         }
     }
 }
+
+impl<'a, T: Item<'a> + Clone> core::iter::FusedIterator for SequenceOfItems<'a, T> {}
 
 impl<'a, T: Item<'a> + Clone> IntoIterator for SequenceOf<'a, T> {
     type Item = T;

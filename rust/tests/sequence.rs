@@ -68,6 +68,13 @@ sequence! {
         pub key: bit_string containing DssSigValue<UintRef<'a>>,
     }
 
+    /// An algorithm with parameters of one's own.
+    #[derive(Clone, Copy, Debug, PartialEq, Eq)]
+    struct DsaKey<'a> {
+        algorithm: AlgorithmIdentifier<DsaParams<'a>, ObjectIdentifierRef<'a>>,
+        key: bit_string containing UintRef<'a>,
+    }
+
     /// Each form of a field that has to be there.
     #[derive(Clone, Copy, Debug, PartialEq, Eq)]
     struct Required<'a> {
@@ -142,6 +149,7 @@ fn outcome(name: &str, der: &[u8]) -> Option<Result<Vec<u8>>> {
         "Extension" => written(Extension::from_der(der)),
         "BasicConstraints" => written(BasicConstraints::from_der(der)),
         "Subject" => written(Subject::from_der(der)),
+        "DsaKey" => written(DsaKey::from_der(der)),
         "Required" => written(Required::from_der(der)),
         "Optional" => written(Optional::from_der(der)),
         "Empty" => written(Empty::from_der(der)),

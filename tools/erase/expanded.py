@@ -2,8 +2,8 @@
 """expanded.py FILE: whether what `sequence!` makes is what is proved of the same types in crates/.
 
 FILE is rust/tests/proved_records.rs as rustc expands it. Of each record of CRATES the struct and the impls that read and
-write its row are compared, token by token, as compare.py reads the source: without what is
-there for the proof. So is `True`, which rust/src/default.rs has by hand.
+write its row are compared, token by token, with the source, which compare.py reads without what is there for the proof.
+So is `True`, which rust/src/default.rs has by hand.
 
 No paths, attributes and commas in front of a closing bracket are compared, and no name of a type parameter of a call. In
 the source a row may have its end in a `let`, and an OPTIONAL part that is made by an `if`: both are put in one expression
