@@ -15,7 +15,8 @@ pub trait EncodeValue: Contents {
     /// Whether the value has contents: `Value` exactly if it has none.
     fn check_value(&self) -> Result<()>;
 
-    /// Writes the contents in front of what was received, or counts them. There have to be some, and room for them.
+    /// Writes the contents in front of what was received, or counts them. There have to be some, and room for them, and
+    /// their length has to fit.
     fn prepend_value<W: Prepend>(&self, writer: &mut W);
 
     /// Appends the contents. There have to be some, within `Length::MAX`. The only error is `NoRoom`, exactly if the
@@ -47,7 +48,8 @@ pub trait Encode: Encoding {
     /// Whether the value has an encoding: `Value` exactly if it has none.
     fn check(&self) -> Result<()>;
 
-    /// Writes the shortest encoding in front of what was received, or counts it. There has to be one, and room for it.
+    /// Writes the shortest encoding in front of what was received, or counts it. There has to be one, and room for it, and
+    /// its length has to fit.
     fn prepend<W: Prepend>(&self, writer: &mut W);
 
     /// Appends the shortest encoding. There has to be one within `Length::MAX`. The only error is `NoRoom`, exactly if

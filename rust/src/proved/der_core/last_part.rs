@@ -6,8 +6,9 @@ use crate::proved::der_core::encode::{Encode, EncodeValue};
 use crate::proved::der_core::error::{Error, ErrorKind, Result};
 use crate::proved::der_core::grammar::{Contents, Encoding, FixedTag};
 use crate::proved::der_core::memory::Memory;
-use crate::proved::der_core::parts::DecodeParts;
+use crate::proved::der_core::parts::{DecodeParts, Row};
 use crate::proved::der_core::prepend::Prepend;
+use crate::proved::der_core::tag::Tag;
 use crate::proved::der_core::writer::Writer;
 
 /// An OPTIONAL last part: one encoding, or nothing. Whatever is left is read as the part.
@@ -19,6 +20,20 @@ pub struct BorrowedLast<'b, T>(pub &'b Option<T>);
 impl<T: Encoding> Contents for Last<T> {}
 
 impl<T: Encoding> Contents for BorrowedLast<'_, T> {}
+
+impl<T: Encoding> Row for Last<T> {
+    #[inline(always)]
+    fn may_begin_with(tag: Tag) -> bool {
+        T::may_start_with(tag)
+    }
+}
+
+impl<T: Encoding> Row for BorrowedLast<'_, T> {
+    #[inline(always)]
+    fn may_begin_with(tag: Tag) -> bool {
+        Last::<T>::may_begin_with(tag)
+    }
+}
 
 impl<'a, M: Memory, T: Decode<&'a [u8], M>> DecodeParts<&'a [u8], M> for Last<T> {
     #[inline(always)]
@@ -92,6 +107,13 @@ impl<T: Encode> EncodeValue for BorrowedLast<'_, T> {
 pub struct LastByTag<T>(pub Last<T>);
 
 impl<T: Contents + FixedTag> Contents for LastByTag<T> {}
+
+impl<T: Contents + FixedTag> Row for LastByTag<T> {
+    #[inline(always)]
+    fn may_begin_with(tag: Tag) -> bool {
+        T::TAG.octet() == tag.octet()
+    }
+}
 
 impl<'a, M: Memory, T: DecodeValue<&'a [u8], M> + FixedTag> DecodeParts<&'a [u8], M>
     for LastByTag<T> {

@@ -14,6 +14,7 @@ use crate::proved::der_core::integer::{Uint, UintRef};
 use crate::proved::der_core::last_part::{Last, LastByTag};
 use crate::proved::der_core::octet_string::OctetStringRef;
 use crate::proved::der_core::optional_part::OptionalThen;
+use crate::proved::der_core::parts::Row;
 use crate::proved::der_core::record::InParts;
 use crate::proved::der_core::tagged::Tagged;
 
@@ -55,14 +56,7 @@ impl<T: OneEncoding> OneContents for Last<T> {}
 
 impl<T: OneContents + FixedTag> OneContents for LastByTag<T> {}
 
-impl<T, A, B> OneContents for OptionalThen<T, (A, B)>
-where
-    T: OneContents + FixedTag,
-    A: OneEncoding,
-    B: OneContents,
-{}
-
-impl<T: OneContents + FixedTag, A: OneEncoding> OneContents for OptionalThen<T, Last<A>> {}
+impl<T: OneContents + FixedTag, R: OneContents + Row> OneContents for OptionalThen<T, R> {}
 
 impl<T: OneEncoding> OneContents for Vec<T> {}
 

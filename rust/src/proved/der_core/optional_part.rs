@@ -1,60 +1,61 @@
 // Made of crates/der_core/src/optional_part.rt by tools/erase/erase.py, and not to be edited.
 //! An OPTIONAL part in front of others, which is known by its tag.
 
-use crate::proved::der_core::decode::{Decode, DecodeValue, read_optional};
+use crate::proved::der_core::decode::{DecodeValue, read_optional};
 use crate::proved::der_core::encode::{Encode, EncodeValue};
 use crate::proved::der_core::error::{Error, ErrorKind, Result};
-use crate::proved::der_core::grammar::{Contents, Encoding, FixedTag};
+use crate::proved::der_core::grammar::{Contents, FixedTag};
 use crate::proved::der_core::memory::Memory;
-use crate::proved::der_core::parts::DecodeParts;
+use crate::proved::der_core::parts::{DecodeParts, Row};
 use crate::proved::der_core::prepend::Prepend;
 use crate::proved::der_core::tag::Tag;
 use crate::proved::der_core::writer::Writer;
 
-/// An OPTIONAL part that is known by its tag, and the row behind it: `OptionalThen<T, (A, B)>`, or an OPTIONAL last part,
-/// as in `OptionalThen<T, Last<A>>`. Where an `A` may begin with that tag too, no value has contents: reading and writing
-/// are `Value` of the tag.
+/// An OPTIONAL part that is known by its tag, and the row after it: `OptionalThen<T, (A, B)>`, an OPTIONAL last part, as
+/// in `OptionalThen<T, Last<A>>`, or another OPTIONAL part, as in `OptionalThen<T, OptionalThen<U, Last<A>>>`. Where the
+/// row may begin with that tag too, no value has contents: reading and writing are `Value` of the tag. An OPTIONAL part
+/// may be left out, so a row may also begin as what follows that part does.
 pub struct OptionalThen<T, R>(pub Option<T>, pub R);
 
-impl<T: Contents + FixedTag, A: Encoding, B: Contents> Contents for OptionalThen<T, (A, B)> {}
+impl<T: Contents + FixedTag, R: Contents> Contents for OptionalThen<T, R> {}
 
-/// Reads the row behind a part with this tag: `Value` of the tag if the row may begin with it too.
-#[inline(always)]
-fn read_behind<'a, A, B, M: Memory>(memory: M, bytes: &'a [u8], tag: Tag) -> Result<(A, B)>
-where
-    A: Decode<&'a [u8], M>,
-    B: DecodeParts<&'a [u8], M>,
-{
-    if A::may_start_with(tag) {
-        return Err(Error::new(ErrorKind::Value { tag }));
+impl<T: Contents + FixedTag, R: Row> Row for OptionalThen<T, R> {
+    #[inline(always)]
+    fn may_begin_with(tag: Tag) -> bool {
+        T::TAG.octet() == tag.octet() || R::may_begin_with(tag)
     }
-    <(A, B)>::read_parts(memory, bytes)
 }
 
-impl<'a, M, T, A, B> DecodeParts<&'a [u8], M> for OptionalThen<T, (A, B)>
+/// Reads the row after a part with this tag: `Value` of the tag if the row may begin with it too.
+#[inline(always)]
+fn read_after<'a, R, M: Memory>(memory: M, bytes: &'a [u8], tag: Tag) -> Result<R>
+where
+    R: DecodeParts<&'a [u8], M> + Row,
+{
+    if R::may_begin_with(tag) {
+        return Err(Error::new(ErrorKind::Value { tag }));
+    }
+    R::read_parts(memory, bytes)
+}
+
+impl<'a, M, T, R> DecodeParts<&'a [u8], M> for OptionalThen<T, R>
 where
     M: Memory,
     T: DecodeValue<&'a [u8], M> + FixedTag,
-    A: Decode<&'a [u8], M>,
-    B: DecodeParts<&'a [u8], M>,
+    R: DecodeParts<&'a [u8], M> + Row,
 {
     #[inline(always)]
-    fn read_parts(memory: M, contents: &'a [u8]) -> Result<OptionalThen<T, (A, B)>> {
-        let (part, behind) = read_optional(memory, contents)?;
-        let rest = read_behind(memory, behind, T::TAG)?;
+    fn read_parts(memory: M, contents: &'a [u8]) -> Result<OptionalThen<T, R>> {
+        let (part, after) = read_optional(memory, contents)?;
+        let rest = read_after(memory, after, T::TAG)?;
         Ok(OptionalThen(part, rest))
     }
 }
 
-impl<T, A, B> EncodeValue for OptionalThen<T, (A, B)>
-where
-    T: EncodeValue + FixedTag,
-    A: Encode,
-    B: EncodeValue,
-{
+impl<T: EncodeValue + FixedTag, R: EncodeValue + Row> EncodeValue for OptionalThen<T, R> {
     #[inline(always)]
     fn check_value(&self) -> Result<()> {
-        if A::may_start_with(T::TAG) {
+        if R::may_begin_with(T::TAG) {
             return Err(Error::new(ErrorKind::Value { tag: T::TAG }));
         }
         if let Some(part) = &self.0 {

@@ -9,6 +9,7 @@ use crate::proved::der_core::grammar::{Contents, Encoding};
 use crate::proved::der_core::memory::Memory;
 use crate::proved::der_core::prepend::Prepend;
 use crate::proved::der_core::reader::Octets;
+use crate::proved::der_core::tag::Tag;
 use crate::proved::der_core::writer::Writer;
 
 /// Parts that are read from contents. Of these the type's `read` gives the value, or the kind of the first fault. Calls
@@ -18,9 +19,29 @@ pub trait DecodeParts<B: Octets, M: Memory>: Contents + Sized {
     fn read_parts(memory: M, contents: B) -> Result<Self>;
 }
 
+/// A row that is asked which tags it may begin with, so that an OPTIONAL part can stand in front of it.
+pub trait Row: Contents {
+    /// False only if no row of the type begins with the octet of the tag.
+    fn may_begin_with(tag: Tag) -> bool;
+}
+
 impl Contents for () {}
 
 impl<A: Encoding, B: Contents> Contents for (A, B) {}
+
+impl Row for () {
+    #[inline(always)]
+    fn may_begin_with(_tag: Tag) -> bool {
+        false
+    }
+}
+
+impl<A: Encoding, B: Contents> Row for (A, B) {
+    #[inline(always)]
+    fn may_begin_with(tag: Tag) -> bool {
+        A::may_start_with(tag)
+    }
+}
 
 impl<'a, M: Memory> DecodeParts<&'a [u8], M> for () {
     #[inline(always)]

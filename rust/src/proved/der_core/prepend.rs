@@ -12,6 +12,6 @@ pub trait Prepend {
     fn prepend(&mut self, bytes: &[u8]);
 
     /// Receives the header of the contents that it received since `filled_len` was `before`. There has to have been room
-    /// for both.
+    /// for both, and their length has to fit.
     fn prepend_header(&mut self, tag: Tag, before: u64);
 }

@@ -5,9 +5,10 @@ use crate::proved::pkcs1::other_primes::OtherPrimes;
 use crate::proved::pkcs1::private_key::RsaPrivateKey;
 use crate::proved::pkcs1::public_key::RsaPublicKey;
 use crate::proved::pkcs1::view::RsaPrivateKeyView;
-use crate::proved::der_core::{Encoding, Uint, UintRef};
+use crate::proved::der_core::{Decode, Encoding, Memory, Uint, UintRef};
 use crate::proved::pkcs1_params::{Error, RsaOaepParams, RsaPssParams};
 use crate::proved::spki_core::{Any, AnyRef};
+use crate::rattle_std::alloc::Global;
 
 /// No encoding is empty or a proper prefix of another one of the same type, and each means one value.
 pub fn lemma_encodings_are_delimited() {}
@@ -15,6 +16,10 @@ pub fn lemma_encodings_are_delimited() {}
 /// The functions that tell the keys of whole slices give a key exactly of the bytes that encode one, in the words of
 /// the statement, and this one. Each of their faults is about the bytes.
 pub fn lemma_keys_decode() {}
+
+/// Reading a key that borrows its numbers never asks for memory if it is a public one, whatever the bytes are, or if the
+/// bytes encode a private key of two primes: by `from_der`, and by each other call that reads such a type.
+pub fn lemma_borrowed_keys_take_no_memory<M: Memory>() {}
 
 /// A key has at most one encoding.
 pub fn lemma_keys_have_one_encoding() {}

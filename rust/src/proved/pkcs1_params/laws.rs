@@ -25,6 +25,9 @@ pub fn lemma_oaep_spellings() {}
 /// encoding that isn't the shortest it is `Noncanonical` of the tag of the first default that is written.
 pub fn lemma_params_decode() {}
 
+/// In each encoding that isn't the shortest a default is written. One is the first, which `lemma_params_decode` names.
+pub fn lemma_written_defaults_are_found() {}
+
 /// Reading owned parameters never asks for memory if no algorithm in them has parameters with octets.
 pub fn lemma_bare_params_take_no_memory() {}
 

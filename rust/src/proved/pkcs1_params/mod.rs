@@ -8,7 +8,7 @@ mod error;
 mod fields;
 mod from_view;
 mod hash_fields;
-mod hash_functions;
+pub mod hash_functions;
 mod holders;
 mod label;
 mod laws;
@@ -32,11 +32,11 @@ pub use algorithm::FromAlgorithm;
 pub use default_salt::DefaultSalt;
 pub use error::{Error, Result};
 pub use hash_fields::{is_mgf1, with_null};
-pub use hash_functions::{Mgf1, Sha1, Sha224, Sha256, Sha384, Sha512, Sha512_224, Sha512_256};
 pub use label::{PSpecified, is_p_specified};
 pub use laws::{
     lemma_algorithms, lemma_algorithms_exclude_each_other, lemma_bare_params_take_no_memory,
     lemma_oaep_spellings, lemma_params_decode, lemma_pss_spellings,
+    lemma_written_defaults_are_found,
 };
 pub use oaep::{
     OaepParamsOf, RsaOaepParams, RsaOaepParamsOwned, RsaOaepParamsRef, RsaOaepParamsView,

@@ -3,8 +3,8 @@
 
 use crate::proved::pkcs8_core::attributes::Attributes;
 use crate::proved::pkcs1::der::{
-    Borrowed, Contents, Decode, EncodeInParts, Error, Expected, InParts, Last, LastByTag, Memory,
-    OctetStringRef, Result, RowOperation, SequenceTag, TaggedBy, read_borrowed, write_only,
+    Borrowed, Contents, Decode, EncodeInParts, Encoding, Error, Expected, InParts, Last, LastByTag,
+    Memory, OctetStringRef, Result, RowOperation, SequenceTag, TaggedBy, read_borrowed, write_only,
 };
 use crate::proved::pkcs1::spki::{
     AlgorithmIdentifierOf, AnyRef, IdentifierValue, IdentifierView, ObjectIdentifier,
@@ -139,6 +139,9 @@ pub fn lemma_containers_take_no_memory<M: Memory>() {}
 /// The functions that tell the containers of whole slices, and the RSA keys in them, give one exactly of the bytes that
 /// encode it, and this one.
 pub fn lemma_containers_decode() {}
+
+/// A container has the encodings of the statement: so a clause of `Decode` or `Encode` at this type is about those.
+pub fn lemma_containers_share_the_grammar() {}
 
 /// A container has at most one encoding. Two encodings mean the same container exactly if the shortest encodings of
 /// what they mean are equal: they are the same bytes.

@@ -5,7 +5,7 @@ use crate::proved::der_core::decode::DecodeValue;
 use crate::proved::der_core::encode::EncodeValue;
 use crate::proved::der_core::error::{Error, ErrorKind, Result};
 use crate::proved::der_core::grammar::{Contents, EqualByValue, IntegerTag, TaggedBy};
-use crate::proved::der_core::integer::uint::integer;
+use crate::proved::der_core::integer::uint::{append_number, integer, prepend_number};
 use crate::proved::der_core::memory::Memory;
 use crate::proved::der_core::prepend::Prepend;
 use crate::proved::der_core::tag::Tag;
@@ -48,17 +48,10 @@ impl EncodeValue for u8 {
 
     #[inline(always)]
     fn prepend_value<W: Prepend>(&self, writer: &mut W) {
-        writer.prepend(&[*self]);
-        if *self >= 0x80 {
-            writer.prepend(&[0]);
-        }
+        prepend_number(&[*self], writer);
     }
 
     fn append_value<W: Writer>(&self, writer: &mut W) -> Result<()> {
-        if *self < 0x80 {
-            writer.write(&[*self])
-        } else {
-            writer.write(&[0, *self])
-        }
+        append_number(&[*self], writer)
     }
 }

@@ -129,6 +129,24 @@ impl<'a, M: Memory> DecodeValue<&'a [u8], M> for UintRef<'a> {
     }
 }
 
+/// Writes the contents of the number with these bytes in front of what was received, or counts them.
+#[inline(always)]
+pub(crate) fn prepend_number<W: Prepend>(bytes: &[u8], writer: &mut W) {
+    writer.prepend(bytes);
+    if bytes[0] >= 0x80 {
+        writer.prepend(&[0]);
+    }
+}
+
+/// Appends the contents of the number with these bytes.
+#[inline(always)]
+pub(crate) fn append_number<W: Writer>(bytes: &[u8], writer: &mut W) -> Result<()> {
+    if bytes[0] >= 0x80 {
+        writer.write(&[0])?;
+    }
+    writer.write(bytes)
+}
+
 impl EncodeValue for UintRef<'_> {
     #[inline(always)]
     fn check_value(&self) -> Result<()> {
@@ -137,16 +155,10 @@ impl EncodeValue for UintRef<'_> {
 
     #[inline(always)]
     fn prepend_value<W: Prepend>(&self, writer: &mut W) {
-        writer.prepend(self.bytes);
-        if self.bytes[0] >= 0x80 {
-            writer.prepend(&[0]);
-        }
+        prepend_number(self.bytes, writer);
     }
 
     fn append_value<W: Writer>(&self, writer: &mut W) -> Result<()> {
-        if self.bytes[0] >= 0x80 {
-            writer.write(&[0])?;
-        }
-        writer.write(self.bytes)
+        append_number(self.bytes, writer)
     }
 }

@@ -1,33 +1,15 @@
 // Made of crates/pkcs1_tool/src/tests/values.rt by tools/erase/erase.py, and not to be edited.
-//! Constants of identifiers, errors that are compared, values that are printed, and long values that are copied.
+//! Errors that are compared, values that are printed, and long values that are copied.
 use crate::rattle_std::prelude::{HostRuntime, String, Vec, format, vec};
 use crate::tool::pkcs1_tool::tests::checks::{equal, holds};
 use crate::proved::der_core::{Document, Error, ErrorKind, SecretDocument, Tag, Uint};
-use crate::proved::pkcs1::{
-    ALGORITHM_OID, Mgf1, PSpecified, RsaOaepParamsRef, RsaPssParamsRef, RsaesOaep, RsassaPss, Sha1,
-    Sha224, Sha256, Sha384, Sha512, Sha512_224, Sha512_256,
-};
-use crate::proved::spki_core::{Any, AnyRef, AnyValue, AssociatedOid};
+use crate::proved::pkcs1::hash_functions::Sha256;
+use crate::proved::pkcs1::{RsaOaepParamsRef, RsaPssParamsRef};
+use crate::proved::spki_core::{Any, AnyRef, AnyValue};
 use crate::rattle_std::alloc::Global;
 use crate::rattle_std::fmt::Debug;
 use crate::rattle_std::process::Abort;
 use crate::rattle_std::test::Fail;
-
-/// Whether the constant of a type is what its function returns, of which contracts speak.
-fn is_alike<D: AssociatedOid>() -> bool {
-    D::OID == D::octets()
-}
-
-#[test]
-fn constants_are_what_their_functions_return() { let rt = HostRuntime;
-    holds(&rt, is_alike::<Sha1>() && is_alike::<Sha224>());
-    holds(&rt, is_alike::<Sha256>() && is_alike::<Sha384>());
-    holds(&rt, is_alike::<Sha512>() && is_alike::<Sha512_224>());
-    holds(&rt, is_alike::<Sha512_256>() && is_alike::<Mgf1>());
-    holds(&rt, is_alike::<PSpecified>());
-    holds(&rt, is_alike::<RsassaPss>() && is_alike::<RsaesOaep>());
-    equal(&rt, ALGORITHM_OID, crate::proved::pkcs1::rsa_encryption_oid().as_bytes());
-}
 
 /// Asserts that each value is equal to itself and to no other.
 fn all_differ<T: PartialEq>(rt: &impl Abort, all: &[T]) {
