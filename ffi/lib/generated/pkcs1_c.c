@@ -5112,13 +5112,13 @@ static u32 proved_private_key_info_encode(P v_info, P v_out, u64 v_out_len, P v_
     u64 p_v_16_sroa_8_0_copyload_i_i;
     u64 p_v_16_sroa_6_0_copyload_i_i;
     P p_v_16_sroa_0_0_copyload_i_i;
-    P p_v_16_sroa_0_0_copyload_i_i60;
-    u64 p_v_16_sroa_6_0_copyload_i_i58;
-    u64 p_v_16_sroa_8_0_copyload_i_i56;
     P p_v_16_sroa_0_0_copyload_i_i59;
     u64 p_v_16_sroa_6_0_copyload_i_i57;
     u64 p_v_16_sroa_8_0_copyload_i_i55;
+    P p_v_16_sroa_0_0_copyload_i_i58;
+    u64 p_v_16_sroa_6_0_copyload_i_i56;
     u64 p_v_16_sroa_8_0_copyload_i_i54;
+    u64 p_v_16_sroa_8_0_copyload_i_i53;
     u64 p_v_16_sroa_8_0_copyload_i_i_i_i;
     P p_v_16_sroa_7_0_copyload_i_i_i_i;
     u64 p_v_16_sroa_6_0_copyload_i_i_i_i;
@@ -5131,10 +5131,10 @@ static u32 proved_private_key_info_encode(P v_info, P v_out, u64 v_out_len, P v_
     P p_v_16_sroa_7_0_copyload_i_i_i_i_i;
     u64 p_v_16_sroa_6_0_copyload_i_i_i_i_i;
     P p_v_16_sroa_0_0_copyload_i_i_i_i_i;
-    P p_v_16_sroa_0_0_copyload_i_i_i_i_i71;
-    u64 p_v_16_sroa_6_0_copyload_i_i_i_i_i70;
-    P p_v_16_sroa_7_0_copyload_i_i_i_i_i69;
-    u64 p_v_16_sroa_8_0_copyload_i_i_i_i_i68;
+    P p_v_16_sroa_0_0_copyload_i_i_i_i_i70;
+    u64 p_v_16_sroa_6_0_copyload_i_i_i_i_i69;
+    P p_v_16_sroa_7_0_copyload_i_i_i_i_i68;
+    u64 p_v_16_sroa_8_0_copyload_i_i_i_i_i67;
     u64 p_v_16_sroa_8_0_copyload_i_i39_i_i_i_ph;
     P p_v_16_sroa_7_0_copyload_i_i37_i_i_i_ph;
     u64 p_v_16_sroa_6_0_copyload_i_i35_i_i_i_ph;
@@ -5143,10 +5143,10 @@ static u32 proved_private_key_info_encode(P v_info, P v_out, u64 v_out_len, P v_
     P p_v_16_sroa_7_0_copyload_i_i37_i_i_i;
     u64 p_v_16_sroa_6_0_copyload_i_i35_i_i_i;
     P p_v_16_sroa_0_0_copyload_i_i33_i_i_i;
-    P p_v_16_sroa_0_0_copyload_i_i33_i_i_i80;
-    u64 p_v_16_sroa_6_0_copyload_i_i35_i_i_i79;
-    P p_v_16_sroa_7_0_copyload_i_i37_i_i_i78;
-    u64 p_v_16_sroa_8_0_copyload_i_i39_i_i_i77;
+    P p_v_16_sroa_0_0_copyload_i_i33_i_i_i79;
+    u64 p_v_16_sroa_6_0_copyload_i_i35_i_i_i78;
+    P p_v_16_sroa_7_0_copyload_i_i37_i_i_i77;
+    u64 p_v_16_sroa_8_0_copyload_i_i39_i_i_i76;
     u64 p_v_16_sroa_8_0_copyload_i_i102_i_i_i_ph;
     P p_v_16_sroa_7_0_copyload_i_i100_i_i_i_ph;
     u64 p_v_16_sroa_6_0_copyload_i_i98_i_i_i_ph;
@@ -5155,10 +5155,10 @@ static u32 proved_private_key_info_encode(P v_info, P v_out, u64 v_out_len, P v_
     P p_v_16_sroa_7_0_copyload_i_i100_i_i_i;
     u64 p_v_16_sroa_6_0_copyload_i_i98_i_i_i;
     P p_v_16_sroa_0_0_copyload_i_i96_i_i_i;
-    P p_v_16_sroa_0_0_copyload_i_i96_i_i_i89;
-    u64 p_v_16_sroa_6_0_copyload_i_i98_i_i_i88;
-    P p_v_16_sroa_7_0_copyload_i_i100_i_i_i87;
-    u64 p_v_16_sroa_8_0_copyload_i_i102_i_i_i86;
+    P p_v_16_sroa_0_0_copyload_i_i96_i_i_i88;
+    u64 p_v_16_sroa_6_0_copyload_i_i98_i_i_i87;
+    P p_v_16_sroa_7_0_copyload_i_i100_i_i_i86;
+    u64 p_v_16_sroa_8_0_copyload_i_i102_i_i_i85;
     u64 p_v_16_sroa_8_0_copyload_i_i165_i_i_i_ph;
     P p_v_16_sroa_7_0_copyload_i_i163_i_i_i_ph;
     u64 p_v_16_sroa_6_0_copyload_i_i161_i_i_i_ph;
@@ -5167,10 +5167,10 @@ static u32 proved_private_key_info_encode(P v_info, P v_out, u64 v_out_len, P v_
     P p_v_16_sroa_7_0_copyload_i_i163_i_i_i;
     u64 p_v_16_sroa_6_0_copyload_i_i161_i_i_i;
     P p_v_16_sroa_0_0_copyload_i_i159_i_i_i;
-    P p_v_16_sroa_0_0_copyload_i_i159_i_i_i98;
-    u64 p_v_16_sroa_6_0_copyload_i_i161_i_i_i97;
-    P p_v_16_sroa_7_0_copyload_i_i163_i_i_i96;
-    u64 p_v_16_sroa_8_0_copyload_i_i165_i_i_i95;
+    P p_v_16_sroa_0_0_copyload_i_i159_i_i_i97;
+    u64 p_v_16_sroa_6_0_copyload_i_i161_i_i_i96;
+    P p_v_16_sroa_7_0_copyload_i_i163_i_i_i95;
+    u64 p_v_16_sroa_8_0_copyload_i_i165_i_i_i94;
     u64 p_v_16_sroa_8_0_copyload_i_i228_i_i_i_ph;
     P p_v_16_sroa_7_0_copyload_i_i226_i_i_i_ph;
     u64 p_v_16_sroa_6_0_copyload_i_i224_i_i_i_ph;
@@ -5179,10 +5179,10 @@ static u32 proved_private_key_info_encode(P v_info, P v_out, u64 v_out_len, P v_
     P p_v_16_sroa_7_0_copyload_i_i226_i_i_i;
     u64 p_v_16_sroa_6_0_copyload_i_i224_i_i_i;
     P p_v_16_sroa_0_0_copyload_i_i222_i_i_i;
-    P p_v_16_sroa_0_0_copyload_i_i222_i_i_i107;
-    u64 p_v_16_sroa_6_0_copyload_i_i224_i_i_i106;
-    P p_v_16_sroa_7_0_copyload_i_i226_i_i_i105;
-    u64 p_v_16_sroa_8_0_copyload_i_i228_i_i_i104;
+    P p_v_16_sroa_0_0_copyload_i_i222_i_i_i106;
+    u64 p_v_16_sroa_6_0_copyload_i_i224_i_i_i105;
+    P p_v_16_sroa_7_0_copyload_i_i226_i_i_i104;
+    u64 p_v_16_sroa_8_0_copyload_i_i228_i_i_i103;
     u64 p_v_16_sroa_8_0_copyload_i_i291_i_i_i_ph;
     P p_v_16_sroa_7_0_copyload_i_i289_i_i_i_ph;
     u64 p_v_16_sroa_6_0_copyload_i_i287_i_i_i_ph;
@@ -5191,10 +5191,10 @@ static u32 proved_private_key_info_encode(P v_info, P v_out, u64 v_out_len, P v_
     P p_v_16_sroa_7_0_copyload_i_i289_i_i_i;
     u64 p_v_16_sroa_6_0_copyload_i_i287_i_i_i;
     P p_v_16_sroa_0_0_copyload_i_i285_i_i_i;
-    P p_v_16_sroa_0_0_copyload_i_i285_i_i_i116;
-    u64 p_v_16_sroa_6_0_copyload_i_i287_i_i_i115;
-    P p_v_16_sroa_7_0_copyload_i_i289_i_i_i114;
-    u64 p_v_16_sroa_8_0_copyload_i_i291_i_i_i113;
+    P p_v_16_sroa_0_0_copyload_i_i285_i_i_i115;
+    u64 p_v_16_sroa_6_0_copyload_i_i287_i_i_i114;
+    P p_v_16_sroa_7_0_copyload_i_i289_i_i_i113;
+    u64 p_v_16_sroa_8_0_copyload_i_i291_i_i_i112;
     u64 p_v_16_sroa_8_0_copyload_i_i340_i_i_i_ph;
     P p_v_16_sroa_7_0_copyload_i_i338_i_i_i_ph;
     u64 p_v_16_sroa_6_0_copyload_i_i336_i_i_i_ph;
@@ -5203,10 +5203,10 @@ static u32 proved_private_key_info_encode(P v_info, P v_out, u64 v_out_len, P v_
     P p_v_16_sroa_7_0_copyload_i_i338_i_i_i;
     u64 p_v_16_sroa_6_0_copyload_i_i336_i_i_i;
     P p_v_16_sroa_0_0_copyload_i_i334_i_i_i;
-    P p_v_16_sroa_0_0_copyload_i_i334_i_i_i125;
-    u64 p_v_16_sroa_6_0_copyload_i_i336_i_i_i124;
-    P p_v_16_sroa_7_0_copyload_i_i338_i_i_i123;
-    u64 p_v_16_sroa_8_0_copyload_i_i340_i_i_i122;
+    P p_v_16_sroa_0_0_copyload_i_i334_i_i_i124;
+    u64 p_v_16_sroa_6_0_copyload_i_i336_i_i_i123;
+    P p_v_16_sroa_7_0_copyload_i_i338_i_i_i122;
+    u64 p_v_16_sroa_8_0_copyload_i_i340_i_i_i121;
     u64 p_v_16_sroa_8_0_copyload_i_i385_i_i_i_ph;
     P p_v_16_sroa_7_0_copyload_i_i383_i_i_i_ph;
     u64 p_v_16_sroa_6_0_copyload_i_i381_i_i_i_ph;
@@ -5215,30 +5215,30 @@ static u32 proved_private_key_info_encode(P v_info, P v_out, u64 v_out_len, P v_
     P p_v_16_sroa_7_0_copyload_i_i383_i_i_i;
     u64 p_v_16_sroa_6_0_copyload_i_i381_i_i_i;
     P p_v_16_sroa_0_0_copyload_i_i379_i_i_i;
-    P p_v_16_sroa_0_0_copyload_i_i379_i_i_i134;
-    u64 p_v_16_sroa_6_0_copyload_i_i381_i_i_i133;
-    P p_v_16_sroa_7_0_copyload_i_i383_i_i_i132;
-    u64 p_v_16_sroa_8_0_copyload_i_i385_i_i_i131;
+    P p_v_16_sroa_0_0_copyload_i_i379_i_i_i133;
+    u64 p_v_16_sroa_6_0_copyload_i_i381_i_i_i132;
+    P p_v_16_sroa_7_0_copyload_i_i383_i_i_i131;
+    u64 p_v_16_sroa_8_0_copyload_i_i385_i_i_i130;
     u64 p_v_counter_i_sroa_0_0_i;
-    u64 p_v_encoding_sroa_0_0_i_i_i13_i_i_i_i;
+    u64 p_v_encoding_sroa_0_0_i_i_i15_i_i_i_i;
     u64 p_v_encoding_sroa_0_0_i_i_i_i_i;
     u64 p_v_encoding_sroa_0_0_i_i_i_i_i_i_i;
     u64 p_v_encoding_sroa_0_0_i_i_i_i_i_i;
-    u64 p_v_encoding_sroa_0_0_i_i454_i;
-    u64 p_v_0_sroa_0_0_i_i_i66_i_i;
-    u64 p_v_writer_sroa_98_1_i;
-    u64 p_v_0_sroa_0_0_i_i_i_i53_i_i_i_i;
-    u64 p_v_writer_sroa_98_2_i;
-    u64 p_v_writer_sroa_98_4_i143;
-    u64 p_v_0_sroa_0_0_i_i_i42_i_i;
-    u64 p_v_writer_sroa_98_5_i;
-    u64 p_v_writer_sroa_98_6_i;
-    u64 p_v_writer_sroa_98_7_i;
+    u64 p_v_encoding_sroa_0_0_i_i465_i;
+    u64 p_v_0_sroa_0_0_i_i_i80_i_i;
+    u64 p_v_writer_sroa_100_1_i;
+    u64 p_v_0_sroa_0_0_i_i_i_i61_i_i_i_i;
+    u64 p_v_writer_sroa_100_2_i;
+    u64 p_v_writer_sroa_100_4_i142;
+    u64 p_v_0_sroa_0_0_i_i_i56_i_i;
+    u64 p_v_writer_sroa_100_5_i;
+    u64 p_v_writer_sroa_100_6_i;
+    u64 p_v_writer_sroa_100_8_i;
     u32 p_v_0_sroa_0_0_i;
     u8 p_v_6_sroa_6_sroa_0_0_ph_ph_off0;
     u8 p_v_6_sroa_6_sroa_0_0_ph_off0_ph;
     u8 p_v_6_sroa_6_sroa_0_0_ph_off0;
-    u8 p_v_failure_sroa_0_0_extract_trunc148;
+    u8 p_v_failure_sroa_0_0_extract_trunc147;
     u32 p_v_0_sroa_0_0;
     P v_padded_i_i_i_i;
     P v_5_i_i374_i_i_i;
@@ -5304,9 +5304,9 @@ static u32 proved_private_key_info_encode(P v_info, P v_out, u64 v_out_len, P v_
     u64 v_16_sroa_6_0_copyload_i_i;
     P v_16_sroa_0_0_copyload_i_i;
     u1 v_4_i491_i_i;
-    P v_16_sroa_0_0_copyload_i_i60;
-    u64 v_16_sroa_6_0_copyload_i_i58;
-    u64 v_16_sroa_8_0_copyload_i_i56;
+    P v_16_sroa_0_0_copyload_i_i59;
+    u64 v_16_sroa_6_0_copyload_i_i57;
+    u64 v_16_sroa_8_0_copyload_i_i55;
     P v_17;
     u64 v_18;
     u8 v_12_i494_i_i;
@@ -5343,9 +5343,9 @@ static u32 proved_private_key_info_encode(P v_info, P v_out, u64 v_out_len, P v_
     u64 v_30;
     P v_31;
     u64 v_32;
-    P v_16_sroa_0_0_copyload_i_i59;
-    u64 v_16_sroa_6_0_copyload_i_i57;
-    u64 v_16_sroa_8_0_copyload_i_i55;
+    P v_16_sroa_0_0_copyload_i_i58;
+    u64 v_16_sroa_6_0_copyload_i_i56;
+    u64 v_16_sroa_8_0_copyload_i_i54;
     P v_33;
     u1 v_34;
     P v_35;
@@ -5354,7 +5354,7 @@ static u32 proved_private_key_info_encode(P v_info, P v_out, u64 v_out_len, P v_
     P v_16_sroa_7_0_copyload_i_i_i_pre_i;
     P v_16_sroa_8_0_5_sroa_idx_i_i_i_phi_trans_insert_i;
     u64 v_16_sroa_8_0_copyload_i_i_i_pre_i;
-    u64 v_16_sroa_8_0_copyload_i_i54;
+    u64 v_16_sroa_8_0_copyload_i_i53;
     u64 v_16_sroa_8_0_copyload_i_i_i_i;
     P v_16_sroa_7_0_copyload_i_i_i_i;
     u64 v_16_sroa_6_0_copyload_i_i_i_i;
@@ -5423,10 +5423,10 @@ static u32 proved_private_key_info_encode(P v_info, P v_out, u64 v_out_len, P v_
     u64 v_16_sroa_6_0_copyload_i_i_i_i_i;
     P v_16_sroa_0_0_copyload_i_i_i_i_i;
     u1 v_5_not_i_i148_i_i;
-    P v_16_sroa_0_0_copyload_i_i_i_i_i71;
-    u64 v_16_sroa_6_0_copyload_i_i_i_i_i70;
-    P v_16_sroa_7_0_copyload_i_i_i_i_i69;
-    u64 v_16_sroa_8_0_copyload_i_i_i_i_i68;
+    P v_16_sroa_0_0_copyload_i_i_i_i_i70;
+    u64 v_16_sroa_6_0_copyload_i_i_i_i_i69;
+    P v_16_sroa_7_0_copyload_i_i_i_i_i68;
+    u64 v_16_sroa_8_0_copyload_i_i_i_i_i67;
     u8 v_58;
     u1 v_59;
     u1 v_60;
@@ -5490,10 +5490,10 @@ static u32 proved_private_key_info_encode(P v_info, P v_out, u64 v_out_len, P v_
     u64 v_16_sroa_6_0_copyload_i_i35_i_i_i;
     P v_16_sroa_0_0_copyload_i_i33_i_i_i;
     u1 v_5_not_i_i128_i_i;
-    P v_16_sroa_0_0_copyload_i_i33_i_i_i80;
-    u64 v_16_sroa_6_0_copyload_i_i35_i_i_i79;
-    P v_16_sroa_7_0_copyload_i_i37_i_i_i78;
-    u64 v_16_sroa_8_0_copyload_i_i39_i_i_i77;
+    P v_16_sroa_0_0_copyload_i_i33_i_i_i79;
+    u64 v_16_sroa_6_0_copyload_i_i35_i_i_i78;
+    P v_16_sroa_7_0_copyload_i_i37_i_i_i77;
+    u64 v_16_sroa_8_0_copyload_i_i39_i_i_i76;
     u8 v_80;
     u1 v_81;
     u1 v_82;
@@ -5557,10 +5557,10 @@ static u32 proved_private_key_info_encode(P v_info, P v_out, u64 v_out_len, P v_
     u64 v_16_sroa_6_0_copyload_i_i98_i_i_i;
     P v_16_sroa_0_0_copyload_i_i96_i_i_i;
     u1 v_5_not_i_i108_i_i;
-    P v_16_sroa_0_0_copyload_i_i96_i_i_i89;
-    u64 v_16_sroa_6_0_copyload_i_i98_i_i_i88;
-    P v_16_sroa_7_0_copyload_i_i100_i_i_i87;
-    u64 v_16_sroa_8_0_copyload_i_i102_i_i_i86;
+    P v_16_sroa_0_0_copyload_i_i96_i_i_i88;
+    u64 v_16_sroa_6_0_copyload_i_i98_i_i_i87;
+    P v_16_sroa_7_0_copyload_i_i100_i_i_i86;
+    u64 v_16_sroa_8_0_copyload_i_i102_i_i_i85;
     u8 v_102;
     u1 v_103;
     u1 v_104;
@@ -5624,10 +5624,10 @@ static u32 proved_private_key_info_encode(P v_info, P v_out, u64 v_out_len, P v_
     u64 v_16_sroa_6_0_copyload_i_i161_i_i_i;
     P v_16_sroa_0_0_copyload_i_i159_i_i_i;
     u1 v_5_not_i_i88_i_i;
-    P v_16_sroa_0_0_copyload_i_i159_i_i_i98;
-    u64 v_16_sroa_6_0_copyload_i_i161_i_i_i97;
-    P v_16_sroa_7_0_copyload_i_i163_i_i_i96;
-    u64 v_16_sroa_8_0_copyload_i_i165_i_i_i95;
+    P v_16_sroa_0_0_copyload_i_i159_i_i_i97;
+    u64 v_16_sroa_6_0_copyload_i_i161_i_i_i96;
+    P v_16_sroa_7_0_copyload_i_i163_i_i_i95;
+    u64 v_16_sroa_8_0_copyload_i_i165_i_i_i94;
     u8 v_124;
     u1 v_125;
     u1 v_126;
@@ -5691,10 +5691,10 @@ static u32 proved_private_key_info_encode(P v_info, P v_out, u64 v_out_len, P v_
     u64 v_16_sroa_6_0_copyload_i_i224_i_i_i;
     P v_16_sroa_0_0_copyload_i_i222_i_i_i;
     u1 v_5_not_i_i68_i_i;
-    P v_16_sroa_0_0_copyload_i_i222_i_i_i107;
-    u64 v_16_sroa_6_0_copyload_i_i224_i_i_i106;
-    P v_16_sroa_7_0_copyload_i_i226_i_i_i105;
-    u64 v_16_sroa_8_0_copyload_i_i228_i_i_i104;
+    P v_16_sroa_0_0_copyload_i_i222_i_i_i106;
+    u64 v_16_sroa_6_0_copyload_i_i224_i_i_i105;
+    P v_16_sroa_7_0_copyload_i_i226_i_i_i104;
+    u64 v_16_sroa_8_0_copyload_i_i228_i_i_i103;
     u8 v_146;
     u1 v_147;
     u1 v_148;
@@ -5758,10 +5758,10 @@ static u32 proved_private_key_info_encode(P v_info, P v_out, u64 v_out_len, P v_
     u64 v_16_sroa_6_0_copyload_i_i287_i_i_i;
     P v_16_sroa_0_0_copyload_i_i285_i_i_i;
     u1 v_5_not_i_i48_i_i;
-    P v_16_sroa_0_0_copyload_i_i285_i_i_i116;
-    u64 v_16_sroa_6_0_copyload_i_i287_i_i_i115;
-    P v_16_sroa_7_0_copyload_i_i289_i_i_i114;
-    u64 v_16_sroa_8_0_copyload_i_i291_i_i_i113;
+    P v_16_sroa_0_0_copyload_i_i285_i_i_i115;
+    u64 v_16_sroa_6_0_copyload_i_i287_i_i_i114;
+    P v_16_sroa_7_0_copyload_i_i289_i_i_i113;
+    u64 v_16_sroa_8_0_copyload_i_i291_i_i_i112;
     u8 v_168;
     u1 v_169;
     u1 v_170;
@@ -5825,10 +5825,10 @@ static u32 proved_private_key_info_encode(P v_info, P v_out, u64 v_out_len, P v_
     u64 v_16_sroa_6_0_copyload_i_i336_i_i_i;
     P v_16_sroa_0_0_copyload_i_i334_i_i_i;
     u1 v_5_not_i_i28_i_i;
-    P v_16_sroa_0_0_copyload_i_i334_i_i_i125;
-    u64 v_16_sroa_6_0_copyload_i_i336_i_i_i124;
-    P v_16_sroa_7_0_copyload_i_i338_i_i_i123;
-    u64 v_16_sroa_8_0_copyload_i_i340_i_i_i122;
+    P v_16_sroa_0_0_copyload_i_i334_i_i_i124;
+    u64 v_16_sroa_6_0_copyload_i_i336_i_i_i123;
+    P v_16_sroa_7_0_copyload_i_i338_i_i_i122;
+    u64 v_16_sroa_8_0_copyload_i_i340_i_i_i121;
     u8 v_190;
     u1 v_191;
     u1 v_192;
@@ -5892,10 +5892,10 @@ static u32 proved_private_key_info_encode(P v_info, P v_out, u64 v_out_len, P v_
     u64 v_16_sroa_6_0_copyload_i_i381_i_i_i;
     P v_16_sroa_0_0_copyload_i_i379_i_i_i;
     u1 v_5_not_i_i_i_i;
-    P v_16_sroa_0_0_copyload_i_i379_i_i_i134;
-    u64 v_16_sroa_6_0_copyload_i_i381_i_i_i133;
-    P v_16_sroa_7_0_copyload_i_i383_i_i_i132;
-    u64 v_16_sroa_8_0_copyload_i_i385_i_i_i131;
+    P v_16_sroa_0_0_copyload_i_i379_i_i_i133;
+    u64 v_16_sroa_6_0_copyload_i_i381_i_i_i132;
+    P v_16_sroa_7_0_copyload_i_i383_i_i_i131;
+    u64 v_16_sroa_8_0_copyload_i_i385_i_i_i130;
     u8 v_212;
     u1 v_213;
     u1 v_214;
@@ -5923,50 +5923,50 @@ static u32 proved_private_key_info_encode(P v_info, P v_out, u64 v_out_len, P v_
     P v_222;
     u64 v_12_1_i;
     P v_padded_i_i_i_i_9_sroa_idx;
-    u1 v_9_i_i_i_i_i_i_i42_i;
+    u1 v_9_i_i_i_i_i_i_i43_i;
     u1 v_10_i_i_i_i_i_i_i_i;
     u64 v_223;
     u1 v_11_i_i_i_i_i_i_i_i;
     u64 v_224;
-    u1 v_12_i_i_i_i_i_i_i46_i;
+    u1 v_12_i_i_i_i_i_i_i47_i;
     u64 v_225;
     u64 v_226;
     u64 v_227;
     u64 v_counter_i_sroa_0_0_i;
     u64 v_228;
     u64 v_229;
-    u1 v_9_i_i_i5_i_i_i_i;
-    u1 v_10_i_i_i7_i_i_i_i;
+    u1 v_9_i_i_i7_i_i_i_i;
+    u1 v_10_i_i_i9_i_i_i_i;
     u64 v_230;
-    u1 v_11_i_i_i9_i_i_i_i;
+    u1 v_11_i_i_i11_i_i_i_i;
     u64 v_231;
-    u1 v_12_i_i_i11_i_i_i_i;
+    u1 v_12_i_i_i13_i_i_i_i;
     u64 v_232;
     u64 v_233;
     u64 v_234;
-    u64 v_encoding_sroa_0_0_i_i_i13_i_i_i_i;
+    u64 v_encoding_sroa_0_0_i_i_i15_i_i_i_i;
     u64 v_235;
     u64 v_236;
     u64 v_237;
     u64 v_238;
-    u1 v_9_i_i_i_i69_i;
+    u1 v_9_i_i_i_i70_i;
     u1 v_10_i_i_i_i_i;
     u64 v_239;
     u1 v_11_i_i_i_i_i;
     u64 v_240;
-    u1 v_12_i_i_i_i73_i;
+    u1 v_12_i_i_i_i74_i;
     u64 v_241;
     u64 v_242;
     u64 v_243;
     u64 v_encoding_sroa_0_0_i_i_i_i_i;
     u64 v_244;
     u64 v_245;
-    u1 v_9_i_i_i_i_i_i75_i;
+    u1 v_9_i_i_i_i_i_i76_i;
     u1 v_10_i_i_i_i_i_i_i;
     u64 v_246;
     u1 v_11_i_i_i_i_i_i_i;
     u64 v_247;
-    u1 v_12_i_i_i_i_i_i79_i;
+    u1 v_12_i_i_i_i_i_i80_i;
     u64 v_248;
     u64 v_249;
     u64 v_250;
@@ -5974,12 +5974,12 @@ static u32 proved_private_key_info_encode(P v_info, P v_out, u64 v_out_len, P v_
     u64 v_251;
     u64 v_252;
     u64 v_253;
-    u1 v_9_i_i_i_i_i81_i;
+    u1 v_9_i_i_i_i_i84_i;
     u1 v_10_i_i_i_i_i_i;
     u64 v_254;
     u1 v_11_i_i_i_i_i_i;
     u64 v_255;
-    u1 v_12_i_i_i_i_i85_i;
+    u1 v_12_i_i_i_i_i88_i;
     u64 v_256;
     u64 v_257;
     u64 v_258;
@@ -5995,12 +5995,12 @@ static u32 proved_private_key_info_encode(P v_info, P v_out, u64 v_out_len, P v_
     u64 v_263;
     u64 v_264;
     u1 v_13_i_i5;
-    u64 v_encoding_sroa_0_0_i_i454_i;
+    u64 v_encoding_sroa_0_0_i_i465_i;
     u1 v_9_i;
-    u1 v_4_i_i_i54_i_i;
-    u64 v_start1_i_i_i56_i_i;
+    u1 v_4_i_i_i68_i_i;
+    u64 v_start1_i_i_i70_i_i;
     P v_265;
-    u64 v_0_sroa_0_0_i_i_i66_i_i;
+    u64 v_0_sroa_0_0_i_i_i80_i_i;
     u64 v_5_i_i_i_i_i_i_i_i;
     u32 v_13_i_i_i4_i_i_i_i_i;
     u1 v_4_i_i_i_i5_i_i_i_i_i;
@@ -6056,91 +6056,91 @@ static u32 proved_private_key_info_encode(P v_info, P v_out, u64 v_out_len, P v_
     P v_25_i_i_i_i_i_i_i_i_sroa_5_0_sroa_idx_i;
     P v_25_i_i_i_i_i_i_i_i_sroa_6_0_sroa_idx_i;
     P v_25_i_i_i_i_i_i_i_i_sroa_7_0_sroa_idx_i;
-    u64 v_writer_sroa_98_1_i;
+    u64 v_writer_sroa_100_1_i;
     u1 v_4_i_i_i15_i_i_i_i_i;
-    u1 v_10_not_i_i_i_i47_i_i_i_i;
-    u64 v_start1_i_i_i_i46_i_i_i_i;
+    u1 v_10_not_i_i_i_i55_i_i_i_i;
+    u64 v_start1_i_i_i_i54_i_i_i_i;
     P v_272;
-    u64 v_0_sroa_0_0_i_i_i_i53_i_i_i_i;
-    u64 v_5_i_i_i56_i_i_i_i;
-    u32 v_13_i_i_i57_i_i_i_i;
-    u1 v_4_i_i_i_i59_i_i_i_i;
-    u1 v_9_i_i_i_i61_i_i_i_i;
-    u16 v_8_i_i_i_i159_i_i_i_i;
-    u1 v_4_i_i_i_i_i163_i_i_i_i;
-    u1 v_10_not_i_i_i_i_i166_i_i_i_i;
-    u64 v_start1_i_i_i_i_i165_i_i_i_i;
+    u64 v_0_sroa_0_0_i_i_i_i61_i_i_i_i;
+    u64 v_5_i_i_i64_i_i_i_i;
+    u32 v_13_i_i_i65_i_i_i_i;
+    u1 v_4_i_i_i_i67_i_i_i_i;
+    u1 v_9_i_i_i_i69_i_i_i_i;
+    u16 v_8_i_i_i_i167_i_i_i_i;
+    u1 v_4_i_i_i_i_i171_i_i_i_i;
+    u1 v_10_not_i_i_i_i_i174_i_i_i_i;
+    u64 v_start1_i_i_i_i_i173_i_i_i_i;
     P v_273;
-    u16 v_7_i_i_i_i40_i_i_i_sroa_0_sroa_4_0_insert_shift_i;
-    u16 v_7_i_i_i_i40_i_i_i_sroa_0_sroa_0_0_insert_insert_i;
-    u1 v_14_i_i_i_i63_i_i_i_i;
-    u8 v_13_i_i_i_i139_i_i_i_i;
-    u1 v_4_i11_i_i_i_i143_i_i_i_i;
-    u1 v_10_not_i14_i_i_i_i146_i_i_i_i;
-    u64 v_start1_i13_i_i_i_i145_i_i_i_i;
+    u16 v_7_i_i_i_i48_i_i_i_sroa_0_sroa_4_0_insert_shift_i;
+    u16 v_7_i_i_i_i48_i_i_i_sroa_0_sroa_0_0_insert_insert_i;
+    u1 v_14_i_i_i_i71_i_i_i_i;
+    u8 v_13_i_i_i_i147_i_i_i_i;
+    u1 v_4_i11_i_i_i_i151_i_i_i_i;
+    u1 v_10_not_i14_i_i_i_i154_i_i_i_i;
+    u64 v_start1_i13_i_i_i_i153_i_i_i_i;
     P v_274;
-    P v_12_i_i_i_i39_i_i_i_sroa_4_0_sroa_idx_i;
-    P v_12_i_i_i_i39_i_i_i_sroa_5_0_sroa_idx_i;
-    u1 v_22_i_i_i_i65_i_i_i_i;
-    u1 v_4_i30_i_i_i_i123_i_i_i_i;
-    u1 v_10_not_i33_i_i_i_i126_i_i_i_i;
-    u64 v_start1_i32_i_i_i_i125_i_i_i_i;
+    P v_12_i_i_i_i47_i_i_i_sroa_4_0_sroa_idx_i;
+    P v_12_i_i_i_i47_i_i_i_sroa_5_0_sroa_idx_i;
+    u1 v_22_i_i_i_i73_i_i_i_i;
+    u1 v_4_i30_i_i_i_i131_i_i_i_i;
+    u1 v_10_not_i33_i_i_i_i134_i_i_i_i;
+    u64 v_start1_i32_i_i_i_i133_i_i_i_i;
     P v_275;
     u32 v_276;
-    u32 v_17_i_i_i_i38_i_i_i_sroa_0_sroa_0_0_insert_insert_i;
-    u64 v_371_i_i_i_i67_i_i_i_i;
-    u8 v_36_i_i_i_i68_i_i_i_i;
-    u64 v_402_i_i_i_i69_i_i_i_i;
-    u8 v_38_i_i_i_i70_i_i_i_i;
-    u64 v_433_i_i_i_i71_i_i_i_i;
-    u8 v_41_i_i_i_i72_i_i_i_i;
-    u8 v_44_i_i_i_i73_i_i_i_i;
-    u1 v_4_i68_i_i_i_i77_i_i_i_i;
-    u1 v_10_not_i71_i_i_i_i80_i_i_i_i;
-    u64 v_start1_i70_i_i_i_i79_i_i_i_i;
+    u32 v_17_i_i_i_i46_i_i_i_sroa_0_sroa_0_0_insert_insert_i;
+    u64 v_371_i_i_i_i75_i_i_i_i;
+    u8 v_36_i_i_i_i76_i_i_i_i;
+    u64 v_402_i_i_i_i77_i_i_i_i;
+    u8 v_38_i_i_i_i78_i_i_i_i;
+    u64 v_433_i_i_i_i79_i_i_i_i;
+    u8 v_41_i_i_i_i80_i_i_i_i;
+    u8 v_44_i_i_i_i81_i_i_i_i;
+    u1 v_4_i68_i_i_i_i85_i_i_i_i;
+    u1 v_10_not_i71_i_i_i_i88_i_i_i_i;
+    u64 v_start1_i70_i_i_i_i87_i_i_i_i;
     P v_277;
-    P v_35_i_i_i_i36_i_i_i_sroa_4_0_sroa_idx_i;
-    P v_35_i_i_i_i36_i_i_i_sroa_5_0_sroa_idx_i;
-    P v_35_i_i_i_i36_i_i_i_sroa_6_0_sroa_idx_i;
-    P v_35_i_i_i_i36_i_i_i_sroa_7_0_sroa_idx_i;
-    P v_35_i_i_i_i36_i_i_i_sroa_8_0_sroa_idx_i;
-    u64 v_274_i_i_i_i93_i_i_i_i;
-    u8 v_26_i_i_i_i94_i_i_i_i;
-    u64 v_305_i_i_i_i95_i_i_i_i;
-    u8 v_28_i_i_i_i96_i_i_i_i;
-    u8 v_31_i_i_i_i97_i_i_i_i;
-    u1 v_4_i49_i_i_i_i101_i_i_i_i;
-    u1 v_10_not_i52_i_i_i_i104_i_i_i_i;
-    u64 v_start1_i51_i_i_i_i103_i_i_i_i;
+    P v_35_i_i_i_i44_i_i_i_sroa_4_0_sroa_idx_i;
+    P v_35_i_i_i_i44_i_i_i_sroa_5_0_sroa_idx_i;
+    P v_35_i_i_i_i44_i_i_i_sroa_6_0_sroa_idx_i;
+    P v_35_i_i_i_i44_i_i_i_sroa_7_0_sroa_idx_i;
+    P v_35_i_i_i_i44_i_i_i_sroa_8_0_sroa_idx_i;
+    u64 v_274_i_i_i_i101_i_i_i_i;
+    u8 v_26_i_i_i_i102_i_i_i_i;
+    u64 v_305_i_i_i_i103_i_i_i_i;
+    u8 v_28_i_i_i_i104_i_i_i_i;
+    u8 v_31_i_i_i_i105_i_i_i_i;
+    u1 v_4_i49_i_i_i_i109_i_i_i_i;
+    u1 v_10_not_i52_i_i_i_i112_i_i_i_i;
+    u64 v_start1_i51_i_i_i_i111_i_i_i_i;
     P v_278;
-    P v_25_i_i_i_i37_i_i_i_sroa_4_0_sroa_idx_i;
-    P v_25_i_i_i_i37_i_i_i_sroa_5_0_sroa_idx_i;
-    P v_25_i_i_i_i37_i_i_i_sroa_6_0_sroa_idx_i;
-    P v_25_i_i_i_i37_i_i_i_sroa_7_0_sroa_idx_i;
-    u64 v_writer_sroa_98_2_i;
-    u1 v_10_not_i_i_i_i14_i;
-    u1 v_4_i_i_i_i18_i_i;
+    P v_25_i_i_i_i45_i_i_i_sroa_4_0_sroa_idx_i;
+    P v_25_i_i_i_i45_i_i_i_sroa_5_0_sroa_idx_i;
+    P v_25_i_i_i_i45_i_i_i_sroa_6_0_sroa_idx_i;
+    P v_25_i_i_i_i45_i_i_i_sroa_7_0_sroa_idx_i;
+    u64 v_writer_sroa_100_2_i;
+    u1 v_10_not_i_i_i_i15_i;
+    u1 v_4_i_i_i_i32_i_i;
     u64 v_start1_i_i_i_i_i_i;
     P v_279;
-    u1 v_4_i_i_i30_i_i;
-    u1 v_10_not_i_i_i33_i_i;
-    u64 v_start1_i_i_i32_i_i;
+    u1 v_4_i_i_i44_i_i;
+    u1 v_10_not_i_i_i47_i_i;
+    u64 v_start1_i_i_i46_i_i;
     P v_280;
-    u64 v_writer_sroa_98_4_i143;
-    u64 v_0_sroa_0_0_i_i_i42_i_i;
-    u64 v_5_i_i_i_i_i8;
+    u64 v_writer_sroa_100_4_i142;
+    u64 v_0_sroa_0_0_i_i_i56_i_i;
+    u64 v_5_i_i_i6_i_i;
     u32 v_13_i_i_i_i_i;
-    u1 v_4_i_i_i_i4_i_i;
+    u1 v_4_i_i_i_i7_i_i;
     u1 v_9_i_i_i_i_i_i;
-    u16 v_8_i_i_i_i7_i_i;
-    u1 v_4_i_i_i_i_i8_i_i;
-    u1 v_10_not_i_i_i_i_i_i_i;
-    u64 v_start1_i_i_i_i_i_i_i;
+    u16 v_8_i_i_i_i10_i_i;
+    u1 v_4_i_i_i_i_i11_i_i;
+    u1 v_10_not_i_i_i_i_i14_i_i;
+    u64 v_start1_i_i_i_i_i13_i_i;
     P v_281;
     u16 v_7_i_i_i_i_i_sroa_0_sroa_4_0_insert_shift_i;
     u16 v_7_i_i_i_i_i_sroa_0_sroa_0_0_insert_insert_i;
     u1 v_14_i_i_i_i_i_i;
-    u8 v_13_i_i_i_i6_i_i;
+    u8 v_13_i_i_i_i9_i_i;
     u1 v_4_i11_i_i_i_i_i_i;
     u1 v_10_not_i14_i_i_i_i_i_i;
     u64 v_start1_i13_i_i_i_i_i_i;
@@ -6183,11 +6183,11 @@ static u32 proved_private_key_info_encode(P v_info, P v_out, u64 v_out_len, P v_
     P v_25_i_i_i_i_i_sroa_5_0_sroa_idx_i;
     P v_25_i_i_i_i_i_sroa_6_0_sroa_idx_i;
     P v_25_i_i_i_i_i_sroa_7_0_sroa_idx_i;
-    u64 v_writer_sroa_98_5_i;
+    u64 v_writer_sroa_100_5_i;
     u64 v_5_i_i_i_i_i_i_i;
-    u32 v_13_i_i_i7_i_i_i_i;
-    u1 v_4_i_i_i_i8_i_i_i_i;
-    u1 v_9_i_i_i_i10_i_i_i_i;
+    u32 v_13_i_i_i15_i_i_i_i;
+    u1 v_4_i_i_i_i16_i_i_i_i;
+    u1 v_9_i_i_i_i18_i_i_i_i;
     u16 v_8_i_i_i_i_i_i_i_i;
     u1 v_4_i_i_i_i_i_i_i_i_i;
     u1 v_10_not_i_i_i_i_i_i_i_i_i;
@@ -6201,8 +6201,8 @@ static u32 proved_private_key_info_encode(P v_info, P v_out, u64 v_out_len, P v_
     u1 v_10_not_i14_i_i_i_i_i_i_i_i;
     u64 v_start1_i13_i_i_i_i_i_i_i_i;
     P v_288;
-    P v_12_i_i_i_i3_i_i_i_sroa_4_0_sroa_idx_i;
-    P v_12_i_i_i_i3_i_i_i_sroa_5_0_sroa_idx_i;
+    P v_12_i_i_i_i10_i_i_i_sroa_4_0_sroa_idx_i;
+    P v_12_i_i_i_i10_i_i_i_sroa_5_0_sroa_idx_i;
     u1 v_22_i_i_i_i_i_i_i_i;
     u1 v_4_i30_i_i_i_i_i_i_i_i;
     u1 v_10_not_i33_i_i_i_i_i_i_i_i;
@@ -6239,7 +6239,7 @@ static u32 proved_private_key_info_encode(P v_info, P v_out, u64 v_out_len, P v_
     P v_25_i_i_i_i_i_i_i_sroa_5_0_sroa_idx_i;
     P v_25_i_i_i_i_i_i_i_sroa_6_0_sroa_idx_i;
     P v_25_i_i_i_i_i_i_i_sroa_7_0_sroa_idx_i;
-    u64 v_writer_sroa_98_6_i;
+    u64 v_writer_sroa_100_6_i;
     u1 v_4_i_i8_i_i_i_i_i;
     u1 v_10_not_i_i11_i_i_i_i_i;
     u64 v_start1_i_i10_i_i_i_i_i;
@@ -6248,9 +6248,9 @@ static u32 proved_private_key_info_encode(P v_info, P v_out, u64 v_out_len, P v_
     u1 v_10_not_i_i_i_i_i_i_i_i;
     u64 v_start1_i_i_i_i_i_i_i_i;
     P v_294;
-    u64 v_writer_sroa_98_7_i;
+    u64 v_writer_sroa_100_8_i;
     u64 v_5_i_i_i;
-    u32 v_13_i_i_i9;
+    u32 v_13_i_i_i8;
     u1 v_4_i_i_i_i;
     u1 v_9_i_i_i_i;
     u16 v_8_i_i_i_i;
@@ -6261,7 +6261,7 @@ static u32 proved_private_key_info_encode(P v_info, P v_out, u64 v_out_len, P v_
     u16 v_7_i_i_i_sroa_0_sroa_4_0_insert_shift_i;
     u16 v_7_i_i_i_sroa_0_sroa_0_0_insert_insert_i;
     u1 v_14_i_i_i_i;
-    u8 v_13_i_i_i_i15;
+    u8 v_13_i_i_i_i14;
     u1 v_4_i11_i_i_i_i;
     u1 v_10_not_i14_i_i_i_i;
     P v_297;
@@ -6313,7 +6313,7 @@ static u32 proved_private_key_info_encode(P v_info, P v_out, u64 v_out_len, P v_
     u1 v_308;
     u64 v_309;
     u64 v_2_i;
-    u8 v_failure_sroa_0_0_extract_trunc148;
+    u8 v_failure_sroa_0_0_extract_trunc147;
     u32 v_0_sroa_0_0;
     v_padded_i_i_i_i = AT(m_v_padded_i_i_i_i);
     v_5_i_i374_i_i_i = AT(m_v_5_i_i374_i_i_i);
@@ -6412,24 +6412,24 @@ L_bb9_i_i_thread:;
     v_16_sroa_8_0_copyload_i_i_ph = p_v_16_sroa_8_0_copyload_i_i_ph;
     v_16_sroa_6_0_copyload_i_i_ph = p_v_16_sroa_6_0_copyload_i_i_ph;
     v_16_sroa_0_0_copyload_i_i_ph = p_v_16_sroa_0_0_copyload_i_i_ph;
-    { p_v_16_sroa_0_0_copyload_i_i60 = v_16_sroa_0_0_copyload_i_i_ph; p_v_16_sroa_6_0_copyload_i_i58 = v_16_sroa_6_0_copyload_i_i_ph; p_v_16_sroa_8_0_copyload_i_i56 = v_16_sroa_8_0_copyload_i_i_ph; goto L_bb2_i493_i_i; }
+    { p_v_16_sroa_0_0_copyload_i_i59 = v_16_sroa_0_0_copyload_i_i_ph; p_v_16_sroa_6_0_copyload_i_i57 = v_16_sroa_6_0_copyload_i_i_ph; p_v_16_sroa_8_0_copyload_i_i55 = v_16_sroa_8_0_copyload_i_i_ph; goto L_bb2_i493_i_i; }
 L_bb9_i_i:;
     v_16_sroa_8_0_copyload_i_i = p_v_16_sroa_8_0_copyload_i_i;
     v_16_sroa_6_0_copyload_i_i = p_v_16_sroa_6_0_copyload_i_i;
     v_16_sroa_0_0_copyload_i_i = p_v_16_sroa_0_0_copyload_i_i;
     v_4_i491_i_i = v_16_sroa_6_0_copyload_i_i > 1u;
-    if (v_4_i491_i_i) { p_v_16_sroa_0_0_copyload_i_i60 = v_16_sroa_0_0_copyload_i_i; p_v_16_sroa_6_0_copyload_i_i58 = v_16_sroa_6_0_copyload_i_i; p_v_16_sroa_8_0_copyload_i_i56 = v_16_sroa_8_0_copyload_i_i; goto L_bb2_i493_i_i; } else { p_v_16_sroa_0_0_copyload_i_i59 = v_16_sroa_0_0_copyload_i_i; p_v_16_sroa_6_0_copyload_i_i57 = v_16_sroa_6_0_copyload_i_i; p_v_16_sroa_8_0_copyload_i_i55 = v_16_sroa_8_0_copyload_i_i; goto L_bb7_i_i_i_i; }
+    if (v_4_i491_i_i) { p_v_16_sroa_0_0_copyload_i_i59 = v_16_sroa_0_0_copyload_i_i; p_v_16_sroa_6_0_copyload_i_i57 = v_16_sroa_6_0_copyload_i_i; p_v_16_sroa_8_0_copyload_i_i55 = v_16_sroa_8_0_copyload_i_i; goto L_bb2_i493_i_i; } else { p_v_16_sroa_0_0_copyload_i_i58 = v_16_sroa_0_0_copyload_i_i; p_v_16_sroa_6_0_copyload_i_i56 = v_16_sroa_6_0_copyload_i_i; p_v_16_sroa_8_0_copyload_i_i54 = v_16_sroa_8_0_copyload_i_i; goto L_bb7_i_i_i_i; }
 L_bb2_i493_i_i:;
-    v_16_sroa_0_0_copyload_i_i60 = p_v_16_sroa_0_0_copyload_i_i60;
-    v_16_sroa_6_0_copyload_i_i58 = p_v_16_sroa_6_0_copyload_i_i58;
-    v_16_sroa_8_0_copyload_i_i56 = p_v_16_sroa_8_0_copyload_i_i56;
-    v_17 = v_16_sroa_0_0_copyload_i_i60 + 2;
-    v_18 = (u64)((u64)(v_16_sroa_6_0_copyload_i_i58) + (u64)(18446744073709551614ull));
-    v_12_i494_i_i = get_u8(v_16_sroa_0_0_copyload_i_i60);
+    v_16_sroa_0_0_copyload_i_i59 = p_v_16_sroa_0_0_copyload_i_i59;
+    v_16_sroa_6_0_copyload_i_i57 = p_v_16_sroa_6_0_copyload_i_i57;
+    v_16_sroa_8_0_copyload_i_i55 = p_v_16_sroa_8_0_copyload_i_i55;
+    v_17 = v_16_sroa_0_0_copyload_i_i59 + 2;
+    v_18 = (u64)((u64)(v_16_sroa_6_0_copyload_i_i57) + (u64)(18446744073709551614ull));
+    v_12_i494_i_i = get_u8(v_16_sroa_0_0_copyload_i_i59);
     v_11_i495_i_i = v_12_i494_i_i == 2u;
-    if (v_11_i495_i_i) { goto L_bb3_i496_i_i; } else { p_v_16_sroa_0_0_copyload_i_i59 = v_16_sroa_0_0_copyload_i_i60; p_v_16_sroa_6_0_copyload_i_i57 = v_16_sroa_6_0_copyload_i_i58; p_v_16_sroa_8_0_copyload_i_i55 = v_16_sroa_8_0_copyload_i_i56; goto L_bb7_i_i_i_i; }
+    if (v_11_i495_i_i) { goto L_bb3_i496_i_i; } else { p_v_16_sroa_0_0_copyload_i_i58 = v_16_sroa_0_0_copyload_i_i59; p_v_16_sroa_6_0_copyload_i_i56 = v_16_sroa_6_0_copyload_i_i57; p_v_16_sroa_8_0_copyload_i_i54 = v_16_sroa_8_0_copyload_i_i55; goto L_bb7_i_i_i_i; }
 L_bb3_i496_i_i:;
-    v_19 = v_16_sroa_0_0_copyload_i_i60 + 1;
+    v_19 = v_16_sroa_0_0_copyload_i_i59 + 1;
     v_14_i497_i_i = get_u8(v_19);
     v_13_i498_i_i = (u8)(v_14_i497_i_i ^ ((u8)1 << 7)) > (u8)(255u ^ ((u8)1 << 7));
     if (v_13_i498_i_i) { goto L_bb5_i527_i_i; } else { goto L_bb6_i499_i_i; }
@@ -6439,58 +6439,58 @@ L_bb6_i499_i_i:;
 L_bb5_i527_i_i:;
     v_15_i528_i_i = (u64)v_14_i497_i_i;
     v_45_not_i529_i_i = v_18 < v_15_i528_i_i;
-    if (v_45_not_i529_i_i) { p_v_16_sroa_0_0_copyload_i_i59 = v_16_sroa_0_0_copyload_i_i60; p_v_16_sroa_6_0_copyload_i_i57 = v_16_sroa_6_0_copyload_i_i58; p_v_16_sroa_8_0_copyload_i_i55 = v_16_sroa_8_0_copyload_i_i56; goto L_bb7_i_i_i_i; } else { goto L_bb24_i530_i_i; }
+    if (v_45_not_i529_i_i) { p_v_16_sroa_0_0_copyload_i_i58 = v_16_sroa_0_0_copyload_i_i59; p_v_16_sroa_6_0_copyload_i_i56 = v_16_sroa_6_0_copyload_i_i57; p_v_16_sroa_8_0_copyload_i_i54 = v_16_sroa_8_0_copyload_i_i55; goto L_bb7_i_i_i_i; } else { goto L_bb24_i530_i_i; }
 L_bb7_i512_i_i:;
     v_19_i513_i_i = v_18 > 1u;
-    if (v_19_i513_i_i) { goto L_bb10_i515_i_i; } else { p_v_16_sroa_0_0_copyload_i_i59 = v_16_sroa_0_0_copyload_i_i60; p_v_16_sroa_6_0_copyload_i_i57 = v_16_sroa_6_0_copyload_i_i58; p_v_16_sroa_8_0_copyload_i_i55 = v_16_sroa_8_0_copyload_i_i56; goto L_bb7_i_i_i_i; }
+    if (v_19_i513_i_i) { goto L_bb10_i515_i_i; } else { p_v_16_sroa_0_0_copyload_i_i58 = v_16_sroa_0_0_copyload_i_i59; p_v_16_sroa_6_0_copyload_i_i56 = v_16_sroa_6_0_copyload_i_i57; p_v_16_sroa_8_0_copyload_i_i54 = v_16_sroa_8_0_copyload_i_i55; goto L_bb7_i_i_i_i; }
 L_bb8_i500_i_i:;
     v_35_not_i501_i_i = v_18 == 0u;
-    if (v_35_not_i501_i_i) { p_v_16_sroa_0_0_copyload_i_i59 = v_16_sroa_0_0_copyload_i_i60; p_v_16_sroa_6_0_copyload_i_i57 = 2u; p_v_16_sroa_8_0_copyload_i_i55 = v_16_sroa_8_0_copyload_i_i56; goto L_bb7_i_i_i_i; } else { goto L_bb14_i502_i_i; }
+    if (v_35_not_i501_i_i) { p_v_16_sroa_0_0_copyload_i_i58 = v_16_sroa_0_0_copyload_i_i59; p_v_16_sroa_6_0_copyload_i_i56 = 2u; p_v_16_sroa_8_0_copyload_i_i54 = v_16_sroa_8_0_copyload_i_i55; goto L_bb7_i_i_i_i; } else { goto L_bb14_i502_i_i; }
 L_bb10_i515_i_i:;
-    v_21 = v_16_sroa_0_0_copyload_i_i60 + 4;
-    v_22 = (u64)((u64)(v_16_sroa_6_0_copyload_i_i58) + (u64)(18446744073709551612ull));
+    v_21 = v_16_sroa_0_0_copyload_i_i59 + 4;
+    v_22 = (u64)((u64)(v_16_sroa_6_0_copyload_i_i57) + (u64)(18446744073709551612ull));
     v_27_i516_i_i = get_u8(v_17);
     v_26_not_i517_i_i = v_27_i516_i_i == 0u;
-    if (v_26_not_i517_i_i) { p_v_16_sroa_0_0_copyload_i_i59 = v_16_sroa_0_0_copyload_i_i60; p_v_16_sroa_6_0_copyload_i_i57 = v_16_sroa_6_0_copyload_i_i58; p_v_16_sroa_8_0_copyload_i_i55 = v_16_sroa_8_0_copyload_i_i56; goto L_bb7_i_i_i_i; } else { goto L_bb11_i518_i_i; }
+    if (v_26_not_i517_i_i) { p_v_16_sroa_0_0_copyload_i_i58 = v_16_sroa_0_0_copyload_i_i59; p_v_16_sroa_6_0_copyload_i_i56 = v_16_sroa_6_0_copyload_i_i57; p_v_16_sroa_8_0_copyload_i_i54 = v_16_sroa_8_0_copyload_i_i55; goto L_bb7_i_i_i_i; } else { goto L_bb11_i518_i_i; }
 L_bb11_i518_i_i:;
     v_30_i519_i_i = (u64)v_27_i516_i_i;
     v_29_i520_i_i = (u64)((u64)(v_30_i519_i_i) << (u64)((8u & 63)));
-    v_23 = v_16_sroa_0_0_copyload_i_i60 + 3;
+    v_23 = v_16_sroa_0_0_copyload_i_i59 + 3;
     v_33_i521_i_i = get_u8(v_23);
     v_32_i522_i_i = (u64)v_33_i521_i_i;
     v_28_i523_i_i = (u64)((u64)(v_29_i520_i_i) | (u64)(v_32_i522_i_i));
     v_48_not_i524_i_i = v_28_i523_i_i > v_22;
-    if (v_48_not_i524_i_i) { p_v_16_sroa_0_0_copyload_i_i59 = v_16_sroa_0_0_copyload_i_i60; p_v_16_sroa_6_0_copyload_i_i57 = v_16_sroa_6_0_copyload_i_i58; p_v_16_sroa_8_0_copyload_i_i55 = v_16_sroa_8_0_copyload_i_i56; goto L_bb7_i_i_i_i; } else { goto L_bb28_i525_i_i; }
+    if (v_48_not_i524_i_i) { p_v_16_sroa_0_0_copyload_i_i58 = v_16_sroa_0_0_copyload_i_i59; p_v_16_sroa_6_0_copyload_i_i56 = v_16_sroa_6_0_copyload_i_i57; p_v_16_sroa_8_0_copyload_i_i54 = v_16_sroa_8_0_copyload_i_i55; goto L_bb7_i_i_i_i; } else { goto L_bb28_i525_i_i; }
 L_bb28_i525_i_i:;
     v_24 = v_21 + (int64_t)(v_28_i523_i_i);
     v_25 = (u64)((u64)(v_22) - (u64)(v_28_i523_i_i));
-    { p_v_16_sroa_8_0_copyload_i_i54 = v_16_sroa_8_0_copyload_i_i56; p_v_16_sroa_8_0_copyload_i_i_i_i = v_25; p_v_16_sroa_7_0_copyload_i_i_i_i = v_24; p_v_16_sroa_6_0_copyload_i_i_i_i = v_28_i523_i_i; p_v_16_sroa_0_0_copyload_i_i_i_i = v_21; goto L_bb9_i_i_i_i; }
+    { p_v_16_sroa_8_0_copyload_i_i53 = v_16_sroa_8_0_copyload_i_i55; p_v_16_sroa_8_0_copyload_i_i_i_i = v_25; p_v_16_sroa_7_0_copyload_i_i_i_i = v_24; p_v_16_sroa_6_0_copyload_i_i_i_i = v_28_i523_i_i; p_v_16_sroa_0_0_copyload_i_i_i_i = v_21; goto L_bb9_i_i_i_i; }
 L_bb14_i502_i_i:;
-    v_26 = v_16_sroa_0_0_copyload_i_i60 + 3;
-    v_27 = (u64)((u64)(v_16_sroa_6_0_copyload_i_i58) + (u64)(18446744073709551613ull));
+    v_26 = v_16_sroa_0_0_copyload_i_i59 + 3;
+    v_27 = (u64)((u64)(v_16_sroa_6_0_copyload_i_i57) + (u64)(18446744073709551613ull));
     v_28 = v_14_i497_i_i == 129u;
-    if (v_28) { goto L_bb15_i504_i_i; } else { p_v_16_sroa_0_0_copyload_i_i59 = v_16_sroa_0_0_copyload_i_i60; p_v_16_sroa_6_0_copyload_i_i57 = v_16_sroa_6_0_copyload_i_i58; p_v_16_sroa_8_0_copyload_i_i55 = v_16_sroa_8_0_copyload_i_i56; goto L_bb7_i_i_i_i; }
+    if (v_28) { goto L_bb15_i504_i_i; } else { p_v_16_sroa_0_0_copyload_i_i58 = v_16_sroa_0_0_copyload_i_i59; p_v_16_sroa_6_0_copyload_i_i56 = v_16_sroa_6_0_copyload_i_i57; p_v_16_sroa_8_0_copyload_i_i54 = v_16_sroa_8_0_copyload_i_i55; goto L_bb7_i_i_i_i; }
 L_bb15_i504_i_i:;
     v_42_i505_i_i = get_u8(v_17);
     v_41_i506_i_i = (u8)(v_42_i505_i_i ^ ((u8)1 << 7)) < (u8)(0u ^ ((u8)1 << 7));
-    if (v_41_i506_i_i) { goto L_bb16_i507_i_i; } else { p_v_16_sroa_0_0_copyload_i_i59 = v_16_sroa_0_0_copyload_i_i60; p_v_16_sroa_6_0_copyload_i_i57 = v_16_sroa_6_0_copyload_i_i58; p_v_16_sroa_8_0_copyload_i_i55 = v_16_sroa_8_0_copyload_i_i56; goto L_bb7_i_i_i_i; }
+    if (v_41_i506_i_i) { goto L_bb16_i507_i_i; } else { p_v_16_sroa_0_0_copyload_i_i58 = v_16_sroa_0_0_copyload_i_i59; p_v_16_sroa_6_0_copyload_i_i56 = v_16_sroa_6_0_copyload_i_i57; p_v_16_sroa_8_0_copyload_i_i54 = v_16_sroa_8_0_copyload_i_i55; goto L_bb7_i_i_i_i; }
 L_bb16_i507_i_i:;
     v_43_i508_i_i = (u64)v_42_i505_i_i;
     v_51_not_i509_i_i = v_27 < v_43_i508_i_i;
-    if (v_51_not_i509_i_i) { p_v_16_sroa_0_0_copyload_i_i59 = v_16_sroa_0_0_copyload_i_i60; p_v_16_sroa_6_0_copyload_i_i57 = v_16_sroa_6_0_copyload_i_i58; p_v_16_sroa_8_0_copyload_i_i55 = v_16_sroa_8_0_copyload_i_i56; goto L_bb7_i_i_i_i; } else { goto L_bb32_i510_i_i; }
+    if (v_51_not_i509_i_i) { p_v_16_sroa_0_0_copyload_i_i58 = v_16_sroa_0_0_copyload_i_i59; p_v_16_sroa_6_0_copyload_i_i56 = v_16_sroa_6_0_copyload_i_i57; p_v_16_sroa_8_0_copyload_i_i54 = v_16_sroa_8_0_copyload_i_i55; goto L_bb7_i_i_i_i; } else { goto L_bb32_i510_i_i; }
 L_bb32_i510_i_i:;
     v_29 = v_26 + (int64_t)(v_43_i508_i_i);
     v_30 = (u64)((u64)(v_27) - (u64)(v_43_i508_i_i));
-    { p_v_16_sroa_8_0_copyload_i_i54 = v_16_sroa_8_0_copyload_i_i56; p_v_16_sroa_8_0_copyload_i_i_i_i = v_30; p_v_16_sroa_7_0_copyload_i_i_i_i = v_29; p_v_16_sroa_6_0_copyload_i_i_i_i = v_43_i508_i_i; p_v_16_sroa_0_0_copyload_i_i_i_i = v_26; goto L_bb9_i_i_i_i; }
+    { p_v_16_sroa_8_0_copyload_i_i53 = v_16_sroa_8_0_copyload_i_i55; p_v_16_sroa_8_0_copyload_i_i_i_i = v_30; p_v_16_sroa_7_0_copyload_i_i_i_i = v_29; p_v_16_sroa_6_0_copyload_i_i_i_i = v_43_i508_i_i; p_v_16_sroa_0_0_copyload_i_i_i_i = v_26; goto L_bb9_i_i_i_i; }
 L_bb24_i530_i_i:;
     v_31 = v_17 + (int64_t)(v_15_i528_i_i);
     v_32 = (u64)((u64)(v_18) - (u64)(v_15_i528_i_i));
-    { p_v_16_sroa_8_0_copyload_i_i54 = v_16_sroa_8_0_copyload_i_i56; p_v_16_sroa_8_0_copyload_i_i_i_i = v_32; p_v_16_sroa_7_0_copyload_i_i_i_i = v_31; p_v_16_sroa_6_0_copyload_i_i_i_i = v_15_i528_i_i; p_v_16_sroa_0_0_copyload_i_i_i_i = v_17; goto L_bb9_i_i_i_i; }
+    { p_v_16_sroa_8_0_copyload_i_i53 = v_16_sroa_8_0_copyload_i_i55; p_v_16_sroa_8_0_copyload_i_i_i_i = v_32; p_v_16_sroa_7_0_copyload_i_i_i_i = v_31; p_v_16_sroa_6_0_copyload_i_i_i_i = v_15_i528_i_i; p_v_16_sroa_0_0_copyload_i_i_i_i = v_17; goto L_bb9_i_i_i_i; }
 L_bb7_i_i_i_i:;
-    v_16_sroa_0_0_copyload_i_i59 = p_v_16_sroa_0_0_copyload_i_i59;
-    v_16_sroa_6_0_copyload_i_i57 = p_v_16_sroa_6_0_copyload_i_i57;
-    v_16_sroa_8_0_copyload_i_i55 = p_v_16_sroa_8_0_copyload_i_i55;
-    f_split_split_unlikely(v_5_i_i_i_i, v_16_sroa_0_0_copyload_i_i59, v_16_sroa_6_0_copyload_i_i57, 2u);
+    v_16_sroa_0_0_copyload_i_i58 = p_v_16_sroa_0_0_copyload_i_i58;
+    v_16_sroa_6_0_copyload_i_i56 = p_v_16_sroa_6_0_copyload_i_i56;
+    v_16_sroa_8_0_copyload_i_i54 = p_v_16_sroa_8_0_copyload_i_i54;
+    f_split_split_unlikely(v_5_i_i_i_i, v_16_sroa_0_0_copyload_i_i58, v_16_sroa_6_0_copyload_i_i56, 2u);
     v_33 = get_P(v_5_i_i_i_i);
     v_34 = v_33 == (P)0;
     v_35 = v_5_i_i_i_i + 8;
@@ -6501,22 +6501,22 @@ L_bb7_i_i_i_bb9_i_i_i_crit_edge_i:;
     v_16_sroa_7_0_copyload_i_i_i_pre_i = get_P(v_16_sroa_7_0_5_sroa_idx_i_i_i_phi_trans_insert_i);
     v_16_sroa_8_0_5_sroa_idx_i_i_i_phi_trans_insert_i = v_5_i_i_i_i + 24;
     v_16_sroa_8_0_copyload_i_i_i_pre_i = get_u64(v_16_sroa_8_0_5_sroa_idx_i_i_i_phi_trans_insert_i);
-    { p_v_16_sroa_8_0_copyload_i_i54 = v_16_sroa_8_0_copyload_i_i55; p_v_16_sroa_8_0_copyload_i_i_i_i = v_16_sroa_8_0_copyload_i_i_i_pre_i; p_v_16_sroa_7_0_copyload_i_i_i_i = v_16_sroa_7_0_copyload_i_i_i_pre_i; p_v_16_sroa_6_0_copyload_i_i_i_i = v_16_sroa_6_0_copyload_i_i_i_pre_i; p_v_16_sroa_0_0_copyload_i_i_i_i = v_33; goto L_bb9_i_i_i_i; }
+    { p_v_16_sroa_8_0_copyload_i_i53 = v_16_sroa_8_0_copyload_i_i54; p_v_16_sroa_8_0_copyload_i_i_i_i = v_16_sroa_8_0_copyload_i_i_i_pre_i; p_v_16_sroa_7_0_copyload_i_i_i_i = v_16_sroa_7_0_copyload_i_i_i_pre_i; p_v_16_sroa_6_0_copyload_i_i_i_i = v_16_sroa_6_0_copyload_i_i_i_pre_i; p_v_16_sroa_0_0_copyload_i_i_i_i = v_33; goto L_bb9_i_i_i_i; }
 L_bb9_i_i_i_i:;
-    v_16_sroa_8_0_copyload_i_i54 = p_v_16_sroa_8_0_copyload_i_i54;
+    v_16_sroa_8_0_copyload_i_i53 = p_v_16_sroa_8_0_copyload_i_i53;
     v_16_sroa_8_0_copyload_i_i_i_i = p_v_16_sroa_8_0_copyload_i_i_i_i;
     v_16_sroa_7_0_copyload_i_i_i_i = p_v_16_sroa_7_0_copyload_i_i_i_i;
     v_16_sroa_6_0_copyload_i_i_i_i = p_v_16_sroa_6_0_copyload_i_i_i_i;
     v_16_sroa_0_0_copyload_i_i_i_i = p_v_16_sroa_0_0_copyload_i_i_i_i;
     switch (v_16_sroa_6_0_copyload_i_i_i_i) {
     case 1u: { goto L_bb7_i535_i_i; }
-    case 0u: { p_v_6_sroa_6_sroa_0_0_ph_off0_ph = 3u; goto L_bb3_thread151; }
+    case 0u: { p_v_6_sroa_6_sroa_0_0_ph_off0_ph = 3u; goto L_bb3_thread150; }
     default: { goto L_bb1_i_i54_i; }
     }
 L_bb1_i_i54_i:;
     v_36 = get_u8(v_16_sroa_0_0_copyload_i_i_i_i);
     v_37 = v_36 == 0u;
-    if (v_37) { goto L_bb5_i_i60_i; } else { p_v_6_sroa_6_sroa_0_0_ph_off0_ph = 13u; goto L_bb3_thread151; }
+    if (v_37) { goto L_bb5_i_i60_i; } else { p_v_6_sroa_6_sroa_0_0_ph_off0_ph = 13u; goto L_bb3_thread150; }
 L_bb5_i_i60_i:;
     v_rest_0_i_i_i = v_16_sroa_0_0_copyload_i_i_i_i + 1;
     v_14_i_i61_i = get_u8(v_rest_0_i_i_i);
@@ -6526,7 +6526,7 @@ L_bb5_i_i60_i:;
 L_bb7_i535_i_i:;
     v_13_i536_i_i = get_u8(v_16_sroa_0_0_copyload_i_i_i_i);
     v_switch_i_i_i = v_13_i536_i_i < 2u;
-    if (v_switch_i_i_i) { goto L_memory_NoMemory_exit_i_i_i; } else { p_v_6_sroa_6_sroa_0_0_ph_off0_ph = 13u; goto L_bb3_thread151; }
+    if (v_switch_i_i_i) { goto L_memory_NoMemory_exit_i_i_i; } else { p_v_6_sroa_6_sroa_0_0_ph_off0_ph = 13u; goto L_bb3_thread150; }
 L_bb8_i_i_i_i:;
     v_17_sroa_0_0_copyload_i_i_i_i = get_24(v_35);
     v_38 = (u8)(v_17_sroa_0_0_copyload_i_i_i_i);
@@ -6616,48 +6616,48 @@ L_bb9_i_i_i_i_i_thread:;
     v_16_sroa_7_0_copyload_i_i_i_i_i_ph = p_v_16_sroa_7_0_copyload_i_i_i_i_i_ph;
     v_16_sroa_6_0_copyload_i_i_i_i_i_ph = p_v_16_sroa_6_0_copyload_i_i_i_i_i_ph;
     v_16_sroa_0_0_copyload_i_i_i_i_i_ph = p_v_16_sroa_0_0_copyload_i_i_i_i_i_ph;
-    { p_v_16_sroa_0_0_copyload_i_i_i_i_i71 = v_16_sroa_0_0_copyload_i_i_i_i_i_ph; p_v_16_sroa_6_0_copyload_i_i_i_i_i70 = v_16_sroa_6_0_copyload_i_i_i_i_i_ph; p_v_16_sroa_7_0_copyload_i_i_i_i_i69 = v_16_sroa_7_0_copyload_i_i_i_i_i_ph; p_v_16_sroa_8_0_copyload_i_i_i_i_i68 = v_16_sroa_8_0_copyload_i_i_i_i_i_ph; goto L_bb1_i_i149_i_i; }
+    { p_v_16_sroa_0_0_copyload_i_i_i_i_i70 = v_16_sroa_0_0_copyload_i_i_i_i_i_ph; p_v_16_sroa_6_0_copyload_i_i_i_i_i69 = v_16_sroa_6_0_copyload_i_i_i_i_i_ph; p_v_16_sroa_7_0_copyload_i_i_i_i_i68 = v_16_sroa_7_0_copyload_i_i_i_i_i_ph; p_v_16_sroa_8_0_copyload_i_i_i_i_i67 = v_16_sroa_8_0_copyload_i_i_i_i_i_ph; goto L_bb1_i_i149_i_i; }
 L_bb9_i_i_i_i_i:;
     v_16_sroa_8_0_copyload_i_i_i_i_i = p_v_16_sroa_8_0_copyload_i_i_i_i_i;
     v_16_sroa_7_0_copyload_i_i_i_i_i = p_v_16_sroa_7_0_copyload_i_i_i_i_i;
     v_16_sroa_6_0_copyload_i_i_i_i_i = p_v_16_sroa_6_0_copyload_i_i_i_i_i;
     v_16_sroa_0_0_copyload_i_i_i_i_i = p_v_16_sroa_0_0_copyload_i_i_i_i_i;
     v_5_not_i_i148_i_i = v_16_sroa_6_0_copyload_i_i_i_i_i == 0u;
-    if (v_5_not_i_i148_i_i) { p_v_6_sroa_6_sroa_0_0_ph_off0_ph = 3u; goto L_bb3_thread151; } else { p_v_16_sroa_0_0_copyload_i_i_i_i_i71 = v_16_sroa_0_0_copyload_i_i_i_i_i; p_v_16_sroa_6_0_copyload_i_i_i_i_i70 = v_16_sroa_6_0_copyload_i_i_i_i_i; p_v_16_sroa_7_0_copyload_i_i_i_i_i69 = v_16_sroa_7_0_copyload_i_i_i_i_i; p_v_16_sroa_8_0_copyload_i_i_i_i_i68 = v_16_sroa_8_0_copyload_i_i_i_i_i; goto L_bb1_i_i149_i_i; }
+    if (v_5_not_i_i148_i_i) { p_v_6_sroa_6_sroa_0_0_ph_off0_ph = 3u; goto L_bb3_thread150; } else { p_v_16_sroa_0_0_copyload_i_i_i_i_i70 = v_16_sroa_0_0_copyload_i_i_i_i_i; p_v_16_sroa_6_0_copyload_i_i_i_i_i69 = v_16_sroa_6_0_copyload_i_i_i_i_i; p_v_16_sroa_7_0_copyload_i_i_i_i_i68 = v_16_sroa_7_0_copyload_i_i_i_i_i; p_v_16_sroa_8_0_copyload_i_i_i_i_i67 = v_16_sroa_8_0_copyload_i_i_i_i_i; goto L_bb1_i_i149_i_i; }
 L_bb1_i_i149_i_i:;
-    v_16_sroa_0_0_copyload_i_i_i_i_i71 = p_v_16_sroa_0_0_copyload_i_i_i_i_i71;
-    v_16_sroa_6_0_copyload_i_i_i_i_i70 = p_v_16_sroa_6_0_copyload_i_i_i_i_i70;
-    v_16_sroa_7_0_copyload_i_i_i_i_i69 = p_v_16_sroa_7_0_copyload_i_i_i_i_i69;
-    v_16_sroa_8_0_copyload_i_i_i_i_i68 = p_v_16_sroa_8_0_copyload_i_i_i_i_i68;
-    v_58 = get_u8(v_16_sroa_0_0_copyload_i_i_i_i_i71);
+    v_16_sroa_0_0_copyload_i_i_i_i_i70 = p_v_16_sroa_0_0_copyload_i_i_i_i_i70;
+    v_16_sroa_6_0_copyload_i_i_i_i_i69 = p_v_16_sroa_6_0_copyload_i_i_i_i_i69;
+    v_16_sroa_7_0_copyload_i_i_i_i_i68 = p_v_16_sroa_7_0_copyload_i_i_i_i_i68;
+    v_16_sroa_8_0_copyload_i_i_i_i_i67 = p_v_16_sroa_8_0_copyload_i_i_i_i_i67;
+    v_58 = get_u8(v_16_sroa_0_0_copyload_i_i_i_i_i70);
     v_59 = v_58 == 0u;
     if (v_59) { goto L_bb4_i_i155_i_i; } else { goto L_bb3_i_i150_i_i; }
 L_bb4_i_i155_i_i:;
-    v_60 = v_16_sroa_6_0_copyload_i_i_i_i_i70 == 1u;
+    v_60 = v_16_sroa_6_0_copyload_i_i_i_i_i69 == 1u;
     if (v_60) { goto L_bb7_i7_i_i_i; } else { goto L_bb5_i_i158_i_i; }
 L_bb3_i_i150_i_i:;
     v_20_i_i151_i_i = (u8)(v_58 ^ ((u8)1 << 7)) > (u8)(255u ^ ((u8)1 << 7));
-    if (v_20_i_i151_i_i) { goto L_bb7_i7_i_i_i; } else { p_v_6_sroa_6_sroa_0_0_ph_off0_ph = 13u; goto L_bb3_thread151; }
+    if (v_20_i_i151_i_i) { goto L_bb7_i7_i_i_i; } else { p_v_6_sroa_6_sroa_0_0_ph_off0_ph = 13u; goto L_bb3_thread150; }
 L_bb5_i_i158_i_i:;
-    v_rest_0_i_i156_i_i = v_16_sroa_0_0_copyload_i_i_i_i_i71 + 1;
+    v_rest_0_i_i156_i_i = v_16_sroa_0_0_copyload_i_i_i_i_i70 + 1;
     v_14_i_i159_i_i = get_u8(v_rest_0_i_i156_i_i);
     v_13_i_i160_i_i = (u8)(v_14_i_i159_i_i ^ ((u8)1 << 7)) < (u8)(0u ^ ((u8)1 << 7));
-    if (v_13_i_i160_i_i) { goto L_bb7_i7_i_i_i; } else { p_v_6_sroa_6_sroa_0_0_ph_off0_ph = 4u; goto L_bb3_thread151; }
+    if (v_13_i_i160_i_i) { goto L_bb7_i7_i_i_i; } else { p_v_6_sroa_6_sroa_0_0_ph_off0_ph = 4u; goto L_bb3_thread150; }
 L_bb8_i_i_i_i_i:;
     v_17_sroa_0_0_copyload_i_i_i_i_i = get_24(v_57);
     v_5_i6_i_i_sroa_7_8_insert_ext147_i = (u8)(v_17_sroa_0_0_copyload_i_i_i_i_i);
     { p_v_6_sroa_6_sroa_0_0_ph_off0 = v_5_i6_i_i_sroa_7_8_insert_ext147_i; goto L_bb3; }
 L_bb7_i7_i_i_i:;
-    v_4_i401_i_i = v_16_sroa_8_0_copyload_i_i_i_i_i68 > 1u;
+    v_4_i401_i_i = v_16_sroa_8_0_copyload_i_i_i_i_i67 > 1u;
     if (v_4_i401_i_i) { goto L_bb2_i403_i_i; } else { goto L_bb7_i_i71_i_i_i; }
 L_bb2_i403_i_i:;
-    v_61 = v_16_sroa_7_0_copyload_i_i_i_i_i69 + 2;
-    v_62 = (u64)((u64)(v_16_sroa_8_0_copyload_i_i_i_i_i68) + (u64)(18446744073709551614ull));
-    v_12_i404_i_i = get_u8(v_16_sroa_7_0_copyload_i_i_i_i_i69);
+    v_61 = v_16_sroa_7_0_copyload_i_i_i_i_i68 + 2;
+    v_62 = (u64)((u64)(v_16_sroa_8_0_copyload_i_i_i_i_i67) + (u64)(18446744073709551614ull));
+    v_12_i404_i_i = get_u8(v_16_sroa_7_0_copyload_i_i_i_i_i68);
     v_11_i405_i_i = v_12_i404_i_i == 2u;
     if (v_11_i405_i_i) { goto L_bb3_i406_i_i; } else { goto L_bb7_i_i71_i_i_i; }
 L_bb3_i406_i_i:;
-    v_63 = v_16_sroa_7_0_copyload_i_i_i_i_i69 + 1;
+    v_63 = v_16_sroa_7_0_copyload_i_i_i_i_i68 + 1;
     v_14_i407_i_i = get_u8(v_63);
     v_13_i408_i_i = (u8)(v_14_i407_i_i ^ ((u8)1 << 7)) > (u8)(255u ^ ((u8)1 << 7));
     if (v_13_i408_i_i) { goto L_bb5_i437_i_i; } else { goto L_bb6_i409_i_i; }
@@ -6675,15 +6675,15 @@ L_bb8_i410_i_i:;
     v_35_not_i411_i_i = v_62 == 0u;
     if (v_35_not_i411_i_i) { goto L_bb7_i_i71_i_i_i; } else { goto L_bb14_i412_i_i; }
 L_bb10_i425_i_i:;
-    v_65 = v_16_sroa_7_0_copyload_i_i_i_i_i69 + 4;
-    v_66 = (u64)((u64)(v_16_sroa_8_0_copyload_i_i_i_i_i68) + (u64)(18446744073709551612ull));
+    v_65 = v_16_sroa_7_0_copyload_i_i_i_i_i68 + 4;
+    v_66 = (u64)((u64)(v_16_sroa_8_0_copyload_i_i_i_i_i67) + (u64)(18446744073709551612ull));
     v_27_i426_i_i = get_u8(v_61);
     v_26_not_i427_i_i = v_27_i426_i_i == 0u;
     if (v_26_not_i427_i_i) { goto L_bb7_i_i71_i_i_i; } else { goto L_bb11_i428_i_i; }
 L_bb11_i428_i_i:;
     v_30_i429_i_i = (u64)v_27_i426_i_i;
     v_29_i430_i_i = (u64)((u64)(v_30_i429_i_i) << (u64)((8u & 63)));
-    v_67 = v_16_sroa_7_0_copyload_i_i_i_i_i69 + 3;
+    v_67 = v_16_sroa_7_0_copyload_i_i_i_i_i68 + 3;
     v_33_i431_i_i = get_u8(v_67);
     v_32_i432_i_i = (u64)v_33_i431_i_i;
     v_28_i433_i_i = (u64)((u64)(v_29_i430_i_i) | (u64)(v_32_i432_i_i));
@@ -6694,8 +6694,8 @@ L_bb28_i435_i_i:;
     v_69 = (u64)((u64)(v_66) - (u64)(v_28_i433_i_i));
     { p_v_16_sroa_8_0_copyload_i_i39_i_i_i_ph = v_69; p_v_16_sroa_7_0_copyload_i_i37_i_i_i_ph = v_68; p_v_16_sroa_6_0_copyload_i_i35_i_i_i_ph = v_28_i433_i_i; p_v_16_sroa_0_0_copyload_i_i33_i_i_i_ph = v_65; goto L_bb9_i_i32_i_i_i_thread; }
 L_bb14_i412_i_i:;
-    v_70 = v_16_sroa_7_0_copyload_i_i_i_i_i69 + 3;
-    v_71 = (u64)((u64)(v_16_sroa_8_0_copyload_i_i_i_i_i68) + (u64)(18446744073709551613ull));
+    v_70 = v_16_sroa_7_0_copyload_i_i_i_i_i68 + 3;
+    v_71 = (u64)((u64)(v_16_sroa_8_0_copyload_i_i_i_i_i67) + (u64)(18446744073709551613ull));
     v_72 = v_14_i407_i_i == 129u;
     if (v_72) { goto L_bb15_i414_i_i; } else { goto L_bb7_i_i71_i_i_i; }
 L_bb15_i414_i_i:;
@@ -6715,7 +6715,7 @@ L_bb24_i440_i_i:;
     v_76 = (u64)((u64)(v_62) - (u64)(v_15_i438_i_i));
     { p_v_16_sroa_8_0_copyload_i_i39_i_i_i = v_76; p_v_16_sroa_7_0_copyload_i_i37_i_i_i = v_75; p_v_16_sroa_6_0_copyload_i_i35_i_i_i = v_15_i438_i_i; p_v_16_sroa_0_0_copyload_i_i33_i_i_i = v_61; goto L_bb9_i_i32_i_i_i; }
 L_bb7_i_i71_i_i_i:;
-    f_split_split_unlikely(v_5_i_i14_i_i_i, v_16_sroa_7_0_copyload_i_i_i_i_i69, v_16_sroa_8_0_copyload_i_i_i_i_i68, 2u);
+    f_split_split_unlikely(v_5_i_i14_i_i_i, v_16_sroa_7_0_copyload_i_i_i_i_i68, v_16_sroa_8_0_copyload_i_i_i_i_i67, 2u);
     v_77 = get_P(v_5_i_i14_i_i_i);
     v_78 = v_77 == (P)0;
     v_79 = v_5_i_i14_i_i_i + 8;
@@ -6732,48 +6732,48 @@ L_bb9_i_i32_i_i_i_thread:;
     v_16_sroa_7_0_copyload_i_i37_i_i_i_ph = p_v_16_sroa_7_0_copyload_i_i37_i_i_i_ph;
     v_16_sroa_6_0_copyload_i_i35_i_i_i_ph = p_v_16_sroa_6_0_copyload_i_i35_i_i_i_ph;
     v_16_sroa_0_0_copyload_i_i33_i_i_i_ph = p_v_16_sroa_0_0_copyload_i_i33_i_i_i_ph;
-    { p_v_16_sroa_0_0_copyload_i_i33_i_i_i80 = v_16_sroa_0_0_copyload_i_i33_i_i_i_ph; p_v_16_sroa_6_0_copyload_i_i35_i_i_i79 = v_16_sroa_6_0_copyload_i_i35_i_i_i_ph; p_v_16_sroa_7_0_copyload_i_i37_i_i_i78 = v_16_sroa_7_0_copyload_i_i37_i_i_i_ph; p_v_16_sroa_8_0_copyload_i_i39_i_i_i77 = v_16_sroa_8_0_copyload_i_i39_i_i_i_ph; goto L_bb1_i_i129_i_i; }
+    { p_v_16_sroa_0_0_copyload_i_i33_i_i_i79 = v_16_sroa_0_0_copyload_i_i33_i_i_i_ph; p_v_16_sroa_6_0_copyload_i_i35_i_i_i78 = v_16_sroa_6_0_copyload_i_i35_i_i_i_ph; p_v_16_sroa_7_0_copyload_i_i37_i_i_i77 = v_16_sroa_7_0_copyload_i_i37_i_i_i_ph; p_v_16_sroa_8_0_copyload_i_i39_i_i_i76 = v_16_sroa_8_0_copyload_i_i39_i_i_i_ph; goto L_bb1_i_i129_i_i; }
 L_bb9_i_i32_i_i_i:;
     v_16_sroa_8_0_copyload_i_i39_i_i_i = p_v_16_sroa_8_0_copyload_i_i39_i_i_i;
     v_16_sroa_7_0_copyload_i_i37_i_i_i = p_v_16_sroa_7_0_copyload_i_i37_i_i_i;
     v_16_sroa_6_0_copyload_i_i35_i_i_i = p_v_16_sroa_6_0_copyload_i_i35_i_i_i;
     v_16_sroa_0_0_copyload_i_i33_i_i_i = p_v_16_sroa_0_0_copyload_i_i33_i_i_i;
     v_5_not_i_i128_i_i = v_16_sroa_6_0_copyload_i_i35_i_i_i == 0u;
-    if (v_5_not_i_i128_i_i) { p_v_6_sroa_6_sroa_0_0_ph_off0_ph = 3u; goto L_bb3_thread151; } else { p_v_16_sroa_0_0_copyload_i_i33_i_i_i80 = v_16_sroa_0_0_copyload_i_i33_i_i_i; p_v_16_sroa_6_0_copyload_i_i35_i_i_i79 = v_16_sroa_6_0_copyload_i_i35_i_i_i; p_v_16_sroa_7_0_copyload_i_i37_i_i_i78 = v_16_sroa_7_0_copyload_i_i37_i_i_i; p_v_16_sroa_8_0_copyload_i_i39_i_i_i77 = v_16_sroa_8_0_copyload_i_i39_i_i_i; goto L_bb1_i_i129_i_i; }
+    if (v_5_not_i_i128_i_i) { p_v_6_sroa_6_sroa_0_0_ph_off0_ph = 3u; goto L_bb3_thread150; } else { p_v_16_sroa_0_0_copyload_i_i33_i_i_i79 = v_16_sroa_0_0_copyload_i_i33_i_i_i; p_v_16_sroa_6_0_copyload_i_i35_i_i_i78 = v_16_sroa_6_0_copyload_i_i35_i_i_i; p_v_16_sroa_7_0_copyload_i_i37_i_i_i77 = v_16_sroa_7_0_copyload_i_i37_i_i_i; p_v_16_sroa_8_0_copyload_i_i39_i_i_i76 = v_16_sroa_8_0_copyload_i_i39_i_i_i; goto L_bb1_i_i129_i_i; }
 L_bb1_i_i129_i_i:;
-    v_16_sroa_0_0_copyload_i_i33_i_i_i80 = p_v_16_sroa_0_0_copyload_i_i33_i_i_i80;
-    v_16_sroa_6_0_copyload_i_i35_i_i_i79 = p_v_16_sroa_6_0_copyload_i_i35_i_i_i79;
-    v_16_sroa_7_0_copyload_i_i37_i_i_i78 = p_v_16_sroa_7_0_copyload_i_i37_i_i_i78;
-    v_16_sroa_8_0_copyload_i_i39_i_i_i77 = p_v_16_sroa_8_0_copyload_i_i39_i_i_i77;
-    v_80 = get_u8(v_16_sroa_0_0_copyload_i_i33_i_i_i80);
+    v_16_sroa_0_0_copyload_i_i33_i_i_i79 = p_v_16_sroa_0_0_copyload_i_i33_i_i_i79;
+    v_16_sroa_6_0_copyload_i_i35_i_i_i78 = p_v_16_sroa_6_0_copyload_i_i35_i_i_i78;
+    v_16_sroa_7_0_copyload_i_i37_i_i_i77 = p_v_16_sroa_7_0_copyload_i_i37_i_i_i77;
+    v_16_sroa_8_0_copyload_i_i39_i_i_i76 = p_v_16_sroa_8_0_copyload_i_i39_i_i_i76;
+    v_80 = get_u8(v_16_sroa_0_0_copyload_i_i33_i_i_i79);
     v_81 = v_80 == 0u;
     if (v_81) { goto L_bb4_i_i135_i_i; } else { goto L_bb3_i_i130_i_i; }
 L_bb4_i_i135_i_i:;
-    v_82 = v_16_sroa_6_0_copyload_i_i35_i_i_i79 == 1u;
+    v_82 = v_16_sroa_6_0_copyload_i_i35_i_i_i78 == 1u;
     if (v_82) { goto L_bb7_i46_i_i_i; } else { goto L_bb5_i_i138_i_i; }
 L_bb3_i_i130_i_i:;
     v_20_i_i131_i_i = (u8)(v_80 ^ ((u8)1 << 7)) > (u8)(255u ^ ((u8)1 << 7));
-    if (v_20_i_i131_i_i) { goto L_bb7_i46_i_i_i; } else { p_v_6_sroa_6_sroa_0_0_ph_off0_ph = 13u; goto L_bb3_thread151; }
+    if (v_20_i_i131_i_i) { goto L_bb7_i46_i_i_i; } else { p_v_6_sroa_6_sroa_0_0_ph_off0_ph = 13u; goto L_bb3_thread150; }
 L_bb5_i_i138_i_i:;
-    v_rest_0_i_i136_i_i = v_16_sroa_0_0_copyload_i_i33_i_i_i80 + 1;
+    v_rest_0_i_i136_i_i = v_16_sroa_0_0_copyload_i_i33_i_i_i79 + 1;
     v_14_i_i139_i_i = get_u8(v_rest_0_i_i136_i_i);
     v_13_i_i140_i_i = (u8)(v_14_i_i139_i_i ^ ((u8)1 << 7)) < (u8)(0u ^ ((u8)1 << 7));
-    if (v_13_i_i140_i_i) { goto L_bb7_i46_i_i_i; } else { p_v_6_sroa_6_sroa_0_0_ph_off0_ph = 4u; goto L_bb3_thread151; }
+    if (v_13_i_i140_i_i) { goto L_bb7_i46_i_i_i; } else { p_v_6_sroa_6_sroa_0_0_ph_off0_ph = 4u; goto L_bb3_thread150; }
 L_bb8_i_i72_i_i_i:;
     v_17_sroa_0_0_copyload_i_i73_i_i_i = get_24(v_79);
     v_5_i30_i_i_sroa_7_8_insert_ext172_i = (u8)(v_17_sroa_0_0_copyload_i_i73_i_i_i);
     { p_v_6_sroa_6_sroa_0_0_ph_off0 = v_5_i30_i_i_sroa_7_8_insert_ext172_i; goto L_bb3; }
 L_bb7_i46_i_i_i:;
-    v_4_i356_i_i = v_16_sroa_8_0_copyload_i_i39_i_i_i77 > 1u;
+    v_4_i356_i_i = v_16_sroa_8_0_copyload_i_i39_i_i_i76 > 1u;
     if (v_4_i356_i_i) { goto L_bb2_i358_i_i; } else { goto L_bb7_i_i134_i_i_i; }
 L_bb2_i358_i_i:;
-    v_83 = v_16_sroa_7_0_copyload_i_i37_i_i_i78 + 2;
-    v_84 = (u64)((u64)(v_16_sroa_8_0_copyload_i_i39_i_i_i77) + (u64)(18446744073709551614ull));
-    v_12_i359_i_i = get_u8(v_16_sroa_7_0_copyload_i_i37_i_i_i78);
+    v_83 = v_16_sroa_7_0_copyload_i_i37_i_i_i77 + 2;
+    v_84 = (u64)((u64)(v_16_sroa_8_0_copyload_i_i39_i_i_i76) + (u64)(18446744073709551614ull));
+    v_12_i359_i_i = get_u8(v_16_sroa_7_0_copyload_i_i37_i_i_i77);
     v_11_i360_i_i = v_12_i359_i_i == 2u;
     if (v_11_i360_i_i) { goto L_bb3_i361_i_i; } else { goto L_bb7_i_i134_i_i_i; }
 L_bb3_i361_i_i:;
-    v_85 = v_16_sroa_7_0_copyload_i_i37_i_i_i78 + 1;
+    v_85 = v_16_sroa_7_0_copyload_i_i37_i_i_i77 + 1;
     v_14_i362_i_i = get_u8(v_85);
     v_13_i363_i_i = (u8)(v_14_i362_i_i ^ ((u8)1 << 7)) > (u8)(255u ^ ((u8)1 << 7));
     if (v_13_i363_i_i) { goto L_bb5_i392_i_i; } else { goto L_bb6_i364_i_i; }
@@ -6791,15 +6791,15 @@ L_bb8_i365_i_i:;
     v_35_not_i366_i_i = v_84 == 0u;
     if (v_35_not_i366_i_i) { goto L_bb7_i_i134_i_i_i; } else { goto L_bb14_i367_i_i; }
 L_bb10_i380_i_i:;
-    v_87 = v_16_sroa_7_0_copyload_i_i37_i_i_i78 + 4;
-    v_88 = (u64)((u64)(v_16_sroa_8_0_copyload_i_i39_i_i_i77) + (u64)(18446744073709551612ull));
+    v_87 = v_16_sroa_7_0_copyload_i_i37_i_i_i77 + 4;
+    v_88 = (u64)((u64)(v_16_sroa_8_0_copyload_i_i39_i_i_i76) + (u64)(18446744073709551612ull));
     v_27_i381_i_i = get_u8(v_83);
     v_26_not_i382_i_i = v_27_i381_i_i == 0u;
     if (v_26_not_i382_i_i) { goto L_bb7_i_i134_i_i_i; } else { goto L_bb11_i383_i_i; }
 L_bb11_i383_i_i:;
     v_30_i384_i_i = (u64)v_27_i381_i_i;
     v_29_i385_i_i = (u64)((u64)(v_30_i384_i_i) << (u64)((8u & 63)));
-    v_89 = v_16_sroa_7_0_copyload_i_i37_i_i_i78 + 3;
+    v_89 = v_16_sroa_7_0_copyload_i_i37_i_i_i77 + 3;
     v_33_i386_i_i = get_u8(v_89);
     v_32_i387_i_i = (u64)v_33_i386_i_i;
     v_28_i388_i_i = (u64)((u64)(v_29_i385_i_i) | (u64)(v_32_i387_i_i));
@@ -6810,8 +6810,8 @@ L_bb28_i390_i_i:;
     v_91 = (u64)((u64)(v_88) - (u64)(v_28_i388_i_i));
     { p_v_16_sroa_8_0_copyload_i_i102_i_i_i_ph = v_91; p_v_16_sroa_7_0_copyload_i_i100_i_i_i_ph = v_90; p_v_16_sroa_6_0_copyload_i_i98_i_i_i_ph = v_28_i388_i_i; p_v_16_sroa_0_0_copyload_i_i96_i_i_i_ph = v_87; goto L_bb9_i_i95_i_i_i_thread; }
 L_bb14_i367_i_i:;
-    v_92 = v_16_sroa_7_0_copyload_i_i37_i_i_i78 + 3;
-    v_93 = (u64)((u64)(v_16_sroa_8_0_copyload_i_i39_i_i_i77) + (u64)(18446744073709551613ull));
+    v_92 = v_16_sroa_7_0_copyload_i_i37_i_i_i77 + 3;
+    v_93 = (u64)((u64)(v_16_sroa_8_0_copyload_i_i39_i_i_i76) + (u64)(18446744073709551613ull));
     v_94 = v_14_i362_i_i == 129u;
     if (v_94) { goto L_bb15_i369_i_i; } else { goto L_bb7_i_i134_i_i_i; }
 L_bb15_i369_i_i:;
@@ -6831,7 +6831,7 @@ L_bb24_i395_i_i:;
     v_98 = (u64)((u64)(v_84) - (u64)(v_15_i393_i_i));
     { p_v_16_sroa_8_0_copyload_i_i102_i_i_i = v_98; p_v_16_sroa_7_0_copyload_i_i100_i_i_i = v_97; p_v_16_sroa_6_0_copyload_i_i98_i_i_i = v_15_i393_i_i; p_v_16_sroa_0_0_copyload_i_i96_i_i_i = v_83; goto L_bb9_i_i95_i_i_i; }
 L_bb7_i_i134_i_i_i:;
-    f_split_split_unlikely(v_5_i_i77_i_i_i, v_16_sroa_7_0_copyload_i_i37_i_i_i78, v_16_sroa_8_0_copyload_i_i39_i_i_i77, 2u);
+    f_split_split_unlikely(v_5_i_i77_i_i_i, v_16_sroa_7_0_copyload_i_i37_i_i_i77, v_16_sroa_8_0_copyload_i_i39_i_i_i76, 2u);
     v_99 = get_P(v_5_i_i77_i_i_i);
     v_100 = v_99 == (P)0;
     v_101 = v_5_i_i77_i_i_i + 8;
@@ -6848,48 +6848,48 @@ L_bb9_i_i95_i_i_i_thread:;
     v_16_sroa_7_0_copyload_i_i100_i_i_i_ph = p_v_16_sroa_7_0_copyload_i_i100_i_i_i_ph;
     v_16_sroa_6_0_copyload_i_i98_i_i_i_ph = p_v_16_sroa_6_0_copyload_i_i98_i_i_i_ph;
     v_16_sroa_0_0_copyload_i_i96_i_i_i_ph = p_v_16_sroa_0_0_copyload_i_i96_i_i_i_ph;
-    { p_v_16_sroa_0_0_copyload_i_i96_i_i_i89 = v_16_sroa_0_0_copyload_i_i96_i_i_i_ph; p_v_16_sroa_6_0_copyload_i_i98_i_i_i88 = v_16_sroa_6_0_copyload_i_i98_i_i_i_ph; p_v_16_sroa_7_0_copyload_i_i100_i_i_i87 = v_16_sroa_7_0_copyload_i_i100_i_i_i_ph; p_v_16_sroa_8_0_copyload_i_i102_i_i_i86 = v_16_sroa_8_0_copyload_i_i102_i_i_i_ph; goto L_bb1_i_i109_i_i; }
+    { p_v_16_sroa_0_0_copyload_i_i96_i_i_i88 = v_16_sroa_0_0_copyload_i_i96_i_i_i_ph; p_v_16_sroa_6_0_copyload_i_i98_i_i_i87 = v_16_sroa_6_0_copyload_i_i98_i_i_i_ph; p_v_16_sroa_7_0_copyload_i_i100_i_i_i86 = v_16_sroa_7_0_copyload_i_i100_i_i_i_ph; p_v_16_sroa_8_0_copyload_i_i102_i_i_i85 = v_16_sroa_8_0_copyload_i_i102_i_i_i_ph; goto L_bb1_i_i109_i_i; }
 L_bb9_i_i95_i_i_i:;
     v_16_sroa_8_0_copyload_i_i102_i_i_i = p_v_16_sroa_8_0_copyload_i_i102_i_i_i;
     v_16_sroa_7_0_copyload_i_i100_i_i_i = p_v_16_sroa_7_0_copyload_i_i100_i_i_i;
     v_16_sroa_6_0_copyload_i_i98_i_i_i = p_v_16_sroa_6_0_copyload_i_i98_i_i_i;
     v_16_sroa_0_0_copyload_i_i96_i_i_i = p_v_16_sroa_0_0_copyload_i_i96_i_i_i;
     v_5_not_i_i108_i_i = v_16_sroa_6_0_copyload_i_i98_i_i_i == 0u;
-    if (v_5_not_i_i108_i_i) { p_v_6_sroa_6_sroa_0_0_ph_off0_ph = 3u; goto L_bb3_thread151; } else { p_v_16_sroa_0_0_copyload_i_i96_i_i_i89 = v_16_sroa_0_0_copyload_i_i96_i_i_i; p_v_16_sroa_6_0_copyload_i_i98_i_i_i88 = v_16_sroa_6_0_copyload_i_i98_i_i_i; p_v_16_sroa_7_0_copyload_i_i100_i_i_i87 = v_16_sroa_7_0_copyload_i_i100_i_i_i; p_v_16_sroa_8_0_copyload_i_i102_i_i_i86 = v_16_sroa_8_0_copyload_i_i102_i_i_i; goto L_bb1_i_i109_i_i; }
+    if (v_5_not_i_i108_i_i) { p_v_6_sroa_6_sroa_0_0_ph_off0_ph = 3u; goto L_bb3_thread150; } else { p_v_16_sroa_0_0_copyload_i_i96_i_i_i88 = v_16_sroa_0_0_copyload_i_i96_i_i_i; p_v_16_sroa_6_0_copyload_i_i98_i_i_i87 = v_16_sroa_6_0_copyload_i_i98_i_i_i; p_v_16_sroa_7_0_copyload_i_i100_i_i_i86 = v_16_sroa_7_0_copyload_i_i100_i_i_i; p_v_16_sroa_8_0_copyload_i_i102_i_i_i85 = v_16_sroa_8_0_copyload_i_i102_i_i_i; goto L_bb1_i_i109_i_i; }
 L_bb1_i_i109_i_i:;
-    v_16_sroa_0_0_copyload_i_i96_i_i_i89 = p_v_16_sroa_0_0_copyload_i_i96_i_i_i89;
-    v_16_sroa_6_0_copyload_i_i98_i_i_i88 = p_v_16_sroa_6_0_copyload_i_i98_i_i_i88;
-    v_16_sroa_7_0_copyload_i_i100_i_i_i87 = p_v_16_sroa_7_0_copyload_i_i100_i_i_i87;
-    v_16_sroa_8_0_copyload_i_i102_i_i_i86 = p_v_16_sroa_8_0_copyload_i_i102_i_i_i86;
-    v_102 = get_u8(v_16_sroa_0_0_copyload_i_i96_i_i_i89);
+    v_16_sroa_0_0_copyload_i_i96_i_i_i88 = p_v_16_sroa_0_0_copyload_i_i96_i_i_i88;
+    v_16_sroa_6_0_copyload_i_i98_i_i_i87 = p_v_16_sroa_6_0_copyload_i_i98_i_i_i87;
+    v_16_sroa_7_0_copyload_i_i100_i_i_i86 = p_v_16_sroa_7_0_copyload_i_i100_i_i_i86;
+    v_16_sroa_8_0_copyload_i_i102_i_i_i85 = p_v_16_sroa_8_0_copyload_i_i102_i_i_i85;
+    v_102 = get_u8(v_16_sroa_0_0_copyload_i_i96_i_i_i88);
     v_103 = v_102 == 0u;
     if (v_103) { goto L_bb4_i_i115_i_i; } else { goto L_bb3_i_i110_i_i; }
 L_bb4_i_i115_i_i:;
-    v_104 = v_16_sroa_6_0_copyload_i_i98_i_i_i88 == 1u;
+    v_104 = v_16_sroa_6_0_copyload_i_i98_i_i_i87 == 1u;
     if (v_104) { goto L_bb7_i109_i_i_i; } else { goto L_bb5_i_i118_i_i; }
 L_bb3_i_i110_i_i:;
     v_20_i_i111_i_i = (u8)(v_102 ^ ((u8)1 << 7)) > (u8)(255u ^ ((u8)1 << 7));
-    if (v_20_i_i111_i_i) { goto L_bb7_i109_i_i_i; } else { p_v_6_sroa_6_sroa_0_0_ph_off0_ph = 13u; goto L_bb3_thread151; }
+    if (v_20_i_i111_i_i) { goto L_bb7_i109_i_i_i; } else { p_v_6_sroa_6_sroa_0_0_ph_off0_ph = 13u; goto L_bb3_thread150; }
 L_bb5_i_i118_i_i:;
-    v_rest_0_i_i116_i_i = v_16_sroa_0_0_copyload_i_i96_i_i_i89 + 1;
+    v_rest_0_i_i116_i_i = v_16_sroa_0_0_copyload_i_i96_i_i_i88 + 1;
     v_14_i_i119_i_i = get_u8(v_rest_0_i_i116_i_i);
     v_13_i_i120_i_i = (u8)(v_14_i_i119_i_i ^ ((u8)1 << 7)) < (u8)(0u ^ ((u8)1 << 7));
-    if (v_13_i_i120_i_i) { goto L_bb7_i109_i_i_i; } else { p_v_6_sroa_6_sroa_0_0_ph_off0_ph = 4u; goto L_bb3_thread151; }
+    if (v_13_i_i120_i_i) { goto L_bb7_i109_i_i_i; } else { p_v_6_sroa_6_sroa_0_0_ph_off0_ph = 4u; goto L_bb3_thread150; }
 L_bb8_i_i135_i_i_i:;
     v_17_sroa_0_0_copyload_i_i136_i_i_i = get_24(v_101);
     v_5_i93_i_i_sroa_7_8_insert_ext197_i = (u8)(v_17_sroa_0_0_copyload_i_i136_i_i_i);
     { p_v_6_sroa_6_sroa_0_0_ph_off0 = v_5_i93_i_i_sroa_7_8_insert_ext197_i; goto L_bb3; }
 L_bb7_i109_i_i_i:;
-    v_4_i311_i_i = v_16_sroa_8_0_copyload_i_i102_i_i_i86 > 1u;
+    v_4_i311_i_i = v_16_sroa_8_0_copyload_i_i102_i_i_i85 > 1u;
     if (v_4_i311_i_i) { goto L_bb2_i313_i_i; } else { goto L_bb7_i_i197_i_i_i; }
 L_bb2_i313_i_i:;
-    v_105 = v_16_sroa_7_0_copyload_i_i100_i_i_i87 + 2;
-    v_106 = (u64)((u64)(v_16_sroa_8_0_copyload_i_i102_i_i_i86) + (u64)(18446744073709551614ull));
-    v_12_i314_i_i = get_u8(v_16_sroa_7_0_copyload_i_i100_i_i_i87);
+    v_105 = v_16_sroa_7_0_copyload_i_i100_i_i_i86 + 2;
+    v_106 = (u64)((u64)(v_16_sroa_8_0_copyload_i_i102_i_i_i85) + (u64)(18446744073709551614ull));
+    v_12_i314_i_i = get_u8(v_16_sroa_7_0_copyload_i_i100_i_i_i86);
     v_11_i315_i_i = v_12_i314_i_i == 2u;
     if (v_11_i315_i_i) { goto L_bb3_i316_i_i; } else { goto L_bb7_i_i197_i_i_i; }
 L_bb3_i316_i_i:;
-    v_107 = v_16_sroa_7_0_copyload_i_i100_i_i_i87 + 1;
+    v_107 = v_16_sroa_7_0_copyload_i_i100_i_i_i86 + 1;
     v_14_i317_i_i = get_u8(v_107);
     v_13_i318_i_i = (u8)(v_14_i317_i_i ^ ((u8)1 << 7)) > (u8)(255u ^ ((u8)1 << 7));
     if (v_13_i318_i_i) { goto L_bb5_i347_i_i; } else { goto L_bb6_i319_i_i; }
@@ -6907,15 +6907,15 @@ L_bb8_i320_i_i:;
     v_35_not_i321_i_i = v_106 == 0u;
     if (v_35_not_i321_i_i) { goto L_bb7_i_i197_i_i_i; } else { goto L_bb14_i322_i_i; }
 L_bb10_i335_i_i:;
-    v_109 = v_16_sroa_7_0_copyload_i_i100_i_i_i87 + 4;
-    v_110 = (u64)((u64)(v_16_sroa_8_0_copyload_i_i102_i_i_i86) + (u64)(18446744073709551612ull));
+    v_109 = v_16_sroa_7_0_copyload_i_i100_i_i_i86 + 4;
+    v_110 = (u64)((u64)(v_16_sroa_8_0_copyload_i_i102_i_i_i85) + (u64)(18446744073709551612ull));
     v_27_i336_i_i = get_u8(v_105);
     v_26_not_i337_i_i = v_27_i336_i_i == 0u;
     if (v_26_not_i337_i_i) { goto L_bb7_i_i197_i_i_i; } else { goto L_bb11_i338_i_i; }
 L_bb11_i338_i_i:;
     v_30_i339_i_i = (u64)v_27_i336_i_i;
     v_29_i340_i_i = (u64)((u64)(v_30_i339_i_i) << (u64)((8u & 63)));
-    v_111 = v_16_sroa_7_0_copyload_i_i100_i_i_i87 + 3;
+    v_111 = v_16_sroa_7_0_copyload_i_i100_i_i_i86 + 3;
     v_33_i341_i_i = get_u8(v_111);
     v_32_i342_i_i = (u64)v_33_i341_i_i;
     v_28_i343_i_i = (u64)((u64)(v_29_i340_i_i) | (u64)(v_32_i342_i_i));
@@ -6926,8 +6926,8 @@ L_bb28_i345_i_i:;
     v_113 = (u64)((u64)(v_110) - (u64)(v_28_i343_i_i));
     { p_v_16_sroa_8_0_copyload_i_i165_i_i_i_ph = v_113; p_v_16_sroa_7_0_copyload_i_i163_i_i_i_ph = v_112; p_v_16_sroa_6_0_copyload_i_i161_i_i_i_ph = v_28_i343_i_i; p_v_16_sroa_0_0_copyload_i_i159_i_i_i_ph = v_109; goto L_bb9_i_i158_i_i_i_thread; }
 L_bb14_i322_i_i:;
-    v_114 = v_16_sroa_7_0_copyload_i_i100_i_i_i87 + 3;
-    v_115 = (u64)((u64)(v_16_sroa_8_0_copyload_i_i102_i_i_i86) + (u64)(18446744073709551613ull));
+    v_114 = v_16_sroa_7_0_copyload_i_i100_i_i_i86 + 3;
+    v_115 = (u64)((u64)(v_16_sroa_8_0_copyload_i_i102_i_i_i85) + (u64)(18446744073709551613ull));
     v_116 = v_14_i317_i_i == 129u;
     if (v_116) { goto L_bb15_i324_i_i; } else { goto L_bb7_i_i197_i_i_i; }
 L_bb15_i324_i_i:;
@@ -6947,7 +6947,7 @@ L_bb24_i350_i_i:;
     v_120 = (u64)((u64)(v_106) - (u64)(v_15_i348_i_i));
     { p_v_16_sroa_8_0_copyload_i_i165_i_i_i = v_120; p_v_16_sroa_7_0_copyload_i_i163_i_i_i = v_119; p_v_16_sroa_6_0_copyload_i_i161_i_i_i = v_15_i348_i_i; p_v_16_sroa_0_0_copyload_i_i159_i_i_i = v_105; goto L_bb9_i_i158_i_i_i; }
 L_bb7_i_i197_i_i_i:;
-    f_split_split_unlikely(v_5_i_i140_i_i_i, v_16_sroa_7_0_copyload_i_i100_i_i_i87, v_16_sroa_8_0_copyload_i_i102_i_i_i86, 2u);
+    f_split_split_unlikely(v_5_i_i140_i_i_i, v_16_sroa_7_0_copyload_i_i100_i_i_i86, v_16_sroa_8_0_copyload_i_i102_i_i_i85, 2u);
     v_121 = get_P(v_5_i_i140_i_i_i);
     v_122 = v_121 == (P)0;
     v_123 = v_5_i_i140_i_i_i + 8;
@@ -6964,48 +6964,48 @@ L_bb9_i_i158_i_i_i_thread:;
     v_16_sroa_7_0_copyload_i_i163_i_i_i_ph = p_v_16_sroa_7_0_copyload_i_i163_i_i_i_ph;
     v_16_sroa_6_0_copyload_i_i161_i_i_i_ph = p_v_16_sroa_6_0_copyload_i_i161_i_i_i_ph;
     v_16_sroa_0_0_copyload_i_i159_i_i_i_ph = p_v_16_sroa_0_0_copyload_i_i159_i_i_i_ph;
-    { p_v_16_sroa_0_0_copyload_i_i159_i_i_i98 = v_16_sroa_0_0_copyload_i_i159_i_i_i_ph; p_v_16_sroa_6_0_copyload_i_i161_i_i_i97 = v_16_sroa_6_0_copyload_i_i161_i_i_i_ph; p_v_16_sroa_7_0_copyload_i_i163_i_i_i96 = v_16_sroa_7_0_copyload_i_i163_i_i_i_ph; p_v_16_sroa_8_0_copyload_i_i165_i_i_i95 = v_16_sroa_8_0_copyload_i_i165_i_i_i_ph; goto L_bb1_i_i89_i_i; }
+    { p_v_16_sroa_0_0_copyload_i_i159_i_i_i97 = v_16_sroa_0_0_copyload_i_i159_i_i_i_ph; p_v_16_sroa_6_0_copyload_i_i161_i_i_i96 = v_16_sroa_6_0_copyload_i_i161_i_i_i_ph; p_v_16_sroa_7_0_copyload_i_i163_i_i_i95 = v_16_sroa_7_0_copyload_i_i163_i_i_i_ph; p_v_16_sroa_8_0_copyload_i_i165_i_i_i94 = v_16_sroa_8_0_copyload_i_i165_i_i_i_ph; goto L_bb1_i_i89_i_i; }
 L_bb9_i_i158_i_i_i:;
     v_16_sroa_8_0_copyload_i_i165_i_i_i = p_v_16_sroa_8_0_copyload_i_i165_i_i_i;
     v_16_sroa_7_0_copyload_i_i163_i_i_i = p_v_16_sroa_7_0_copyload_i_i163_i_i_i;
     v_16_sroa_6_0_copyload_i_i161_i_i_i = p_v_16_sroa_6_0_copyload_i_i161_i_i_i;
     v_16_sroa_0_0_copyload_i_i159_i_i_i = p_v_16_sroa_0_0_copyload_i_i159_i_i_i;
     v_5_not_i_i88_i_i = v_16_sroa_6_0_copyload_i_i161_i_i_i == 0u;
-    if (v_5_not_i_i88_i_i) { p_v_6_sroa_6_sroa_0_0_ph_off0_ph = 3u; goto L_bb3_thread151; } else { p_v_16_sroa_0_0_copyload_i_i159_i_i_i98 = v_16_sroa_0_0_copyload_i_i159_i_i_i; p_v_16_sroa_6_0_copyload_i_i161_i_i_i97 = v_16_sroa_6_0_copyload_i_i161_i_i_i; p_v_16_sroa_7_0_copyload_i_i163_i_i_i96 = v_16_sroa_7_0_copyload_i_i163_i_i_i; p_v_16_sroa_8_0_copyload_i_i165_i_i_i95 = v_16_sroa_8_0_copyload_i_i165_i_i_i; goto L_bb1_i_i89_i_i; }
+    if (v_5_not_i_i88_i_i) { p_v_6_sroa_6_sroa_0_0_ph_off0_ph = 3u; goto L_bb3_thread150; } else { p_v_16_sroa_0_0_copyload_i_i159_i_i_i97 = v_16_sroa_0_0_copyload_i_i159_i_i_i; p_v_16_sroa_6_0_copyload_i_i161_i_i_i96 = v_16_sroa_6_0_copyload_i_i161_i_i_i; p_v_16_sroa_7_0_copyload_i_i163_i_i_i95 = v_16_sroa_7_0_copyload_i_i163_i_i_i; p_v_16_sroa_8_0_copyload_i_i165_i_i_i94 = v_16_sroa_8_0_copyload_i_i165_i_i_i; goto L_bb1_i_i89_i_i; }
 L_bb1_i_i89_i_i:;
-    v_16_sroa_0_0_copyload_i_i159_i_i_i98 = p_v_16_sroa_0_0_copyload_i_i159_i_i_i98;
-    v_16_sroa_6_0_copyload_i_i161_i_i_i97 = p_v_16_sroa_6_0_copyload_i_i161_i_i_i97;
-    v_16_sroa_7_0_copyload_i_i163_i_i_i96 = p_v_16_sroa_7_0_copyload_i_i163_i_i_i96;
-    v_16_sroa_8_0_copyload_i_i165_i_i_i95 = p_v_16_sroa_8_0_copyload_i_i165_i_i_i95;
-    v_124 = get_u8(v_16_sroa_0_0_copyload_i_i159_i_i_i98);
+    v_16_sroa_0_0_copyload_i_i159_i_i_i97 = p_v_16_sroa_0_0_copyload_i_i159_i_i_i97;
+    v_16_sroa_6_0_copyload_i_i161_i_i_i96 = p_v_16_sroa_6_0_copyload_i_i161_i_i_i96;
+    v_16_sroa_7_0_copyload_i_i163_i_i_i95 = p_v_16_sroa_7_0_copyload_i_i163_i_i_i95;
+    v_16_sroa_8_0_copyload_i_i165_i_i_i94 = p_v_16_sroa_8_0_copyload_i_i165_i_i_i94;
+    v_124 = get_u8(v_16_sroa_0_0_copyload_i_i159_i_i_i97);
     v_125 = v_124 == 0u;
     if (v_125) { goto L_bb4_i_i95_i_i; } else { goto L_bb3_i_i90_i_i; }
 L_bb4_i_i95_i_i:;
-    v_126 = v_16_sroa_6_0_copyload_i_i161_i_i_i97 == 1u;
+    v_126 = v_16_sroa_6_0_copyload_i_i161_i_i_i96 == 1u;
     if (v_126) { goto L_bb7_i172_i_i_i; } else { goto L_bb5_i_i98_i_i; }
 L_bb3_i_i90_i_i:;
     v_20_i_i91_i_i = (u8)(v_124 ^ ((u8)1 << 7)) > (u8)(255u ^ ((u8)1 << 7));
-    if (v_20_i_i91_i_i) { goto L_bb7_i172_i_i_i; } else { p_v_6_sroa_6_sroa_0_0_ph_off0_ph = 13u; goto L_bb3_thread151; }
+    if (v_20_i_i91_i_i) { goto L_bb7_i172_i_i_i; } else { p_v_6_sroa_6_sroa_0_0_ph_off0_ph = 13u; goto L_bb3_thread150; }
 L_bb5_i_i98_i_i:;
-    v_rest_0_i_i96_i_i = v_16_sroa_0_0_copyload_i_i159_i_i_i98 + 1;
+    v_rest_0_i_i96_i_i = v_16_sroa_0_0_copyload_i_i159_i_i_i97 + 1;
     v_14_i_i99_i_i = get_u8(v_rest_0_i_i96_i_i);
     v_13_i_i100_i_i = (u8)(v_14_i_i99_i_i ^ ((u8)1 << 7)) < (u8)(0u ^ ((u8)1 << 7));
-    if (v_13_i_i100_i_i) { goto L_bb7_i172_i_i_i; } else { p_v_6_sroa_6_sroa_0_0_ph_off0_ph = 4u; goto L_bb3_thread151; }
+    if (v_13_i_i100_i_i) { goto L_bb7_i172_i_i_i; } else { p_v_6_sroa_6_sroa_0_0_ph_off0_ph = 4u; goto L_bb3_thread150; }
 L_bb8_i_i198_i_i_i:;
     v_17_sroa_0_0_copyload_i_i199_i_i_i = get_24(v_123);
     v_5_i156_i_i_sroa_7_8_insert_ext222_i = (u8)(v_17_sroa_0_0_copyload_i_i199_i_i_i);
     { p_v_6_sroa_6_sroa_0_0_ph_off0 = v_5_i156_i_i_sroa_7_8_insert_ext222_i; goto L_bb3; }
 L_bb7_i172_i_i_i:;
-    v_4_i266_i_i = v_16_sroa_8_0_copyload_i_i165_i_i_i95 > 1u;
+    v_4_i266_i_i = v_16_sroa_8_0_copyload_i_i165_i_i_i94 > 1u;
     if (v_4_i266_i_i) { goto L_bb2_i268_i_i; } else { goto L_bb7_i_i260_i_i_i; }
 L_bb2_i268_i_i:;
-    v_127 = v_16_sroa_7_0_copyload_i_i163_i_i_i96 + 2;
-    v_128 = (u64)((u64)(v_16_sroa_8_0_copyload_i_i165_i_i_i95) + (u64)(18446744073709551614ull));
-    v_12_i269_i_i = get_u8(v_16_sroa_7_0_copyload_i_i163_i_i_i96);
+    v_127 = v_16_sroa_7_0_copyload_i_i163_i_i_i95 + 2;
+    v_128 = (u64)((u64)(v_16_sroa_8_0_copyload_i_i165_i_i_i94) + (u64)(18446744073709551614ull));
+    v_12_i269_i_i = get_u8(v_16_sroa_7_0_copyload_i_i163_i_i_i95);
     v_11_i270_i_i = v_12_i269_i_i == 2u;
     if (v_11_i270_i_i) { goto L_bb3_i271_i_i; } else { goto L_bb7_i_i260_i_i_i; }
 L_bb3_i271_i_i:;
-    v_129 = v_16_sroa_7_0_copyload_i_i163_i_i_i96 + 1;
+    v_129 = v_16_sroa_7_0_copyload_i_i163_i_i_i95 + 1;
     v_14_i272_i_i = get_u8(v_129);
     v_13_i273_i_i = (u8)(v_14_i272_i_i ^ ((u8)1 << 7)) > (u8)(255u ^ ((u8)1 << 7));
     if (v_13_i273_i_i) { goto L_bb5_i302_i_i; } else { goto L_bb6_i274_i_i; }
@@ -7023,15 +7023,15 @@ L_bb8_i275_i_i:;
     v_35_not_i276_i_i = v_128 == 0u;
     if (v_35_not_i276_i_i) { goto L_bb7_i_i260_i_i_i; } else { goto L_bb14_i277_i_i; }
 L_bb10_i290_i_i:;
-    v_131 = v_16_sroa_7_0_copyload_i_i163_i_i_i96 + 4;
-    v_132 = (u64)((u64)(v_16_sroa_8_0_copyload_i_i165_i_i_i95) + (u64)(18446744073709551612ull));
+    v_131 = v_16_sroa_7_0_copyload_i_i163_i_i_i95 + 4;
+    v_132 = (u64)((u64)(v_16_sroa_8_0_copyload_i_i165_i_i_i94) + (u64)(18446744073709551612ull));
     v_27_i291_i_i = get_u8(v_127);
     v_26_not_i292_i_i = v_27_i291_i_i == 0u;
     if (v_26_not_i292_i_i) { goto L_bb7_i_i260_i_i_i; } else { goto L_bb11_i293_i_i; }
 L_bb11_i293_i_i:;
     v_30_i294_i_i = (u64)v_27_i291_i_i;
     v_29_i295_i_i = (u64)((u64)(v_30_i294_i_i) << (u64)((8u & 63)));
-    v_133 = v_16_sroa_7_0_copyload_i_i163_i_i_i96 + 3;
+    v_133 = v_16_sroa_7_0_copyload_i_i163_i_i_i95 + 3;
     v_33_i296_i_i = get_u8(v_133);
     v_32_i297_i_i = (u64)v_33_i296_i_i;
     v_28_i298_i_i = (u64)((u64)(v_29_i295_i_i) | (u64)(v_32_i297_i_i));
@@ -7042,8 +7042,8 @@ L_bb28_i300_i_i:;
     v_135 = (u64)((u64)(v_132) - (u64)(v_28_i298_i_i));
     { p_v_16_sroa_8_0_copyload_i_i228_i_i_i_ph = v_135; p_v_16_sroa_7_0_copyload_i_i226_i_i_i_ph = v_134; p_v_16_sroa_6_0_copyload_i_i224_i_i_i_ph = v_28_i298_i_i; p_v_16_sroa_0_0_copyload_i_i222_i_i_i_ph = v_131; goto L_bb9_i_i221_i_i_i_thread; }
 L_bb14_i277_i_i:;
-    v_136 = v_16_sroa_7_0_copyload_i_i163_i_i_i96 + 3;
-    v_137 = (u64)((u64)(v_16_sroa_8_0_copyload_i_i165_i_i_i95) + (u64)(18446744073709551613ull));
+    v_136 = v_16_sroa_7_0_copyload_i_i163_i_i_i95 + 3;
+    v_137 = (u64)((u64)(v_16_sroa_8_0_copyload_i_i165_i_i_i94) + (u64)(18446744073709551613ull));
     v_138 = v_14_i272_i_i == 129u;
     if (v_138) { goto L_bb15_i279_i_i; } else { goto L_bb7_i_i260_i_i_i; }
 L_bb15_i279_i_i:;
@@ -7063,7 +7063,7 @@ L_bb24_i305_i_i:;
     v_142 = (u64)((u64)(v_128) - (u64)(v_15_i303_i_i));
     { p_v_16_sroa_8_0_copyload_i_i228_i_i_i = v_142; p_v_16_sroa_7_0_copyload_i_i226_i_i_i = v_141; p_v_16_sroa_6_0_copyload_i_i224_i_i_i = v_15_i303_i_i; p_v_16_sroa_0_0_copyload_i_i222_i_i_i = v_127; goto L_bb9_i_i221_i_i_i; }
 L_bb7_i_i260_i_i_i:;
-    f_split_split_unlikely(v_5_i_i203_i_i_i, v_16_sroa_7_0_copyload_i_i163_i_i_i96, v_16_sroa_8_0_copyload_i_i165_i_i_i95, 2u);
+    f_split_split_unlikely(v_5_i_i203_i_i_i, v_16_sroa_7_0_copyload_i_i163_i_i_i95, v_16_sroa_8_0_copyload_i_i165_i_i_i94, 2u);
     v_143 = get_P(v_5_i_i203_i_i_i);
     v_144 = v_143 == (P)0;
     v_145 = v_5_i_i203_i_i_i + 8;
@@ -7080,48 +7080,48 @@ L_bb9_i_i221_i_i_i_thread:;
     v_16_sroa_7_0_copyload_i_i226_i_i_i_ph = p_v_16_sroa_7_0_copyload_i_i226_i_i_i_ph;
     v_16_sroa_6_0_copyload_i_i224_i_i_i_ph = p_v_16_sroa_6_0_copyload_i_i224_i_i_i_ph;
     v_16_sroa_0_0_copyload_i_i222_i_i_i_ph = p_v_16_sroa_0_0_copyload_i_i222_i_i_i_ph;
-    { p_v_16_sroa_0_0_copyload_i_i222_i_i_i107 = v_16_sroa_0_0_copyload_i_i222_i_i_i_ph; p_v_16_sroa_6_0_copyload_i_i224_i_i_i106 = v_16_sroa_6_0_copyload_i_i224_i_i_i_ph; p_v_16_sroa_7_0_copyload_i_i226_i_i_i105 = v_16_sroa_7_0_copyload_i_i226_i_i_i_ph; p_v_16_sroa_8_0_copyload_i_i228_i_i_i104 = v_16_sroa_8_0_copyload_i_i228_i_i_i_ph; goto L_bb1_i_i69_i_i; }
+    { p_v_16_sroa_0_0_copyload_i_i222_i_i_i106 = v_16_sroa_0_0_copyload_i_i222_i_i_i_ph; p_v_16_sroa_6_0_copyload_i_i224_i_i_i105 = v_16_sroa_6_0_copyload_i_i224_i_i_i_ph; p_v_16_sroa_7_0_copyload_i_i226_i_i_i104 = v_16_sroa_7_0_copyload_i_i226_i_i_i_ph; p_v_16_sroa_8_0_copyload_i_i228_i_i_i103 = v_16_sroa_8_0_copyload_i_i228_i_i_i_ph; goto L_bb1_i_i69_i_i; }
 L_bb9_i_i221_i_i_i:;
     v_16_sroa_8_0_copyload_i_i228_i_i_i = p_v_16_sroa_8_0_copyload_i_i228_i_i_i;
     v_16_sroa_7_0_copyload_i_i226_i_i_i = p_v_16_sroa_7_0_copyload_i_i226_i_i_i;
     v_16_sroa_6_0_copyload_i_i224_i_i_i = p_v_16_sroa_6_0_copyload_i_i224_i_i_i;
     v_16_sroa_0_0_copyload_i_i222_i_i_i = p_v_16_sroa_0_0_copyload_i_i222_i_i_i;
     v_5_not_i_i68_i_i = v_16_sroa_6_0_copyload_i_i224_i_i_i == 0u;
-    if (v_5_not_i_i68_i_i) { p_v_6_sroa_6_sroa_0_0_ph_off0_ph = 3u; goto L_bb3_thread151; } else { p_v_16_sroa_0_0_copyload_i_i222_i_i_i107 = v_16_sroa_0_0_copyload_i_i222_i_i_i; p_v_16_sroa_6_0_copyload_i_i224_i_i_i106 = v_16_sroa_6_0_copyload_i_i224_i_i_i; p_v_16_sroa_7_0_copyload_i_i226_i_i_i105 = v_16_sroa_7_0_copyload_i_i226_i_i_i; p_v_16_sroa_8_0_copyload_i_i228_i_i_i104 = v_16_sroa_8_0_copyload_i_i228_i_i_i; goto L_bb1_i_i69_i_i; }
+    if (v_5_not_i_i68_i_i) { p_v_6_sroa_6_sroa_0_0_ph_off0_ph = 3u; goto L_bb3_thread150; } else { p_v_16_sroa_0_0_copyload_i_i222_i_i_i106 = v_16_sroa_0_0_copyload_i_i222_i_i_i; p_v_16_sroa_6_0_copyload_i_i224_i_i_i105 = v_16_sroa_6_0_copyload_i_i224_i_i_i; p_v_16_sroa_7_0_copyload_i_i226_i_i_i104 = v_16_sroa_7_0_copyload_i_i226_i_i_i; p_v_16_sroa_8_0_copyload_i_i228_i_i_i103 = v_16_sroa_8_0_copyload_i_i228_i_i_i; goto L_bb1_i_i69_i_i; }
 L_bb1_i_i69_i_i:;
-    v_16_sroa_0_0_copyload_i_i222_i_i_i107 = p_v_16_sroa_0_0_copyload_i_i222_i_i_i107;
-    v_16_sroa_6_0_copyload_i_i224_i_i_i106 = p_v_16_sroa_6_0_copyload_i_i224_i_i_i106;
-    v_16_sroa_7_0_copyload_i_i226_i_i_i105 = p_v_16_sroa_7_0_copyload_i_i226_i_i_i105;
-    v_16_sroa_8_0_copyload_i_i228_i_i_i104 = p_v_16_sroa_8_0_copyload_i_i228_i_i_i104;
-    v_146 = get_u8(v_16_sroa_0_0_copyload_i_i222_i_i_i107);
+    v_16_sroa_0_0_copyload_i_i222_i_i_i106 = p_v_16_sroa_0_0_copyload_i_i222_i_i_i106;
+    v_16_sroa_6_0_copyload_i_i224_i_i_i105 = p_v_16_sroa_6_0_copyload_i_i224_i_i_i105;
+    v_16_sroa_7_0_copyload_i_i226_i_i_i104 = p_v_16_sroa_7_0_copyload_i_i226_i_i_i104;
+    v_16_sroa_8_0_copyload_i_i228_i_i_i103 = p_v_16_sroa_8_0_copyload_i_i228_i_i_i103;
+    v_146 = get_u8(v_16_sroa_0_0_copyload_i_i222_i_i_i106);
     v_147 = v_146 == 0u;
     if (v_147) { goto L_bb4_i_i75_i_i; } else { goto L_bb3_i_i70_i_i; }
 L_bb4_i_i75_i_i:;
-    v_148 = v_16_sroa_6_0_copyload_i_i224_i_i_i106 == 1u;
+    v_148 = v_16_sroa_6_0_copyload_i_i224_i_i_i105 == 1u;
     if (v_148) { goto L_bb7_i235_i_i_i; } else { goto L_bb5_i_i78_i_i; }
 L_bb3_i_i70_i_i:;
     v_20_i_i71_i_i = (u8)(v_146 ^ ((u8)1 << 7)) > (u8)(255u ^ ((u8)1 << 7));
-    if (v_20_i_i71_i_i) { goto L_bb7_i235_i_i_i; } else { p_v_6_sroa_6_sroa_0_0_ph_off0_ph = 13u; goto L_bb3_thread151; }
+    if (v_20_i_i71_i_i) { goto L_bb7_i235_i_i_i; } else { p_v_6_sroa_6_sroa_0_0_ph_off0_ph = 13u; goto L_bb3_thread150; }
 L_bb5_i_i78_i_i:;
-    v_rest_0_i_i76_i_i = v_16_sroa_0_0_copyload_i_i222_i_i_i107 + 1;
+    v_rest_0_i_i76_i_i = v_16_sroa_0_0_copyload_i_i222_i_i_i106 + 1;
     v_14_i_i79_i_i = get_u8(v_rest_0_i_i76_i_i);
     v_13_i_i80_i_i = (u8)(v_14_i_i79_i_i ^ ((u8)1 << 7)) < (u8)(0u ^ ((u8)1 << 7));
-    if (v_13_i_i80_i_i) { goto L_bb7_i235_i_i_i; } else { p_v_6_sroa_6_sroa_0_0_ph_off0_ph = 4u; goto L_bb3_thread151; }
+    if (v_13_i_i80_i_i) { goto L_bb7_i235_i_i_i; } else { p_v_6_sroa_6_sroa_0_0_ph_off0_ph = 4u; goto L_bb3_thread150; }
 L_bb8_i_i261_i_i_i:;
     v_17_sroa_0_0_copyload_i_i262_i_i_i = get_24(v_145);
     v_5_i219_i_i_sroa_7_8_insert_ext247_i = (u8)(v_17_sroa_0_0_copyload_i_i262_i_i_i);
     { p_v_6_sroa_6_sroa_0_0_ph_off0 = v_5_i219_i_i_sroa_7_8_insert_ext247_i; goto L_bb3; }
 L_bb7_i235_i_i_i:;
-    v_4_i221_i_i = v_16_sroa_8_0_copyload_i_i228_i_i_i104 > 1u;
+    v_4_i221_i_i = v_16_sroa_8_0_copyload_i_i228_i_i_i103 > 1u;
     if (v_4_i221_i_i) { goto L_bb2_i223_i_i; } else { goto L_bb7_i_i323_i_i_i; }
 L_bb2_i223_i_i:;
-    v_149 = v_16_sroa_7_0_copyload_i_i226_i_i_i105 + 2;
-    v_150 = (u64)((u64)(v_16_sroa_8_0_copyload_i_i228_i_i_i104) + (u64)(18446744073709551614ull));
-    v_12_i224_i_i = get_u8(v_16_sroa_7_0_copyload_i_i226_i_i_i105);
+    v_149 = v_16_sroa_7_0_copyload_i_i226_i_i_i104 + 2;
+    v_150 = (u64)((u64)(v_16_sroa_8_0_copyload_i_i228_i_i_i103) + (u64)(18446744073709551614ull));
+    v_12_i224_i_i = get_u8(v_16_sroa_7_0_copyload_i_i226_i_i_i104);
     v_11_i225_i_i = v_12_i224_i_i == 2u;
     if (v_11_i225_i_i) { goto L_bb3_i226_i_i; } else { goto L_bb7_i_i323_i_i_i; }
 L_bb3_i226_i_i:;
-    v_151 = v_16_sroa_7_0_copyload_i_i226_i_i_i105 + 1;
+    v_151 = v_16_sroa_7_0_copyload_i_i226_i_i_i104 + 1;
     v_14_i227_i_i = get_u8(v_151);
     v_13_i228_i_i = (u8)(v_14_i227_i_i ^ ((u8)1 << 7)) > (u8)(255u ^ ((u8)1 << 7));
     if (v_13_i228_i_i) { goto L_bb5_i257_i_i; } else { goto L_bb6_i229_i_i; }
@@ -7139,15 +7139,15 @@ L_bb8_i230_i_i:;
     v_35_not_i231_i_i = v_150 == 0u;
     if (v_35_not_i231_i_i) { goto L_bb7_i_i323_i_i_i; } else { goto L_bb14_i232_i_i; }
 L_bb10_i245_i_i:;
-    v_153 = v_16_sroa_7_0_copyload_i_i226_i_i_i105 + 4;
-    v_154 = (u64)((u64)(v_16_sroa_8_0_copyload_i_i228_i_i_i104) + (u64)(18446744073709551612ull));
+    v_153 = v_16_sroa_7_0_copyload_i_i226_i_i_i104 + 4;
+    v_154 = (u64)((u64)(v_16_sroa_8_0_copyload_i_i228_i_i_i103) + (u64)(18446744073709551612ull));
     v_27_i246_i_i = get_u8(v_149);
     v_26_not_i247_i_i = v_27_i246_i_i == 0u;
     if (v_26_not_i247_i_i) { goto L_bb7_i_i323_i_i_i; } else { goto L_bb11_i248_i_i; }
 L_bb11_i248_i_i:;
     v_30_i249_i_i = (u64)v_27_i246_i_i;
     v_29_i250_i_i = (u64)((u64)(v_30_i249_i_i) << (u64)((8u & 63)));
-    v_155 = v_16_sroa_7_0_copyload_i_i226_i_i_i105 + 3;
+    v_155 = v_16_sroa_7_0_copyload_i_i226_i_i_i104 + 3;
     v_33_i251_i_i = get_u8(v_155);
     v_32_i252_i_i = (u64)v_33_i251_i_i;
     v_28_i253_i_i = (u64)((u64)(v_29_i250_i_i) | (u64)(v_32_i252_i_i));
@@ -7158,8 +7158,8 @@ L_bb28_i255_i_i:;
     v_157 = (u64)((u64)(v_154) - (u64)(v_28_i253_i_i));
     { p_v_16_sroa_8_0_copyload_i_i291_i_i_i_ph = v_157; p_v_16_sroa_7_0_copyload_i_i289_i_i_i_ph = v_156; p_v_16_sroa_6_0_copyload_i_i287_i_i_i_ph = v_28_i253_i_i; p_v_16_sroa_0_0_copyload_i_i285_i_i_i_ph = v_153; goto L_bb9_i_i284_i_i_i_thread; }
 L_bb14_i232_i_i:;
-    v_158 = v_16_sroa_7_0_copyload_i_i226_i_i_i105 + 3;
-    v_159 = (u64)((u64)(v_16_sroa_8_0_copyload_i_i228_i_i_i104) + (u64)(18446744073709551613ull));
+    v_158 = v_16_sroa_7_0_copyload_i_i226_i_i_i104 + 3;
+    v_159 = (u64)((u64)(v_16_sroa_8_0_copyload_i_i228_i_i_i103) + (u64)(18446744073709551613ull));
     v_160 = v_14_i227_i_i == 129u;
     if (v_160) { goto L_bb15_i234_i_i; } else { goto L_bb7_i_i323_i_i_i; }
 L_bb15_i234_i_i:;
@@ -7179,7 +7179,7 @@ L_bb24_i260_i_i:;
     v_164 = (u64)((u64)(v_150) - (u64)(v_15_i258_i_i));
     { p_v_16_sroa_8_0_copyload_i_i291_i_i_i = v_164; p_v_16_sroa_7_0_copyload_i_i289_i_i_i = v_163; p_v_16_sroa_6_0_copyload_i_i287_i_i_i = v_15_i258_i_i; p_v_16_sroa_0_0_copyload_i_i285_i_i_i = v_149; goto L_bb9_i_i284_i_i_i; }
 L_bb7_i_i323_i_i_i:;
-    f_split_split_unlikely(v_5_i_i266_i_i_i, v_16_sroa_7_0_copyload_i_i226_i_i_i105, v_16_sroa_8_0_copyload_i_i228_i_i_i104, 2u);
+    f_split_split_unlikely(v_5_i_i266_i_i_i, v_16_sroa_7_0_copyload_i_i226_i_i_i104, v_16_sroa_8_0_copyload_i_i228_i_i_i103, 2u);
     v_165 = get_P(v_5_i_i266_i_i_i);
     v_166 = v_165 == (P)0;
     v_167 = v_5_i_i266_i_i_i + 8;
@@ -7196,48 +7196,48 @@ L_bb9_i_i284_i_i_i_thread:;
     v_16_sroa_7_0_copyload_i_i289_i_i_i_ph = p_v_16_sroa_7_0_copyload_i_i289_i_i_i_ph;
     v_16_sroa_6_0_copyload_i_i287_i_i_i_ph = p_v_16_sroa_6_0_copyload_i_i287_i_i_i_ph;
     v_16_sroa_0_0_copyload_i_i285_i_i_i_ph = p_v_16_sroa_0_0_copyload_i_i285_i_i_i_ph;
-    { p_v_16_sroa_0_0_copyload_i_i285_i_i_i116 = v_16_sroa_0_0_copyload_i_i285_i_i_i_ph; p_v_16_sroa_6_0_copyload_i_i287_i_i_i115 = v_16_sroa_6_0_copyload_i_i287_i_i_i_ph; p_v_16_sroa_7_0_copyload_i_i289_i_i_i114 = v_16_sroa_7_0_copyload_i_i289_i_i_i_ph; p_v_16_sroa_8_0_copyload_i_i291_i_i_i113 = v_16_sroa_8_0_copyload_i_i291_i_i_i_ph; goto L_bb1_i_i49_i_i; }
+    { p_v_16_sroa_0_0_copyload_i_i285_i_i_i115 = v_16_sroa_0_0_copyload_i_i285_i_i_i_ph; p_v_16_sroa_6_0_copyload_i_i287_i_i_i114 = v_16_sroa_6_0_copyload_i_i287_i_i_i_ph; p_v_16_sroa_7_0_copyload_i_i289_i_i_i113 = v_16_sroa_7_0_copyload_i_i289_i_i_i_ph; p_v_16_sroa_8_0_copyload_i_i291_i_i_i112 = v_16_sroa_8_0_copyload_i_i291_i_i_i_ph; goto L_bb1_i_i49_i_i; }
 L_bb9_i_i284_i_i_i:;
     v_16_sroa_8_0_copyload_i_i291_i_i_i = p_v_16_sroa_8_0_copyload_i_i291_i_i_i;
     v_16_sroa_7_0_copyload_i_i289_i_i_i = p_v_16_sroa_7_0_copyload_i_i289_i_i_i;
     v_16_sroa_6_0_copyload_i_i287_i_i_i = p_v_16_sroa_6_0_copyload_i_i287_i_i_i;
     v_16_sroa_0_0_copyload_i_i285_i_i_i = p_v_16_sroa_0_0_copyload_i_i285_i_i_i;
     v_5_not_i_i48_i_i = v_16_sroa_6_0_copyload_i_i287_i_i_i == 0u;
-    if (v_5_not_i_i48_i_i) { p_v_6_sroa_6_sroa_0_0_ph_off0_ph = 3u; goto L_bb3_thread151; } else { p_v_16_sroa_0_0_copyload_i_i285_i_i_i116 = v_16_sroa_0_0_copyload_i_i285_i_i_i; p_v_16_sroa_6_0_copyload_i_i287_i_i_i115 = v_16_sroa_6_0_copyload_i_i287_i_i_i; p_v_16_sroa_7_0_copyload_i_i289_i_i_i114 = v_16_sroa_7_0_copyload_i_i289_i_i_i; p_v_16_sroa_8_0_copyload_i_i291_i_i_i113 = v_16_sroa_8_0_copyload_i_i291_i_i_i; goto L_bb1_i_i49_i_i; }
+    if (v_5_not_i_i48_i_i) { p_v_6_sroa_6_sroa_0_0_ph_off0_ph = 3u; goto L_bb3_thread150; } else { p_v_16_sroa_0_0_copyload_i_i285_i_i_i115 = v_16_sroa_0_0_copyload_i_i285_i_i_i; p_v_16_sroa_6_0_copyload_i_i287_i_i_i114 = v_16_sroa_6_0_copyload_i_i287_i_i_i; p_v_16_sroa_7_0_copyload_i_i289_i_i_i113 = v_16_sroa_7_0_copyload_i_i289_i_i_i; p_v_16_sroa_8_0_copyload_i_i291_i_i_i112 = v_16_sroa_8_0_copyload_i_i291_i_i_i; goto L_bb1_i_i49_i_i; }
 L_bb1_i_i49_i_i:;
-    v_16_sroa_0_0_copyload_i_i285_i_i_i116 = p_v_16_sroa_0_0_copyload_i_i285_i_i_i116;
-    v_16_sroa_6_0_copyload_i_i287_i_i_i115 = p_v_16_sroa_6_0_copyload_i_i287_i_i_i115;
-    v_16_sroa_7_0_copyload_i_i289_i_i_i114 = p_v_16_sroa_7_0_copyload_i_i289_i_i_i114;
-    v_16_sroa_8_0_copyload_i_i291_i_i_i113 = p_v_16_sroa_8_0_copyload_i_i291_i_i_i113;
-    v_168 = get_u8(v_16_sroa_0_0_copyload_i_i285_i_i_i116);
+    v_16_sroa_0_0_copyload_i_i285_i_i_i115 = p_v_16_sroa_0_0_copyload_i_i285_i_i_i115;
+    v_16_sroa_6_0_copyload_i_i287_i_i_i114 = p_v_16_sroa_6_0_copyload_i_i287_i_i_i114;
+    v_16_sroa_7_0_copyload_i_i289_i_i_i113 = p_v_16_sroa_7_0_copyload_i_i289_i_i_i113;
+    v_16_sroa_8_0_copyload_i_i291_i_i_i112 = p_v_16_sroa_8_0_copyload_i_i291_i_i_i112;
+    v_168 = get_u8(v_16_sroa_0_0_copyload_i_i285_i_i_i115);
     v_169 = v_168 == 0u;
     if (v_169) { goto L_bb4_i_i55_i_i; } else { goto L_bb3_i_i50_i_i; }
 L_bb4_i_i55_i_i:;
-    v_170 = v_16_sroa_6_0_copyload_i_i287_i_i_i115 == 1u;
+    v_170 = v_16_sroa_6_0_copyload_i_i287_i_i_i114 == 1u;
     if (v_170) { goto L_bb7_i298_i_i_i; } else { goto L_bb5_i_i58_i_i; }
 L_bb3_i_i50_i_i:;
     v_20_i_i51_i_i = (u8)(v_168 ^ ((u8)1 << 7)) > (u8)(255u ^ ((u8)1 << 7));
-    if (v_20_i_i51_i_i) { goto L_bb7_i298_i_i_i; } else { p_v_6_sroa_6_sroa_0_0_ph_off0_ph = 13u; goto L_bb3_thread151; }
+    if (v_20_i_i51_i_i) { goto L_bb7_i298_i_i_i; } else { p_v_6_sroa_6_sroa_0_0_ph_off0_ph = 13u; goto L_bb3_thread150; }
 L_bb5_i_i58_i_i:;
-    v_rest_0_i_i56_i_i = v_16_sroa_0_0_copyload_i_i285_i_i_i116 + 1;
+    v_rest_0_i_i56_i_i = v_16_sroa_0_0_copyload_i_i285_i_i_i115 + 1;
     v_14_i_i59_i_i = get_u8(v_rest_0_i_i56_i_i);
     v_13_i_i60_i_i = (u8)(v_14_i_i59_i_i ^ ((u8)1 << 7)) < (u8)(0u ^ ((u8)1 << 7));
-    if (v_13_i_i60_i_i) { goto L_bb7_i298_i_i_i; } else { p_v_6_sroa_6_sroa_0_0_ph_off0_ph = 4u; goto L_bb3_thread151; }
+    if (v_13_i_i60_i_i) { goto L_bb7_i298_i_i_i; } else { p_v_6_sroa_6_sroa_0_0_ph_off0_ph = 4u; goto L_bb3_thread150; }
 L_bb8_i_i324_i_i_i:;
     v_17_sroa_0_0_copyload_i_i325_i_i_i = get_24(v_167);
     v_5_i282_i_i_sroa_7_8_insert_ext272_i = (u8)(v_17_sroa_0_0_copyload_i_i325_i_i_i);
     { p_v_6_sroa_6_sroa_0_0_ph_off0 = v_5_i282_i_i_sroa_7_8_insert_ext272_i; goto L_bb3; }
 L_bb7_i298_i_i_i:;
-    v_4_i176_i_i = v_16_sroa_8_0_copyload_i_i291_i_i_i113 > 1u;
+    v_4_i176_i_i = v_16_sroa_8_0_copyload_i_i291_i_i_i112 > 1u;
     if (v_4_i176_i_i) { goto L_bb2_i178_i_i; } else { goto L_bb7_i_i368_i_i_i; }
 L_bb2_i178_i_i:;
-    v_171 = v_16_sroa_7_0_copyload_i_i289_i_i_i114 + 2;
-    v_172 = (u64)((u64)(v_16_sroa_8_0_copyload_i_i291_i_i_i113) + (u64)(18446744073709551614ull));
-    v_12_i179_i_i = get_u8(v_16_sroa_7_0_copyload_i_i289_i_i_i114);
+    v_171 = v_16_sroa_7_0_copyload_i_i289_i_i_i113 + 2;
+    v_172 = (u64)((u64)(v_16_sroa_8_0_copyload_i_i291_i_i_i112) + (u64)(18446744073709551614ull));
+    v_12_i179_i_i = get_u8(v_16_sroa_7_0_copyload_i_i289_i_i_i113);
     v_11_i180_i_i = v_12_i179_i_i == 2u;
     if (v_11_i180_i_i) { goto L_bb3_i181_i_i; } else { goto L_bb7_i_i368_i_i_i; }
 L_bb3_i181_i_i:;
-    v_173 = v_16_sroa_7_0_copyload_i_i289_i_i_i114 + 1;
+    v_173 = v_16_sroa_7_0_copyload_i_i289_i_i_i113 + 1;
     v_14_i182_i_i = get_u8(v_173);
     v_13_i183_i_i = (u8)(v_14_i182_i_i ^ ((u8)1 << 7)) > (u8)(255u ^ ((u8)1 << 7));
     if (v_13_i183_i_i) { goto L_bb5_i212_i_i; } else { goto L_bb6_i184_i_i; }
@@ -7255,15 +7255,15 @@ L_bb8_i185_i_i:;
     v_35_not_i186_i_i = v_172 == 0u;
     if (v_35_not_i186_i_i) { goto L_bb7_i_i368_i_i_i; } else { goto L_bb14_i187_i_i; }
 L_bb10_i200_i_i:;
-    v_175 = v_16_sroa_7_0_copyload_i_i289_i_i_i114 + 4;
-    v_176 = (u64)((u64)(v_16_sroa_8_0_copyload_i_i291_i_i_i113) + (u64)(18446744073709551612ull));
+    v_175 = v_16_sroa_7_0_copyload_i_i289_i_i_i113 + 4;
+    v_176 = (u64)((u64)(v_16_sroa_8_0_copyload_i_i291_i_i_i112) + (u64)(18446744073709551612ull));
     v_27_i201_i_i = get_u8(v_171);
     v_26_not_i202_i_i = v_27_i201_i_i == 0u;
     if (v_26_not_i202_i_i) { goto L_bb7_i_i368_i_i_i; } else { goto L_bb11_i203_i_i; }
 L_bb11_i203_i_i:;
     v_30_i204_i_i = (u64)v_27_i201_i_i;
     v_29_i205_i_i = (u64)((u64)(v_30_i204_i_i) << (u64)((8u & 63)));
-    v_177 = v_16_sroa_7_0_copyload_i_i289_i_i_i114 + 3;
+    v_177 = v_16_sroa_7_0_copyload_i_i289_i_i_i113 + 3;
     v_33_i206_i_i = get_u8(v_177);
     v_32_i207_i_i = (u64)v_33_i206_i_i;
     v_28_i208_i_i = (u64)((u64)(v_29_i205_i_i) | (u64)(v_32_i207_i_i));
@@ -7274,8 +7274,8 @@ L_bb28_i210_i_i:;
     v_179 = (u64)((u64)(v_176) - (u64)(v_28_i208_i_i));
     { p_v_16_sroa_8_0_copyload_i_i340_i_i_i_ph = v_179; p_v_16_sroa_7_0_copyload_i_i338_i_i_i_ph = v_178; p_v_16_sroa_6_0_copyload_i_i336_i_i_i_ph = v_28_i208_i_i; p_v_16_sroa_0_0_copyload_i_i334_i_i_i_ph = v_175; goto L_bb9_i_i333_i_i_i_thread; }
 L_bb14_i187_i_i:;
-    v_180 = v_16_sroa_7_0_copyload_i_i289_i_i_i114 + 3;
-    v_181 = (u64)((u64)(v_16_sroa_8_0_copyload_i_i291_i_i_i113) + (u64)(18446744073709551613ull));
+    v_180 = v_16_sroa_7_0_copyload_i_i289_i_i_i113 + 3;
+    v_181 = (u64)((u64)(v_16_sroa_8_0_copyload_i_i291_i_i_i112) + (u64)(18446744073709551613ull));
     v_182 = v_14_i182_i_i == 129u;
     if (v_182) { goto L_bb15_i189_i_i; } else { goto L_bb7_i_i368_i_i_i; }
 L_bb15_i189_i_i:;
@@ -7295,7 +7295,7 @@ L_bb24_i215_i_i:;
     v_186 = (u64)((u64)(v_172) - (u64)(v_15_i213_i_i));
     { p_v_16_sroa_8_0_copyload_i_i340_i_i_i = v_186; p_v_16_sroa_7_0_copyload_i_i338_i_i_i = v_185; p_v_16_sroa_6_0_copyload_i_i336_i_i_i = v_15_i213_i_i; p_v_16_sroa_0_0_copyload_i_i334_i_i_i = v_171; goto L_bb9_i_i333_i_i_i; }
 L_bb7_i_i368_i_i_i:;
-    f_split_split_unlikely(v_5_i_i329_i_i_i, v_16_sroa_7_0_copyload_i_i289_i_i_i114, v_16_sroa_8_0_copyload_i_i291_i_i_i113, 2u);
+    f_split_split_unlikely(v_5_i_i329_i_i_i, v_16_sroa_7_0_copyload_i_i289_i_i_i113, v_16_sroa_8_0_copyload_i_i291_i_i_i112, 2u);
     v_187 = get_P(v_5_i_i329_i_i_i);
     v_188 = v_187 == (P)0;
     v_189 = v_5_i_i329_i_i_i + 8;
@@ -7312,48 +7312,48 @@ L_bb9_i_i333_i_i_i_thread:;
     v_16_sroa_7_0_copyload_i_i338_i_i_i_ph = p_v_16_sroa_7_0_copyload_i_i338_i_i_i_ph;
     v_16_sroa_6_0_copyload_i_i336_i_i_i_ph = p_v_16_sroa_6_0_copyload_i_i336_i_i_i_ph;
     v_16_sroa_0_0_copyload_i_i334_i_i_i_ph = p_v_16_sroa_0_0_copyload_i_i334_i_i_i_ph;
-    { p_v_16_sroa_0_0_copyload_i_i334_i_i_i125 = v_16_sroa_0_0_copyload_i_i334_i_i_i_ph; p_v_16_sroa_6_0_copyload_i_i336_i_i_i124 = v_16_sroa_6_0_copyload_i_i336_i_i_i_ph; p_v_16_sroa_7_0_copyload_i_i338_i_i_i123 = v_16_sroa_7_0_copyload_i_i338_i_i_i_ph; p_v_16_sroa_8_0_copyload_i_i340_i_i_i122 = v_16_sroa_8_0_copyload_i_i340_i_i_i_ph; goto L_bb1_i_i29_i_i; }
+    { p_v_16_sroa_0_0_copyload_i_i334_i_i_i124 = v_16_sroa_0_0_copyload_i_i334_i_i_i_ph; p_v_16_sroa_6_0_copyload_i_i336_i_i_i123 = v_16_sroa_6_0_copyload_i_i336_i_i_i_ph; p_v_16_sroa_7_0_copyload_i_i338_i_i_i122 = v_16_sroa_7_0_copyload_i_i338_i_i_i_ph; p_v_16_sroa_8_0_copyload_i_i340_i_i_i121 = v_16_sroa_8_0_copyload_i_i340_i_i_i_ph; goto L_bb1_i_i29_i_i; }
 L_bb9_i_i333_i_i_i:;
     v_16_sroa_8_0_copyload_i_i340_i_i_i = p_v_16_sroa_8_0_copyload_i_i340_i_i_i;
     v_16_sroa_7_0_copyload_i_i338_i_i_i = p_v_16_sroa_7_0_copyload_i_i338_i_i_i;
     v_16_sroa_6_0_copyload_i_i336_i_i_i = p_v_16_sroa_6_0_copyload_i_i336_i_i_i;
     v_16_sroa_0_0_copyload_i_i334_i_i_i = p_v_16_sroa_0_0_copyload_i_i334_i_i_i;
     v_5_not_i_i28_i_i = v_16_sroa_6_0_copyload_i_i336_i_i_i == 0u;
-    if (v_5_not_i_i28_i_i) { p_v_6_sroa_6_sroa_0_0_ph_off0_ph = 3u; goto L_bb3_thread151; } else { p_v_16_sroa_0_0_copyload_i_i334_i_i_i125 = v_16_sroa_0_0_copyload_i_i334_i_i_i; p_v_16_sroa_6_0_copyload_i_i336_i_i_i124 = v_16_sroa_6_0_copyload_i_i336_i_i_i; p_v_16_sroa_7_0_copyload_i_i338_i_i_i123 = v_16_sroa_7_0_copyload_i_i338_i_i_i; p_v_16_sroa_8_0_copyload_i_i340_i_i_i122 = v_16_sroa_8_0_copyload_i_i340_i_i_i; goto L_bb1_i_i29_i_i; }
+    if (v_5_not_i_i28_i_i) { p_v_6_sroa_6_sroa_0_0_ph_off0_ph = 3u; goto L_bb3_thread150; } else { p_v_16_sroa_0_0_copyload_i_i334_i_i_i124 = v_16_sroa_0_0_copyload_i_i334_i_i_i; p_v_16_sroa_6_0_copyload_i_i336_i_i_i123 = v_16_sroa_6_0_copyload_i_i336_i_i_i; p_v_16_sroa_7_0_copyload_i_i338_i_i_i122 = v_16_sroa_7_0_copyload_i_i338_i_i_i; p_v_16_sroa_8_0_copyload_i_i340_i_i_i121 = v_16_sroa_8_0_copyload_i_i340_i_i_i; goto L_bb1_i_i29_i_i; }
 L_bb1_i_i29_i_i:;
-    v_16_sroa_0_0_copyload_i_i334_i_i_i125 = p_v_16_sroa_0_0_copyload_i_i334_i_i_i125;
-    v_16_sroa_6_0_copyload_i_i336_i_i_i124 = p_v_16_sroa_6_0_copyload_i_i336_i_i_i124;
-    v_16_sroa_7_0_copyload_i_i338_i_i_i123 = p_v_16_sroa_7_0_copyload_i_i338_i_i_i123;
-    v_16_sroa_8_0_copyload_i_i340_i_i_i122 = p_v_16_sroa_8_0_copyload_i_i340_i_i_i122;
-    v_190 = get_u8(v_16_sroa_0_0_copyload_i_i334_i_i_i125);
+    v_16_sroa_0_0_copyload_i_i334_i_i_i124 = p_v_16_sroa_0_0_copyload_i_i334_i_i_i124;
+    v_16_sroa_6_0_copyload_i_i336_i_i_i123 = p_v_16_sroa_6_0_copyload_i_i336_i_i_i123;
+    v_16_sroa_7_0_copyload_i_i338_i_i_i122 = p_v_16_sroa_7_0_copyload_i_i338_i_i_i122;
+    v_16_sroa_8_0_copyload_i_i340_i_i_i121 = p_v_16_sroa_8_0_copyload_i_i340_i_i_i121;
+    v_190 = get_u8(v_16_sroa_0_0_copyload_i_i334_i_i_i124);
     v_191 = v_190 == 0u;
     if (v_191) { goto L_bb4_i_i35_i_i; } else { goto L_bb3_i_i30_i_i; }
 L_bb4_i_i35_i_i:;
-    v_192 = v_16_sroa_6_0_copyload_i_i336_i_i_i124 == 1u;
+    v_192 = v_16_sroa_6_0_copyload_i_i336_i_i_i123 == 1u;
     if (v_192) { goto L_bb7_i347_i_i_i; } else { goto L_bb5_i_i38_i_i; }
 L_bb3_i_i30_i_i:;
     v_20_i_i31_i_i = (u8)(v_190 ^ ((u8)1 << 7)) > (u8)(255u ^ ((u8)1 << 7));
-    if (v_20_i_i31_i_i) { goto L_bb7_i347_i_i_i; } else { p_v_6_sroa_6_sroa_0_0_ph_off0_ph = 13u; goto L_bb3_thread151; }
+    if (v_20_i_i31_i_i) { goto L_bb7_i347_i_i_i; } else { p_v_6_sroa_6_sroa_0_0_ph_off0_ph = 13u; goto L_bb3_thread150; }
 L_bb5_i_i38_i_i:;
-    v_rest_0_i_i36_i_i = v_16_sroa_0_0_copyload_i_i334_i_i_i125 + 1;
+    v_rest_0_i_i36_i_i = v_16_sroa_0_0_copyload_i_i334_i_i_i124 + 1;
     v_14_i_i39_i_i = get_u8(v_rest_0_i_i36_i_i);
     v_13_i_i40_i_i = (u8)(v_14_i_i39_i_i ^ ((u8)1 << 7)) < (u8)(0u ^ ((u8)1 << 7));
-    if (v_13_i_i40_i_i) { goto L_bb7_i347_i_i_i; } else { p_v_6_sroa_6_sroa_0_0_ph_off0_ph = 4u; goto L_bb3_thread151; }
+    if (v_13_i_i40_i_i) { goto L_bb7_i347_i_i_i; } else { p_v_6_sroa_6_sroa_0_0_ph_off0_ph = 4u; goto L_bb3_thread150; }
 L_bb8_i_i369_i_i_i:;
     v_17_sroa_0_0_copyload_i_i370_i_i_i = get_24(v_189);
     v_5_i331_i_i_sroa_7_8_insert_ext296_i = (u8)(v_17_sroa_0_0_copyload_i_i370_i_i_i);
     { p_v_6_sroa_6_sroa_0_0_ph_off0 = v_5_i331_i_i_sroa_7_8_insert_ext296_i; goto L_bb3; }
 L_bb7_i347_i_i_i:;
-    v_4_i_i_i = v_16_sroa_8_0_copyload_i_i340_i_i_i122 > 1u;
+    v_4_i_i_i = v_16_sroa_8_0_copyload_i_i340_i_i_i121 > 1u;
     if (v_4_i_i_i) { goto L_bb2_i_i_i; } else { goto L_bb7_i_i408_i_i_i; }
 L_bb2_i_i_i:;
-    v_193 = v_16_sroa_7_0_copyload_i_i338_i_i_i123 + 2;
-    v_194 = (u64)((u64)(v_16_sroa_8_0_copyload_i_i340_i_i_i122) + (u64)(18446744073709551614ull));
-    v_12_i_i_i = get_u8(v_16_sroa_7_0_copyload_i_i338_i_i_i123);
+    v_193 = v_16_sroa_7_0_copyload_i_i338_i_i_i122 + 2;
+    v_194 = (u64)((u64)(v_16_sroa_8_0_copyload_i_i340_i_i_i121) + (u64)(18446744073709551614ull));
+    v_12_i_i_i = get_u8(v_16_sroa_7_0_copyload_i_i338_i_i_i122);
     v_11_i_i_i = v_12_i_i_i == 2u;
     if (v_11_i_i_i) { goto L_bb3_i_i_i; } else { goto L_bb7_i_i408_i_i_i; }
 L_bb3_i_i_i:;
-    v_195 = v_16_sroa_7_0_copyload_i_i338_i_i_i123 + 1;
+    v_195 = v_16_sroa_7_0_copyload_i_i338_i_i_i122 + 1;
     v_14_i_i_i = get_u8(v_195);
     v_13_i_i_i = (u8)(v_14_i_i_i ^ ((u8)1 << 7)) > (u8)(255u ^ ((u8)1 << 7));
     if (v_13_i_i_i) { goto L_bb5_i_i_i; } else { goto L_bb6_i168_i_i; }
@@ -7371,15 +7371,15 @@ L_bb8_i169_i_i:;
     v_35_not_i_i_i = v_194 == 0u;
     if (v_35_not_i_i_i) { goto L_bb7_i_i408_i_i_i; } else { goto L_bb14_i_i_i; }
 L_bb10_i_i_i:;
-    v_197 = v_16_sroa_7_0_copyload_i_i338_i_i_i123 + 4;
-    v_198 = (u64)((u64)(v_16_sroa_8_0_copyload_i_i340_i_i_i122) + (u64)(18446744073709551612ull));
+    v_197 = v_16_sroa_7_0_copyload_i_i338_i_i_i122 + 4;
+    v_198 = (u64)((u64)(v_16_sroa_8_0_copyload_i_i340_i_i_i121) + (u64)(18446744073709551612ull));
     v_27_i_i_i = get_u8(v_193);
     v_26_not_i_i_i = v_27_i_i_i == 0u;
     if (v_26_not_i_i_i) { goto L_bb7_i_i408_i_i_i; } else { goto L_bb11_i_i_i; }
 L_bb11_i_i_i:;
     v_30_i_i_i = (u64)v_27_i_i_i;
     v_29_i_i_i = (u64)((u64)(v_30_i_i_i) << (u64)((8u & 63)));
-    v_199 = v_16_sroa_7_0_copyload_i_i338_i_i_i123 + 3;
+    v_199 = v_16_sroa_7_0_copyload_i_i338_i_i_i122 + 3;
     v_33_i_i_i = get_u8(v_199);
     v_32_i_i_i = (u64)v_33_i_i_i;
     v_28_i_i_i = (u64)((u64)(v_29_i_i_i) | (u64)(v_32_i_i_i));
@@ -7390,8 +7390,8 @@ L_bb28_i_i_i:;
     v_201 = (u64)((u64)(v_198) - (u64)(v_28_i_i_i));
     { p_v_16_sroa_8_0_copyload_i_i385_i_i_i_ph = v_201; p_v_16_sroa_7_0_copyload_i_i383_i_i_i_ph = v_200; p_v_16_sroa_6_0_copyload_i_i381_i_i_i_ph = v_28_i_i_i; p_v_16_sroa_0_0_copyload_i_i379_i_i_i_ph = v_197; goto L_bb9_i_i378_i_i_i_thread; }
 L_bb14_i_i_i:;
-    v_202 = v_16_sroa_7_0_copyload_i_i338_i_i_i123 + 3;
-    v_203 = (u64)((u64)(v_16_sroa_8_0_copyload_i_i340_i_i_i122) + (u64)(18446744073709551613ull));
+    v_202 = v_16_sroa_7_0_copyload_i_i338_i_i_i122 + 3;
+    v_203 = (u64)((u64)(v_16_sroa_8_0_copyload_i_i340_i_i_i121) + (u64)(18446744073709551613ull));
     v_204 = v_14_i_i_i == 129u;
     if (v_204) { goto L_bb15_i_i_i; } else { goto L_bb7_i_i408_i_i_i; }
 L_bb15_i_i_i:;
@@ -7411,7 +7411,7 @@ L_bb24_i_i_i:;
     v_208 = (u64)((u64)(v_194) - (u64)(v_15_i172_i_i));
     { p_v_16_sroa_8_0_copyload_i_i385_i_i_i = v_208; p_v_16_sroa_7_0_copyload_i_i383_i_i_i = v_207; p_v_16_sroa_6_0_copyload_i_i381_i_i_i = v_15_i172_i_i; p_v_16_sroa_0_0_copyload_i_i379_i_i_i = v_193; goto L_bb9_i_i378_i_i_i; }
 L_bb7_i_i408_i_i_i:;
-    f_split_split_unlikely(v_5_i_i374_i_i_i, v_16_sroa_7_0_copyload_i_i338_i_i_i123, v_16_sroa_8_0_copyload_i_i340_i_i_i122, 2u);
+    f_split_split_unlikely(v_5_i_i374_i_i_i, v_16_sroa_7_0_copyload_i_i338_i_i_i122, v_16_sroa_8_0_copyload_i_i340_i_i_i121, 2u);
     v_209 = get_P(v_5_i_i374_i_i_i);
     v_210 = v_209 == (P)0;
     v_211 = v_5_i_i374_i_i_i + 8;
@@ -7428,48 +7428,48 @@ L_bb9_i_i378_i_i_i_thread:;
     v_16_sroa_7_0_copyload_i_i383_i_i_i_ph = p_v_16_sroa_7_0_copyload_i_i383_i_i_i_ph;
     v_16_sroa_6_0_copyload_i_i381_i_i_i_ph = p_v_16_sroa_6_0_copyload_i_i381_i_i_i_ph;
     v_16_sroa_0_0_copyload_i_i379_i_i_i_ph = p_v_16_sroa_0_0_copyload_i_i379_i_i_i_ph;
-    { p_v_16_sroa_0_0_copyload_i_i379_i_i_i134 = v_16_sroa_0_0_copyload_i_i379_i_i_i_ph; p_v_16_sroa_6_0_copyload_i_i381_i_i_i133 = v_16_sroa_6_0_copyload_i_i381_i_i_i_ph; p_v_16_sroa_7_0_copyload_i_i383_i_i_i132 = v_16_sroa_7_0_copyload_i_i383_i_i_i_ph; p_v_16_sroa_8_0_copyload_i_i385_i_i_i131 = v_16_sroa_8_0_copyload_i_i385_i_i_i_ph; goto L_bb1_i_i_i_i; }
+    { p_v_16_sroa_0_0_copyload_i_i379_i_i_i133 = v_16_sroa_0_0_copyload_i_i379_i_i_i_ph; p_v_16_sroa_6_0_copyload_i_i381_i_i_i132 = v_16_sroa_6_0_copyload_i_i381_i_i_i_ph; p_v_16_sroa_7_0_copyload_i_i383_i_i_i131 = v_16_sroa_7_0_copyload_i_i383_i_i_i_ph; p_v_16_sroa_8_0_copyload_i_i385_i_i_i130 = v_16_sroa_8_0_copyload_i_i385_i_i_i_ph; goto L_bb1_i_i_i_i; }
 L_bb9_i_i378_i_i_i:;
     v_16_sroa_8_0_copyload_i_i385_i_i_i = p_v_16_sroa_8_0_copyload_i_i385_i_i_i;
     v_16_sroa_7_0_copyload_i_i383_i_i_i = p_v_16_sroa_7_0_copyload_i_i383_i_i_i;
     v_16_sroa_6_0_copyload_i_i381_i_i_i = p_v_16_sroa_6_0_copyload_i_i381_i_i_i;
     v_16_sroa_0_0_copyload_i_i379_i_i_i = p_v_16_sroa_0_0_copyload_i_i379_i_i_i;
     v_5_not_i_i_i_i = v_16_sroa_6_0_copyload_i_i381_i_i_i == 0u;
-    if (v_5_not_i_i_i_i) { p_v_6_sroa_6_sroa_0_0_ph_off0_ph = 3u; goto L_bb3_thread151; } else { p_v_16_sroa_0_0_copyload_i_i379_i_i_i134 = v_16_sroa_0_0_copyload_i_i379_i_i_i; p_v_16_sroa_6_0_copyload_i_i381_i_i_i133 = v_16_sroa_6_0_copyload_i_i381_i_i_i; p_v_16_sroa_7_0_copyload_i_i383_i_i_i132 = v_16_sroa_7_0_copyload_i_i383_i_i_i; p_v_16_sroa_8_0_copyload_i_i385_i_i_i131 = v_16_sroa_8_0_copyload_i_i385_i_i_i; goto L_bb1_i_i_i_i; }
+    if (v_5_not_i_i_i_i) { p_v_6_sroa_6_sroa_0_0_ph_off0_ph = 3u; goto L_bb3_thread150; } else { p_v_16_sroa_0_0_copyload_i_i379_i_i_i133 = v_16_sroa_0_0_copyload_i_i379_i_i_i; p_v_16_sroa_6_0_copyload_i_i381_i_i_i132 = v_16_sroa_6_0_copyload_i_i381_i_i_i; p_v_16_sroa_7_0_copyload_i_i383_i_i_i131 = v_16_sroa_7_0_copyload_i_i383_i_i_i; p_v_16_sroa_8_0_copyload_i_i385_i_i_i130 = v_16_sroa_8_0_copyload_i_i385_i_i_i; goto L_bb1_i_i_i_i; }
 L_bb1_i_i_i_i:;
-    v_16_sroa_0_0_copyload_i_i379_i_i_i134 = p_v_16_sroa_0_0_copyload_i_i379_i_i_i134;
-    v_16_sroa_6_0_copyload_i_i381_i_i_i133 = p_v_16_sroa_6_0_copyload_i_i381_i_i_i133;
-    v_16_sroa_7_0_copyload_i_i383_i_i_i132 = p_v_16_sroa_7_0_copyload_i_i383_i_i_i132;
-    v_16_sroa_8_0_copyload_i_i385_i_i_i131 = p_v_16_sroa_8_0_copyload_i_i385_i_i_i131;
-    v_212 = get_u8(v_16_sroa_0_0_copyload_i_i379_i_i_i134);
+    v_16_sroa_0_0_copyload_i_i379_i_i_i133 = p_v_16_sroa_0_0_copyload_i_i379_i_i_i133;
+    v_16_sroa_6_0_copyload_i_i381_i_i_i132 = p_v_16_sroa_6_0_copyload_i_i381_i_i_i132;
+    v_16_sroa_7_0_copyload_i_i383_i_i_i131 = p_v_16_sroa_7_0_copyload_i_i383_i_i_i131;
+    v_16_sroa_8_0_copyload_i_i385_i_i_i130 = p_v_16_sroa_8_0_copyload_i_i385_i_i_i130;
+    v_212 = get_u8(v_16_sroa_0_0_copyload_i_i379_i_i_i133);
     v_213 = v_212 == 0u;
     if (v_213) { goto L_bb4_i_i_i_i; } else { goto L_bb3_i_i_i_i; }
 L_bb4_i_i_i_i:;
-    v_214 = v_16_sroa_6_0_copyload_i_i381_i_i_i133 == 1u;
+    v_214 = v_16_sroa_6_0_copyload_i_i381_i_i_i132 == 1u;
     if (v_214) { goto L_NoMemory_read_first_exit_i_i; } else { goto L_bb5_i_i_i_i; }
 L_bb3_i_i_i_i:;
     v_20_i_i21_i_i = (u8)(v_212 ^ ((u8)1 << 7)) > (u8)(255u ^ ((u8)1 << 7));
-    if (v_20_i_i21_i_i) { goto L_NoMemory_read_first_exit_i_i; } else { p_v_6_sroa_6_sroa_0_0_ph_off0_ph = 13u; goto L_bb3_thread151; }
+    if (v_20_i_i21_i_i) { goto L_NoMemory_read_first_exit_i_i; } else { p_v_6_sroa_6_sroa_0_0_ph_off0_ph = 13u; goto L_bb3_thread150; }
 L_bb5_i_i_i_i:;
-    v_rest_0_i_i_i_i = v_16_sroa_0_0_copyload_i_i379_i_i_i134 + 1;
+    v_rest_0_i_i_i_i = v_16_sroa_0_0_copyload_i_i379_i_i_i133 + 1;
     v_14_i_i24_i_i = get_u8(v_rest_0_i_i_i_i);
     v_13_i_i_i_i = (u8)(v_14_i_i24_i_i ^ ((u8)1 << 7)) < (u8)(0u ^ ((u8)1 << 7));
-    if (v_13_i_i_i_i) { goto L_NoMemory_read_first_exit_i_i; } else { p_v_6_sroa_6_sroa_0_0_ph_off0_ph = 4u; goto L_bb3_thread151; }
+    if (v_13_i_i_i_i) { goto L_NoMemory_read_first_exit_i_i; } else { p_v_6_sroa_6_sroa_0_0_ph_off0_ph = 4u; goto L_bb3_thread150; }
 L_bb8_i_i409_i_i_i:;
     v_17_sroa_0_0_copyload_i_i410_i_i_i = get_24(v_211);
     v_5_i376_i_i_sroa_7_8_insert_ext322_i = (u8)(v_17_sroa_0_0_copyload_i_i410_i_i_i);
     { p_v_6_sroa_6_sroa_0_0_ph_off0 = v_5_i376_i_i_sroa_7_8_insert_ext322_i; goto L_bb3; }
 L_NoMemory_read_first_exit_i_i:;
     v_215 = (u1)((v_13_i536_i_i) & 1);
-    v_216 = v_16_sroa_8_0_copyload_i_i385_i_i_i131 == 0u;
+    v_216 = v_16_sroa_8_0_copyload_i_i385_i_i_i130 == 0u;
     if (v_216) { goto L_bb7_i51_i; } else { goto L_bb5_split_i_i; }
 L_bb5_split_i_i:;
-    f_viewed_key_read_list(v_7_i_i, v_16_sroa_7_0_copyload_i_i383_i_i_i132, v_16_sroa_8_0_copyload_i_i385_i_i_i131, v_215);
+    f_viewed_key_read_list(v_7_i_i, v_16_sroa_7_0_copyload_i_i383_i_i_i131, v_16_sroa_8_0_copyload_i_i385_i_i_i130, v_215);
     { goto L_bb11_i48_i; }
 L_bb7_i51_i:;
     if (v_215) { goto L_bb7_split_i_i; } else { goto L_bb11_i_i; }
 L_bb7_split_i_i:;
-    f_viewed_key_read_list(v_7_i_i, v_16_sroa_7_0_copyload_i_i383_i_i_i132, 0u, 1u);
+    f_viewed_key_read_list(v_7_i_i, v_16_sroa_7_0_copyload_i_i383_i_i_i131, 0u, 1u);
     { goto L_bb11_i48_i; }
 L_bb11_i48_i:;
     v_217 = get_u8(v_7_i_i);
@@ -7485,7 +7485,7 @@ L_bb8_i_i:;
     v_extract_t = (u8)(v_17_sroa_0_0_copyload_i_i);
     { p_v_6_sroa_6_sroa_0_0_ph_off0 = v_extract_t; goto L_bb3; }
 L_bb11_i_i:;
-    v_8_not_i_i = v_16_sroa_8_0_copyload_i_i54 == 0u;
+    v_8_not_i_i = v_16_sroa_8_0_copyload_i_i53 == 0u;
     if (v_8_not_i_i) { goto L_ObjectIdentifier_as_bytes_exit_i; } else { p_v_6_sroa_6_sroa_0_0_ph_ph_off0 = 12u; goto L_bb3_thread; }
 L_ObjectIdentifier_as_bytes_exit_i:;
     v_219 = v_info + 16;
@@ -7499,29 +7499,29 @@ L_ObjectIdentifier_as_bytes_exit_i:;
     fill(v_padded_i_i_i_i_9_sroa_idx, 0u, 30u);
     copy(v_padded_i_i_i_i, AT(f_alloc_94fb4df3a6d6e8a877699621a2a53ea2), 9u);
     copy(v_made_sroa_6_sroa_0, v_padded_i_i_i_i, 39u);
-    if (v_11_i) { goto L_bb2_i_i_i_i_i41_i; } else { p_v_counter_i_sroa_0_0_i = 0u; goto L_counter_Counter_exit_i_i_i_i_i; }
-L_bb2_i_i_i_i_i41_i:;
-    v_9_i_i_i_i_i_i_i42_i = v_12_1_i < 128u;
-    if (v_9_i_i_i_i_i_i_i42_i) { goto L_bb3_i_i_i_i_i_i_i101_i; } else { goto L_bb4_i_i_i_i_i_i_i43_i; }
-L_bb4_i_i_i_i_i_i_i43_i:;
+    if (v_11_i) { goto L_bb2_i_i_i_i_i42_i; } else { p_v_counter_i_sroa_0_0_i = 0u; goto L_counter_Counter_exit_i_i_i_i_i; }
+L_bb2_i_i_i_i_i42_i:;
+    v_9_i_i_i_i_i_i_i43_i = v_12_1_i < 128u;
+    if (v_9_i_i_i_i_i_i_i43_i) { goto L_bb3_i_i_i_i_i_i_i105_i; } else { goto L_bb4_i_i_i_i_i_i_i44_i; }
+L_bb4_i_i_i_i_i_i_i44_i:;
     v_10_i_i_i_i_i_i_i_i = v_12_1_i < 256u;
-    if (v_10_i_i_i_i_i_i_i_i) { goto L_bb5_i_i_i_i_i_i_i100_i; } else { goto L_bb6_i_i_i_i_i_i_i44_i; }
-L_bb3_i_i_i_i_i_i_i101_i:;
+    if (v_10_i_i_i_i_i_i_i_i) { goto L_bb5_i_i_i_i_i_i_i104_i; } else { goto L_bb6_i_i_i_i_i_i_i45_i; }
+L_bb3_i_i_i_i_i_i_i105_i:;
     v_223 = (u64)((u64)(v_12_1_i) + (u64)(2u));
     { p_v_counter_i_sroa_0_0_i = v_223; goto L_counter_Counter_exit_i_i_i_i_i; }
-L_bb6_i_i_i_i_i_i_i44_i:;
+L_bb6_i_i_i_i_i_i_i45_i:;
     v_11_i_i_i_i_i_i_i_i = v_12_1_i < 65536u;
-    if (v_11_i_i_i_i_i_i_i_i) { goto L_bb7_i_i_i_i_i_i_i99_i; } else { goto L_bb8_i_i_i_i_i_i_i45_i; }
-L_bb5_i_i_i_i_i_i_i100_i:;
+    if (v_11_i_i_i_i_i_i_i_i) { goto L_bb7_i_i_i_i_i_i_i103_i; } else { goto L_bb8_i_i_i_i_i_i_i46_i; }
+L_bb5_i_i_i_i_i_i_i104_i:;
     v_224 = (u64)((u64)(v_12_1_i) + (u64)(3u));
     { p_v_counter_i_sroa_0_0_i = v_224; goto L_counter_Counter_exit_i_i_i_i_i; }
-L_bb8_i_i_i_i_i_i_i45_i:;
-    v_12_i_i_i_i_i_i_i46_i = v_12_1_i < 16777216u;
-    if (v_12_i_i_i_i_i_i_i46_i) { goto L_bb9_i_i_i_i_i_i_i_i; } else { goto L_bb10_i_i_i_i_i_i_i47_i; }
-L_bb7_i_i_i_i_i_i_i99_i:;
+L_bb8_i_i_i_i_i_i_i46_i:;
+    v_12_i_i_i_i_i_i_i47_i = v_12_1_i < 16777216u;
+    if (v_12_i_i_i_i_i_i_i47_i) { goto L_bb9_i_i_i_i_i_i_i_i; } else { goto L_bb10_i_i_i_i_i_i_i48_i; }
+L_bb7_i_i_i_i_i_i_i103_i:;
     v_225 = (u64)((u64)(v_12_1_i) + (u64)(4u));
     { p_v_counter_i_sroa_0_0_i = v_225; goto L_counter_Counter_exit_i_i_i_i_i; }
-L_bb10_i_i_i_i_i_i_i47_i:;
+L_bb10_i_i_i_i_i_i_i48_i:;
     v_226 = v_12_1_i + (6u < ~v_12_1_i ? 6u : ~v_12_1_i);
     { p_v_counter_i_sroa_0_0_i = v_226; goto L_counter_Counter_exit_i_i_i_i_i; }
 L_bb9_i_i_i_i_i_i_i_i:;
@@ -7531,89 +7531,89 @@ L_counter_Counter_exit_i_i_i_i_i:;
     v_counter_i_sroa_0_0_i = p_v_counter_i_sroa_0_0_i;
     v_228 = v_counter_i_sroa_0_0_i + (v_4_1_i < ~v_counter_i_sroa_0_0_i ? v_4_1_i : ~v_counter_i_sroa_0_0_i);
     v_229 = v_228 > v_counter_i_sroa_0_0_i ? v_228 - v_counter_i_sroa_0_0_i : 0u;
-    v_9_i_i_i5_i_i_i_i = v_229 < 128u;
-    if (v_9_i_i_i5_i_i_i_i) { goto L_bb3_i_i_i17_i_i_i_i; } else { goto L_bb4_i_i_i6_i_i_i_i; }
-L_bb4_i_i_i6_i_i_i_i:;
-    v_10_i_i_i7_i_i_i_i = v_229 < 256u;
-    if (v_10_i_i_i7_i_i_i_i) { goto L_bb5_i_i_i16_i_i_i_i; } else { goto L_bb6_i_i_i8_i_i_i_i; }
-L_bb3_i_i_i17_i_i_i_i:;
+    v_9_i_i_i7_i_i_i_i = v_229 < 128u;
+    if (v_9_i_i_i7_i_i_i_i) { goto L_bb3_i_i_i19_i_i_i_i; } else { goto L_bb4_i_i_i8_i_i_i_i; }
+L_bb4_i_i_i8_i_i_i_i:;
+    v_10_i_i_i9_i_i_i_i = v_229 < 256u;
+    if (v_10_i_i_i9_i_i_i_i) { goto L_bb5_i_i_i18_i_i_i_i; } else { goto L_bb6_i_i_i10_i_i_i_i; }
+L_bb3_i_i_i19_i_i_i_i:;
     v_230 = (u64)((u64)(v_229) + (u64)(2u));
-    { p_v_encoding_sroa_0_0_i_i_i13_i_i_i_i = v_230; goto L_bb3_i_i66_i; }
-L_bb6_i_i_i8_i_i_i_i:;
-    v_11_i_i_i9_i_i_i_i = v_229 < 65536u;
-    if (v_11_i_i_i9_i_i_i_i) { goto L_bb7_i_i_i15_i_i_i_i; } else { goto L_bb8_i_i_i10_i_i_i_i; }
-L_bb5_i_i_i16_i_i_i_i:;
+    { p_v_encoding_sroa_0_0_i_i_i15_i_i_i_i = v_230; goto L_bb3_i_i67_i; }
+L_bb6_i_i_i10_i_i_i_i:;
+    v_11_i_i_i11_i_i_i_i = v_229 < 65536u;
+    if (v_11_i_i_i11_i_i_i_i) { goto L_bb7_i_i_i17_i_i_i_i; } else { goto L_bb8_i_i_i12_i_i_i_i; }
+L_bb5_i_i_i18_i_i_i_i:;
     v_231 = (u64)((u64)(v_229) + (u64)(3u));
-    { p_v_encoding_sroa_0_0_i_i_i13_i_i_i_i = v_231; goto L_bb3_i_i66_i; }
-L_bb8_i_i_i10_i_i_i_i:;
-    v_12_i_i_i11_i_i_i_i = v_229 < 16777216u;
-    if (v_12_i_i_i11_i_i_i_i) { goto L_bb9_i_i_i14_i_i_i_i; } else { goto L_bb10_i_i_i12_i_i_i_i; }
-L_bb7_i_i_i15_i_i_i_i:;
+    { p_v_encoding_sroa_0_0_i_i_i15_i_i_i_i = v_231; goto L_bb3_i_i67_i; }
+L_bb8_i_i_i12_i_i_i_i:;
+    v_12_i_i_i13_i_i_i_i = v_229 < 16777216u;
+    if (v_12_i_i_i13_i_i_i_i) { goto L_bb9_i_i_i16_i_i_i_i; } else { goto L_bb10_i_i_i14_i_i_i_i; }
+L_bb7_i_i_i17_i_i_i_i:;
     v_232 = (u64)((u64)(v_229) + (u64)(4u));
-    { p_v_encoding_sroa_0_0_i_i_i13_i_i_i_i = v_232; goto L_bb3_i_i66_i; }
-L_bb10_i_i_i12_i_i_i_i:;
+    { p_v_encoding_sroa_0_0_i_i_i15_i_i_i_i = v_232; goto L_bb3_i_i67_i; }
+L_bb10_i_i_i14_i_i_i_i:;
     v_233 = v_229 + (6u < ~v_229 ? 6u : ~v_229);
-    { p_v_encoding_sroa_0_0_i_i_i13_i_i_i_i = v_233; goto L_bb3_i_i66_i; }
-L_bb9_i_i_i14_i_i_i_i:;
+    { p_v_encoding_sroa_0_0_i_i_i15_i_i_i_i = v_233; goto L_bb3_i_i67_i; }
+L_bb9_i_i_i16_i_i_i_i:;
     v_234 = (u64)((u64)(v_229) + (u64)(5u));
-    { p_v_encoding_sroa_0_0_i_i_i13_i_i_i_i = v_234; goto L_bb3_i_i66_i; }
-L_bb3_i_i66_i:;
-    v_encoding_sroa_0_0_i_i_i13_i_i_i_i = p_v_encoding_sroa_0_0_i_i_i13_i_i_i_i;
-    v_235 = v_counter_i_sroa_0_0_i + (v_encoding_sroa_0_0_i_i_i13_i_i_i_i < ~v_counter_i_sroa_0_0_i ? v_encoding_sroa_0_0_i_i_i13_i_i_i_i : ~v_counter_i_sroa_0_0_i);
+    { p_v_encoding_sroa_0_0_i_i_i15_i_i_i_i = v_234; goto L_bb3_i_i67_i; }
+L_bb3_i_i67_i:;
+    v_encoding_sroa_0_0_i_i_i15_i_i_i_i = p_v_encoding_sroa_0_0_i_i_i15_i_i_i_i;
+    v_235 = v_counter_i_sroa_0_0_i + (v_encoding_sroa_0_0_i_i_i15_i_i_i_i < ~v_counter_i_sroa_0_0_i ? v_encoding_sroa_0_0_i_i_i15_i_i_i_i : ~v_counter_i_sroa_0_0_i);
     v_236 = v_235 + (2u < ~v_235 ? 2u : ~v_235);
     v_237 = v_235 + (11u < ~v_235 ? 11u : ~v_235);
     v_238 = v_237 > v_236 ? v_237 - v_236 : 0u;
-    v_9_i_i_i_i69_i = v_238 < 128u;
-    if (v_9_i_i_i_i69_i) { goto L_bb3_i_i_i_i95_i; } else { goto L_bb4_i_i_i_i70_i; }
-L_bb4_i_i_i_i70_i:;
+    v_9_i_i_i_i70_i = v_238 < 128u;
+    if (v_9_i_i_i_i70_i) { goto L_bb3_i_i_i1_i_i; } else { goto L_bb4_i_i_i_i71_i; }
+L_bb4_i_i_i_i71_i:;
     v_10_i_i_i_i_i = v_238 < 256u;
-    if (v_10_i_i_i_i_i) { goto L_bb5_i_i_i_i94_i; } else { goto L_bb6_i_i_i_i71_i; }
-L_bb3_i_i_i_i95_i:;
+    if (v_10_i_i_i_i_i) { goto L_bb5_i_i_i_i99_i; } else { goto L_bb6_i_i_i_i72_i; }
+L_bb3_i_i_i1_i_i:;
     v_239 = (u64)((u64)(v_238) + (u64)(2u));
     { p_v_encoding_sroa_0_0_i_i_i_i_i = v_239; goto L_counter_Counter_exit_i_i; }
-L_bb6_i_i_i_i71_i:;
+L_bb6_i_i_i_i72_i:;
     v_11_i_i_i_i_i = v_238 < 65536u;
-    if (v_11_i_i_i_i_i) { goto L_bb7_i_i_i_i93_i; } else { goto L_bb8_i_i_i_i72_i; }
-L_bb5_i_i_i_i94_i:;
+    if (v_11_i_i_i_i_i) { goto L_bb7_i_i_i_i98_i; } else { goto L_bb8_i_i_i_i73_i; }
+L_bb5_i_i_i_i99_i:;
     v_240 = (u64)((u64)(v_238) + (u64)(3u));
     { p_v_encoding_sroa_0_0_i_i_i_i_i = v_240; goto L_counter_Counter_exit_i_i; }
-L_bb8_i_i_i_i72_i:;
-    v_12_i_i_i_i73_i = v_238 < 16777216u;
-    if (v_12_i_i_i_i73_i) { goto L_bb9_i_i_i_i_i20; } else { goto L_bb10_i_i_i_i74_i; }
-L_bb7_i_i_i_i93_i:;
+L_bb8_i_i_i_i73_i:;
+    v_12_i_i_i_i74_i = v_238 < 16777216u;
+    if (v_12_i_i_i_i74_i) { goto L_bb9_i_i_i_i_i19; } else { goto L_bb10_i_i_i_i75_i; }
+L_bb7_i_i_i_i98_i:;
     v_241 = (u64)((u64)(v_238) + (u64)(4u));
     { p_v_encoding_sroa_0_0_i_i_i_i_i = v_241; goto L_counter_Counter_exit_i_i; }
-L_bb10_i_i_i_i74_i:;
+L_bb10_i_i_i_i75_i:;
     v_242 = v_238 + (6u < ~v_238 ? 6u : ~v_238);
     { p_v_encoding_sroa_0_0_i_i_i_i_i = v_242; goto L_counter_Counter_exit_i_i; }
-L_bb9_i_i_i_i_i20:;
+L_bb9_i_i_i_i_i19:;
     v_243 = (u64)((u64)(v_238) + (u64)(5u));
     { p_v_encoding_sroa_0_0_i_i_i_i_i = v_243; goto L_counter_Counter_exit_i_i; }
 L_counter_Counter_exit_i_i:;
     v_encoding_sroa_0_0_i_i_i_i_i = p_v_encoding_sroa_0_0_i_i_i_i_i;
     v_244 = v_236 + (v_encoding_sroa_0_0_i_i_i_i_i < ~v_236 ? v_encoding_sroa_0_0_i_i_i_i_i : ~v_236);
     v_245 = v_244 > v_235 ? v_244 - v_235 : 0u;
-    v_9_i_i_i_i_i_i75_i = v_245 < 128u;
-    if (v_9_i_i_i_i_i_i75_i) { goto L_bb3_i_i_i_i_i_i92_i; } else { goto L_bb4_i_i_i_i_i_i76_i; }
-L_bb4_i_i_i_i_i_i76_i:;
+    v_9_i_i_i_i_i_i76_i = v_245 < 128u;
+    if (v_9_i_i_i_i_i_i76_i) { goto L_bb3_i_i_i_i_i_i97_i; } else { goto L_bb4_i_i_i_i_i_i77_i; }
+L_bb4_i_i_i_i_i_i77_i:;
     v_10_i_i_i_i_i_i_i = v_245 < 256u;
-    if (v_10_i_i_i_i_i_i_i) { goto L_bb5_i_i_i_i_i_i91_i; } else { goto L_bb6_i_i_i_i_i_i77_i; }
-L_bb3_i_i_i_i_i_i92_i:;
+    if (v_10_i_i_i_i_i_i_i) { goto L_bb5_i_i_i_i_i_i96_i; } else { goto L_bb6_i_i_i_i_i_i78_i; }
+L_bb3_i_i_i_i_i_i97_i:;
     v_246 = (u64)((u64)(v_245) + (u64)(2u));
     { p_v_encoding_sroa_0_0_i_i_i_i_i_i_i = v_246; goto L_counter_Counter_exit_i_i_i_i; }
-L_bb6_i_i_i_i_i_i77_i:;
+L_bb6_i_i_i_i_i_i78_i:;
     v_11_i_i_i_i_i_i_i = v_245 < 65536u;
-    if (v_11_i_i_i_i_i_i_i) { goto L_bb7_i_i_i_i_i_i90_i; } else { goto L_bb8_i_i_i_i_i_i78_i; }
-L_bb5_i_i_i_i_i_i91_i:;
+    if (v_11_i_i_i_i_i_i_i) { goto L_bb7_i_i_i_i_i_i95_i; } else { goto L_bb8_i_i_i_i_i_i79_i; }
+L_bb5_i_i_i_i_i_i96_i:;
     v_247 = (u64)((u64)(v_245) + (u64)(3u));
     { p_v_encoding_sroa_0_0_i_i_i_i_i_i_i = v_247; goto L_counter_Counter_exit_i_i_i_i; }
-L_bb8_i_i_i_i_i_i78_i:;
-    v_12_i_i_i_i_i_i79_i = v_245 < 16777216u;
-    if (v_12_i_i_i_i_i_i79_i) { goto L_bb9_i_i_i_i_i_i_i; } else { goto L_bb10_i_i_i_i_i_i80_i; }
-L_bb7_i_i_i_i_i_i90_i:;
+L_bb8_i_i_i_i_i_i79_i:;
+    v_12_i_i_i_i_i_i80_i = v_245 < 16777216u;
+    if (v_12_i_i_i_i_i_i80_i) { goto L_bb9_i_i_i_i_i_i_i; } else { goto L_bb10_i_i_i_i_i_i81_i; }
+L_bb7_i_i_i_i_i_i95_i:;
     v_248 = (u64)((u64)(v_245) + (u64)(4u));
     { p_v_encoding_sroa_0_0_i_i_i_i_i_i_i = v_248; goto L_counter_Counter_exit_i_i_i_i; }
-L_bb10_i_i_i_i_i_i80_i:;
+L_bb10_i_i_i_i_i_i81_i:;
     v_249 = v_245 + (6u < ~v_245 ? 6u : ~v_245);
     { p_v_encoding_sroa_0_0_i_i_i_i_i_i_i = v_249; goto L_counter_Counter_exit_i_i_i_i; }
 L_bb9_i_i_i_i_i_i_i:;
@@ -7624,27 +7624,27 @@ L_counter_Counter_exit_i_i_i_i:;
     v_251 = v_235 + (v_encoding_sroa_0_0_i_i_i_i_i_i_i < ~v_235 ? v_encoding_sroa_0_0_i_i_i_i_i_i_i : ~v_235);
     v_252 = v_251 + (1u < ~v_251 ? 1u : ~v_251);
     v_253 = v_252 > v_251 ? v_252 - v_251 : 0u;
-    v_9_i_i_i_i_i81_i = v_253 < 128u;
-    if (v_9_i_i_i_i_i81_i) { goto L_bb3_i_i_i_i_i89_i; } else { goto L_bb4_i_i_i_i_i82_i; }
-L_bb4_i_i_i_i_i82_i:;
+    v_9_i_i_i_i_i84_i = v_253 < 128u;
+    if (v_9_i_i_i_i_i84_i) { goto L_bb3_i_i_i_i_i92_i; } else { goto L_bb4_i_i_i_i_i85_i; }
+L_bb4_i_i_i_i_i85_i:;
     v_10_i_i_i_i_i_i = v_253 < 256u;
-    if (v_10_i_i_i_i_i_i) { goto L_bb5_i_i_i_i_i88_i; } else { goto L_bb6_i_i_i_i_i83_i; }
-L_bb3_i_i_i_i_i89_i:;
+    if (v_10_i_i_i_i_i_i) { goto L_bb5_i_i_i_i_i91_i; } else { goto L_bb6_i_i_i_i_i86_i; }
+L_bb3_i_i_i_i_i92_i:;
     v_254 = (u64)((u64)(v_253) + (u64)(2u));
     { p_v_encoding_sroa_0_0_i_i_i_i_i_i = v_254; goto L_counter_Counter_exit_i; }
-L_bb6_i_i_i_i_i83_i:;
+L_bb6_i_i_i_i_i86_i:;
     v_11_i_i_i_i_i_i = v_253 < 65536u;
-    if (v_11_i_i_i_i_i_i) { goto L_bb7_i_i_i_i_i87_i; } else { goto L_bb8_i_i_i_i_i84_i; }
-L_bb5_i_i_i_i_i88_i:;
+    if (v_11_i_i_i_i_i_i) { goto L_bb7_i_i_i_i_i90_i; } else { goto L_bb8_i_i_i_i_i87_i; }
+L_bb5_i_i_i_i_i91_i:;
     v_255 = (u64)((u64)(v_253) + (u64)(3u));
     { p_v_encoding_sroa_0_0_i_i_i_i_i_i = v_255; goto L_counter_Counter_exit_i; }
-L_bb8_i_i_i_i_i84_i:;
-    v_12_i_i_i_i_i85_i = v_253 < 16777216u;
-    if (v_12_i_i_i_i_i85_i) { goto L_bb9_i_i_i_i_i_i; } else { goto L_bb10_i_i_i_i_i86_i; }
-L_bb7_i_i_i_i_i87_i:;
+L_bb8_i_i_i_i_i87_i:;
+    v_12_i_i_i_i_i88_i = v_253 < 16777216u;
+    if (v_12_i_i_i_i_i88_i) { goto L_bb9_i_i_i_i_i_i; } else { goto L_bb10_i_i_i_i_i89_i; }
+L_bb7_i_i_i_i_i90_i:;
     v_256 = (u64)((u64)(v_253) + (u64)(4u));
     { p_v_encoding_sroa_0_0_i_i_i_i_i_i = v_256; goto L_counter_Counter_exit_i; }
-L_bb10_i_i_i_i_i86_i:;
+L_bb10_i_i_i_i_i89_i:;
     v_257 = v_253 + (6u < ~v_253 ? 6u : ~v_253);
     { p_v_encoding_sroa_0_0_i_i_i_i_i_i = v_257; goto L_counter_Counter_exit_i; }
 L_bb9_i_i_i_i_i_i:;
@@ -7654,50 +7654,50 @@ L_counter_Counter_exit_i:;
     v_encoding_sroa_0_0_i_i_i_i_i_i = p_v_encoding_sroa_0_0_i_i_i_i_i_i;
     v_259 = v_251 + (v_encoding_sroa_0_0_i_i_i_i_i_i < ~v_251 ? v_encoding_sroa_0_0_i_i_i_i_i_i : ~v_251);
     v_9_i_i_i = v_259 < 128u;
-    if (v_9_i_i_i) { goto L_bb3_i_i_i19; } else { goto L_bb4_i_i_i; }
+    if (v_9_i_i_i) { goto L_bb3_i_i_i18; } else { goto L_bb4_i_i_i; }
 L_bb4_i_i_i:;
     v_10_i_i_i = v_259 < 256u;
-    if (v_10_i_i_i) { goto L_bb5_i_i_i18; } else { goto L_bb6_i_i_i2; }
-L_bb3_i_i_i19:;
+    if (v_10_i_i_i) { goto L_bb5_i_i_i17; } else { goto L_bb6_i_i_i2; }
+L_bb3_i_i_i18:;
     v_260 = (u64)((u64)(v_259) + (u64)(2u));
-    { p_v_encoding_sroa_0_0_i_i454_i = v_260; goto L_bb4_i; }
+    { p_v_encoding_sroa_0_0_i_i465_i = v_260; goto L_bb4_i; }
 L_bb6_i_i_i2:;
     v_11_i_i_i3 = v_259 < 65536u;
     if (v_11_i_i_i3) { goto L_bb7_i_i_i; } else { goto L_bb8_i_i_i; }
-L_bb5_i_i_i18:;
+L_bb5_i_i_i17:;
     v_261 = (u64)((u64)(v_259) + (u64)(3u));
-    { p_v_encoding_sroa_0_0_i_i454_i = v_261; goto L_bb4_i; }
+    { p_v_encoding_sroa_0_0_i_i465_i = v_261; goto L_bb4_i; }
 L_bb8_i_i_i:;
     v_12_i_i_i4 = v_259 < 16777216u;
     if (v_12_i_i_i4) { goto L_bb9_i_i_i; } else { goto L_counter_Counter_exit_i__2; }
 L_bb7_i_i_i:;
     v_262 = (u64)((u64)(v_259) + (u64)(4u));
-    { p_v_encoding_sroa_0_0_i_i454_i = v_262; goto L_bb4_i; }
+    { p_v_encoding_sroa_0_0_i_i465_i = v_262; goto L_bb4_i; }
 L_bb9_i_i_i:;
     v_263 = (u64)((u64)(v_259) + (u64)(5u));
-    { p_v_encoding_sroa_0_0_i_i454_i = v_263; goto L_bb4_i; }
+    { p_v_encoding_sroa_0_0_i_i465_i = v_263; goto L_bb4_i; }
 L_counter_Counter_exit_i__2:;
     v_264 = v_259 + (6u < ~v_259 ? 6u : ~v_259);
     v_13_i_i5 = v_264 > 4294967295ull;
-    if (v_13_i_i5) { p_v_0_sroa_0_0_i = 8u; goto L_object_identifier_ObjectIdentifier_exit; } else { p_v_encoding_sroa_0_0_i_i454_i = v_264; goto L_bb4_i; }
+    if (v_13_i_i5) { p_v_0_sroa_0_0_i = 8u; goto L_object_identifier_ObjectIdentifier_exit; } else { p_v_encoding_sroa_0_0_i_i465_i = v_264; goto L_bb4_i; }
 L_bb4_i:;
-    v_encoding_sroa_0_0_i_i454_i = p_v_encoding_sroa_0_0_i_i454_i;
-    put_u64(v_len, v_encoding_sroa_0_0_i_i454_i);
-    v_9_i = v_encoding_sroa_0_0_i_i454_i > v_out_len;
+    v_encoding_sroa_0_0_i_i465_i = p_v_encoding_sroa_0_0_i_i465_i;
+    put_u64(v_len, v_encoding_sroa_0_0_i_i465_i);
+    v_9_i = v_encoding_sroa_0_0_i_i465_i > v_out_len;
     if (v_9_i) { p_v_0_sroa_0_0_i = 15u; goto L_object_identifier_ObjectIdentifier_exit; } else { goto L_bb10_i6; }
 L_bb10_i6:;
-    if (v_11_i) { goto L_bb2_i_i_i_i_i_i; } else { p_v_writer_sroa_98_1_i = v_encoding_sroa_0_0_i_i454_i; goto L_back_writer_BackWriter_exit_i_i_i_i_i; }
+    if (v_11_i) { goto L_bb2_i_i_i_i_i_i; } else { p_v_writer_sroa_100_1_i = v_encoding_sroa_0_0_i_i465_i; goto L_back_writer_BackWriter_exit_i_i_i_i_i; }
 L_bb2_i_i_i_i_i_i:;
-    v_4_i_i_i54_i_i = v_12_1_i > v_encoding_sroa_0_0_i_i454_i;
-    if (v_4_i_i_i54_i_i) { p_v_0_sroa_0_0_i_i_i66_i_i = v_encoding_sroa_0_0_i_i454_i; goto L_back_writer_BackWriter_exit_i_i; } else { goto L_copy_from_slice_pkcs1_c_exit_i; }
+    v_4_i_i_i68_i_i = v_12_1_i > v_encoding_sroa_0_0_i_i465_i;
+    if (v_4_i_i_i68_i_i) { p_v_0_sroa_0_0_i_i_i80_i_i = v_encoding_sroa_0_0_i_i465_i; goto L_back_writer_BackWriter_exit_i_i; } else { goto L_copy_from_slice_pkcs1_c_exit_i; }
 L_copy_from_slice_pkcs1_c_exit_i:;
-    v_start1_i_i_i56_i_i = (u64)((u64)(v_encoding_sroa_0_0_i_i454_i) - (u64)(v_12_1_i));
-    v_265 = v_out + (int64_t)(v_start1_i_i_i56_i_i);
+    v_start1_i_i_i70_i_i = (u64)((u64)(v_encoding_sroa_0_0_i_i465_i) - (u64)(v_12_1_i));
+    v_265 = v_out + (int64_t)(v_start1_i_i_i70_i_i);
     copy(v_265, v_12_0_i, v_12_1_i);
-    { p_v_0_sroa_0_0_i_i_i66_i_i = v_start1_i_i_i56_i_i; goto L_back_writer_BackWriter_exit_i_i; }
+    { p_v_0_sroa_0_0_i_i_i80_i_i = v_start1_i_i_i70_i_i; goto L_back_writer_BackWriter_exit_i_i; }
 L_back_writer_BackWriter_exit_i_i:;
-    v_0_sroa_0_0_i_i_i66_i_i = p_v_0_sroa_0_0_i_i_i66_i_i;
-    v_5_i_i_i_i_i_i_i_i = (u64)((u64)(v_encoding_sroa_0_0_i_i454_i) - (u64)(v_0_sroa_0_0_i_i_i66_i_i));
+    v_0_sroa_0_0_i_i_i80_i_i = p_v_0_sroa_0_0_i_i_i80_i_i;
+    v_5_i_i_i_i_i_i_i_i = (u64)((u64)(v_encoding_sroa_0_0_i_i465_i) - (u64)(v_0_sroa_0_0_i_i_i80_i_i));
     v_13_i_i_i4_i_i_i_i_i = (u32)(v_5_i_i_i_i_i_i_i_i);
     v_4_i_i_i_i5_i_i_i_i_i = v_13_i_i_i4_i_i_i_i_i < 128u;
     if (v_4_i_i_i_i5_i_i_i_i_i) { goto L_bb1_i_i_i_i_i_i_i_i_i; } else { goto L_bb2_i_i_i_i6_i_i_i_i_i; }
@@ -7706,62 +7706,62 @@ L_bb2_i_i_i_i6_i_i_i_i_i:;
     if (v_9_i_i_i_i7_i_i_i_i_i) { goto L_bb3_i_i_i_i_i_i_i_i_i; } else { goto L_bb4_i_i_i_i_i_i_i_i_i; }
 L_bb1_i_i_i_i_i_i_i_i_i:;
     v_8_i_i_i_i_i_i_i_i_i = (u16)(v_5_i_i_i_i_i_i_i_i);
-    v_4_i_i_i_i_i_i_i_i_i_i = v_0_sroa_0_0_i_i_i66_i_i < 2u;
-    if (v_4_i_i_i_i_i_i_i_i_i_i) { p_v_writer_sroa_98_1_i = v_0_sroa_0_0_i_i_i66_i_i; goto L_back_writer_BackWriter_exit_i_i_i_i_i; } else { goto L_bb2_i_i_i_i_i_i_i_i_i_i; }
+    v_4_i_i_i_i_i_i_i_i_i_i = v_0_sroa_0_0_i_i_i80_i_i < 2u;
+    if (v_4_i_i_i_i_i_i_i_i_i_i) { p_v_writer_sroa_100_1_i = v_0_sroa_0_0_i_i_i80_i_i; goto L_back_writer_BackWriter_exit_i_i_i_i_i; } else { goto L_bb2_i_i_i_i_i_i_i_i_i_i; }
 L_bb2_i_i_i_i_i_i_i_i_i_i:;
-    v_10_not_i_i_i_i_i_i_i_i_i_i = v_0_sroa_0_0_i_i_i66_i_i > v_encoding_sroa_0_0_i_i454_i;
-    if (v_10_not_i_i_i_i_i_i_i_i_i_i) { goto L_bb7_i_i_i_i_i_i_i_i_i_i; } else { goto L_copy_from_slice_pkcs1_c_exit130_i; }
+    v_10_not_i_i_i_i_i_i_i_i_i_i = v_0_sroa_0_0_i_i_i80_i_i > v_encoding_sroa_0_0_i_i465_i;
+    if (v_10_not_i_i_i_i_i_i_i_i_i_i) { goto L_bb7_i_i_i_i_i_i_i_i_i_i; } else { goto L_copy_from_slice_pkcs1_c_exit134_i; }
 L_bb7_i_i_i_i_i_i_i_i_i_i:;
     TRAP();
     TRAP();
-L_copy_from_slice_pkcs1_c_exit130_i:;
-    v_start1_i_i_i_i_i_i_i_i_i_i = (u64)((u64)(v_0_sroa_0_0_i_i_i66_i_i) + (u64)(18446744073709551614ull));
+L_copy_from_slice_pkcs1_c_exit134_i:;
+    v_start1_i_i_i_i_i_i_i_i_i_i = (u64)((u64)(v_0_sroa_0_0_i_i_i80_i_i) + (u64)(18446744073709551614ull));
     v_266 = v_out + (int64_t)(v_start1_i_i_i_i_i_i_i_i_i_i);
     v_7_i_i_i_i_i_i_i_i_sroa_0_sroa_4_0_insert_shift_i = (u16)((u32)(v_8_i_i_i_i_i_i_i_i_i) << (u32)((8u & 31)));
     v_7_i_i_i_i_i_i_i_i_sroa_0_sroa_0_0_insert_insert_i = (u16)((u32)(v_7_i_i_i_i_i_i_i_i_sroa_0_sroa_4_0_insert_shift_i) | (u32)(160u));
     put_u16(v_266, v_7_i_i_i_i_i_i_i_i_sroa_0_sroa_0_0_insert_insert_i);
-    { p_v_writer_sroa_98_1_i = v_start1_i_i_i_i_i_i_i_i_i_i; goto L_back_writer_BackWriter_exit_i_i_i_i_i; }
+    { p_v_writer_sroa_100_1_i = v_start1_i_i_i_i_i_i_i_i_i_i; goto L_back_writer_BackWriter_exit_i_i_i_i_i; }
 L_bb4_i_i_i_i_i_i_i_i_i:;
     v_14_i_i_i_i_i_i_i_i_i = v_13_i_i_i4_i_i_i_i_i < 65536u;
     if (v_14_i_i_i_i_i_i_i_i_i) { goto L_bb5_i_i_i_i10_i_i_i_i_i; } else { goto L_bb6_i_i_i_i_i_i_i_i_i; }
 L_bb3_i_i_i_i_i_i_i_i_i:;
     v_13_i_i_i_i_i_i_i_i_i = (u8)(v_5_i_i_i_i_i_i_i_i);
-    v_4_i11_i_i_i_i_i_i_i_i_i = v_0_sroa_0_0_i_i_i66_i_i < 3u;
-    if (v_4_i11_i_i_i_i_i_i_i_i_i) { p_v_writer_sroa_98_1_i = v_0_sroa_0_0_i_i_i66_i_i; goto L_back_writer_BackWriter_exit_i_i_i_i_i; } else { goto L_bb2_i12_i_i_i_i_i_i_i_i_i; }
+    v_4_i11_i_i_i_i_i_i_i_i_i = v_0_sroa_0_0_i_i_i80_i_i < 3u;
+    if (v_4_i11_i_i_i_i_i_i_i_i_i) { p_v_writer_sroa_100_1_i = v_0_sroa_0_0_i_i_i80_i_i; goto L_back_writer_BackWriter_exit_i_i_i_i_i; } else { goto L_bb2_i12_i_i_i_i_i_i_i_i_i; }
 L_bb2_i12_i_i_i_i_i_i_i_i_i:;
-    v_10_not_i14_i_i_i_i_i_i_i_i_i = v_0_sroa_0_0_i_i_i66_i_i > v_encoding_sroa_0_0_i_i454_i;
-    if (v_10_not_i14_i_i_i_i_i_i_i_i_i) { goto L_bb7_i24_i_i_i_i_i_i_i_i_i; } else { goto L_copy_from_slice_pkcs1_c_exit134_i; }
+    v_10_not_i14_i_i_i_i_i_i_i_i_i = v_0_sroa_0_0_i_i_i80_i_i > v_encoding_sroa_0_0_i_i465_i;
+    if (v_10_not_i14_i_i_i_i_i_i_i_i_i) { goto L_bb7_i24_i_i_i_i_i_i_i_i_i; } else { goto L_copy_from_slice_pkcs1_c_exit138_i; }
 L_bb7_i24_i_i_i_i_i_i_i_i_i:;
     TRAP();
     TRAP();
-L_copy_from_slice_pkcs1_c_exit134_i:;
-    v_start1_i13_i_i_i_i_i_i_i_i_i = (u64)((u64)(v_0_sroa_0_0_i_i_i66_i_i) + (u64)(18446744073709551613ull));
+L_copy_from_slice_pkcs1_c_exit138_i:;
+    v_start1_i13_i_i_i_i_i_i_i_i_i = (u64)((u64)(v_0_sroa_0_0_i_i_i80_i_i) + (u64)(18446744073709551613ull));
     v_267 = v_out + (int64_t)(v_start1_i13_i_i_i_i_i_i_i_i_i);
     put_u8(v_267, 160u);
     v_12_i_i_i_i1_i_i_i_i_sroa_4_0_sroa_idx_i = v_267 + 1;
     put_u8(v_12_i_i_i_i1_i_i_i_i_sroa_4_0_sroa_idx_i, 129u);
     v_12_i_i_i_i1_i_i_i_i_sroa_5_0_sroa_idx_i = v_267 + 2;
     put_u8(v_12_i_i_i_i1_i_i_i_i_sroa_5_0_sroa_idx_i, v_13_i_i_i_i_i_i_i_i_i);
-    { p_v_writer_sroa_98_1_i = v_start1_i13_i_i_i_i_i_i_i_i_i; goto L_back_writer_BackWriter_exit_i_i_i_i_i; }
+    { p_v_writer_sroa_100_1_i = v_start1_i13_i_i_i_i_i_i_i_i_i; goto L_back_writer_BackWriter_exit_i_i_i_i_i; }
 L_bb6_i_i_i_i_i_i_i_i_i:;
     v_22_i_i_i_i_i_i_i_i_i = v_13_i_i_i4_i_i_i_i_i < 16777216u;
     if (v_22_i_i_i_i_i_i_i_i_i) { goto L_bb7_i_i_i_i9_i_i_i_i_i; } else { goto L_bb8_i_i_i_i8_i_i_i_i_i; }
 L_bb5_i_i_i_i10_i_i_i_i_i:;
-    v_4_i30_i_i_i_i_i_i_i_i_i = v_0_sroa_0_0_i_i_i66_i_i < 4u;
-    if (v_4_i30_i_i_i_i_i_i_i_i_i) { p_v_writer_sroa_98_1_i = v_0_sroa_0_0_i_i_i66_i_i; goto L_back_writer_BackWriter_exit_i_i_i_i_i; } else { goto L_bb2_i31_i_i_i_i_i_i_i_i_i; }
+    v_4_i30_i_i_i_i_i_i_i_i_i = v_0_sroa_0_0_i_i_i80_i_i < 4u;
+    if (v_4_i30_i_i_i_i_i_i_i_i_i) { p_v_writer_sroa_100_1_i = v_0_sroa_0_0_i_i_i80_i_i; goto L_back_writer_BackWriter_exit_i_i_i_i_i; } else { goto L_bb2_i31_i_i_i_i_i_i_i_i_i; }
 L_bb2_i31_i_i_i_i_i_i_i_i_i:;
-    v_10_not_i33_i_i_i_i_i_i_i_i_i = v_0_sroa_0_0_i_i_i66_i_i > v_encoding_sroa_0_0_i_i454_i;
-    if (v_10_not_i33_i_i_i_i_i_i_i_i_i) { goto L_bb7_i43_i_i_i_i_i_i_i_i_i; } else { goto L_copy_from_slice_pkcs1_c_exit138_i; }
+    v_10_not_i33_i_i_i_i_i_i_i_i_i = v_0_sroa_0_0_i_i_i80_i_i > v_encoding_sroa_0_0_i_i465_i;
+    if (v_10_not_i33_i_i_i_i_i_i_i_i_i) { goto L_bb7_i43_i_i_i_i_i_i_i_i_i; } else { goto L_copy_from_slice_pkcs1_c_exit142_i; }
 L_bb7_i43_i_i_i_i_i_i_i_i_i:;
     TRAP();
     TRAP();
-L_copy_from_slice_pkcs1_c_exit138_i:;
-    v_start1_i32_i_i_i_i_i_i_i_i_i = (u64)((u64)(v_0_sroa_0_0_i_i_i66_i_i) + (u64)(18446744073709551612ull));
+L_copy_from_slice_pkcs1_c_exit142_i:;
+    v_start1_i32_i_i_i_i_i_i_i_i_i = (u64)((u64)(v_0_sroa_0_0_i_i_i80_i_i) + (u64)(18446744073709551612ull));
     v_268 = v_out + (int64_t)(v_start1_i32_i_i_i_i_i_i_i_i_i);
     v_269 = (u32)((u32)(v_13_i_i_i4_i_i_i_i_i) | (u32)(2692874240ull));
     v_17_i_i_i_i_i_i_i_i_sroa_0_sroa_0_0_insert_insert_i = TURNED(32, v_269);
     put_u32(v_268, v_17_i_i_i_i_i_i_i_i_sroa_0_sroa_0_0_insert_insert_i);
-    { p_v_writer_sroa_98_1_i = v_start1_i32_i_i_i_i_i_i_i_i_i; goto L_back_writer_BackWriter_exit_i_i_i_i_i; }
+    { p_v_writer_sroa_100_1_i = v_start1_i32_i_i_i_i_i_i_i_i_i; goto L_back_writer_BackWriter_exit_i_i_i_i_i; }
 L_bb8_i_i_i_i8_i_i_i_i_i:;
     v_371_i_i_i_i_i_i_i_i_i = (u64)((u64)(v_5_i_i_i_i_i_i_i_i) >> (u64)((24u & 63)));
     v_36_i_i_i_i_i_i_i_i_i = (u8)(v_371_i_i_i_i_i_i_i_i_i);
@@ -7770,16 +7770,16 @@ L_bb8_i_i_i_i8_i_i_i_i_i:;
     v_433_i_i_i_i_i_i_i_i_i = (u64)((u64)(v_5_i_i_i_i_i_i_i_i) >> (u64)((8u & 63)));
     v_41_i_i_i_i_i_i_i_i_i = (u8)(v_433_i_i_i_i_i_i_i_i_i);
     v_44_i_i_i_i_i_i_i_i_i = (u8)(v_5_i_i_i_i_i_i_i_i);
-    v_4_i68_i_i_i_i_i_i_i_i_i = v_0_sroa_0_0_i_i_i66_i_i < 6u;
-    if (v_4_i68_i_i_i_i_i_i_i_i_i) { p_v_writer_sroa_98_1_i = v_0_sroa_0_0_i_i_i66_i_i; goto L_back_writer_BackWriter_exit_i_i_i_i_i; } else { goto L_bb2_i69_i_i_i_i_i_i_i_i_i; }
+    v_4_i68_i_i_i_i_i_i_i_i_i = v_0_sroa_0_0_i_i_i80_i_i < 6u;
+    if (v_4_i68_i_i_i_i_i_i_i_i_i) { p_v_writer_sroa_100_1_i = v_0_sroa_0_0_i_i_i80_i_i; goto L_back_writer_BackWriter_exit_i_i_i_i_i; } else { goto L_bb2_i69_i_i_i_i_i_i_i_i_i; }
 L_bb2_i69_i_i_i_i_i_i_i_i_i:;
-    v_10_not_i71_i_i_i_i_i_i_i_i_i = v_0_sroa_0_0_i_i_i66_i_i > v_encoding_sroa_0_0_i_i454_i;
-    if (v_10_not_i71_i_i_i_i_i_i_i_i_i) { goto L_bb7_i81_i_i_i_i_i_i_i_i_i; } else { goto L_copy_from_slice_pkcs1_c_exit142_i; }
+    v_10_not_i71_i_i_i_i_i_i_i_i_i = v_0_sroa_0_0_i_i_i80_i_i > v_encoding_sroa_0_0_i_i465_i;
+    if (v_10_not_i71_i_i_i_i_i_i_i_i_i) { goto L_bb7_i81_i_i_i_i_i_i_i_i_i; } else { goto L_copy_from_slice_pkcs1_c_exit146_i; }
 L_bb7_i81_i_i_i_i_i_i_i_i_i:;
     TRAP();
     TRAP();
-L_copy_from_slice_pkcs1_c_exit142_i:;
-    v_start1_i70_i_i_i_i_i_i_i_i_i = (u64)((u64)(v_0_sroa_0_0_i_i_i66_i_i) + (u64)(18446744073709551610ull));
+L_copy_from_slice_pkcs1_c_exit146_i:;
+    v_start1_i70_i_i_i_i_i_i_i_i_i = (u64)((u64)(v_0_sroa_0_0_i_i_i80_i_i) + (u64)(18446744073709551610ull));
     v_270 = v_out + (int64_t)(v_start1_i70_i_i_i_i_i_i_i_i_i);
     put_u8(v_270, 160u);
     v_35_i_i_i_i_i_i_i_i_sroa_4_0_sroa_idx_i = v_270 + 1;
@@ -7792,23 +7792,23 @@ L_copy_from_slice_pkcs1_c_exit142_i:;
     put_u8(v_35_i_i_i_i_i_i_i_i_sroa_7_0_sroa_idx_i, v_41_i_i_i_i_i_i_i_i_i);
     v_35_i_i_i_i_i_i_i_i_sroa_8_0_sroa_idx_i = v_270 + 5;
     put_u8(v_35_i_i_i_i_i_i_i_i_sroa_8_0_sroa_idx_i, v_44_i_i_i_i_i_i_i_i_i);
-    { p_v_writer_sroa_98_1_i = v_start1_i70_i_i_i_i_i_i_i_i_i; goto L_back_writer_BackWriter_exit_i_i_i_i_i; }
+    { p_v_writer_sroa_100_1_i = v_start1_i70_i_i_i_i_i_i_i_i_i; goto L_back_writer_BackWriter_exit_i_i_i_i_i; }
 L_bb7_i_i_i_i9_i_i_i_i_i:;
     v_274_i_i_i_i_i_i_i_i_i = (u64)((u64)(v_5_i_i_i_i_i_i_i_i) >> (u64)((16u & 63)));
     v_26_i_i_i_i_i_i_i_i_i = (u8)(v_274_i_i_i_i_i_i_i_i_i);
     v_305_i_i_i_i_i_i_i_i_i = (u64)((u64)(v_5_i_i_i_i_i_i_i_i) >> (u64)((8u & 63)));
     v_28_i_i_i_i_i_i_i_i_i = (u8)(v_305_i_i_i_i_i_i_i_i_i);
     v_31_i_i_i_i_i_i_i_i_i = (u8)(v_5_i_i_i_i_i_i_i_i);
-    v_4_i49_i_i_i_i_i_i_i_i_i = v_0_sroa_0_0_i_i_i66_i_i < 5u;
-    if (v_4_i49_i_i_i_i_i_i_i_i_i) { p_v_writer_sroa_98_1_i = v_0_sroa_0_0_i_i_i66_i_i; goto L_back_writer_BackWriter_exit_i_i_i_i_i; } else { goto L_bb2_i50_i_i_i_i_i_i_i_i_i; }
+    v_4_i49_i_i_i_i_i_i_i_i_i = v_0_sroa_0_0_i_i_i80_i_i < 5u;
+    if (v_4_i49_i_i_i_i_i_i_i_i_i) { p_v_writer_sroa_100_1_i = v_0_sroa_0_0_i_i_i80_i_i; goto L_back_writer_BackWriter_exit_i_i_i_i_i; } else { goto L_bb2_i50_i_i_i_i_i_i_i_i_i; }
 L_bb2_i50_i_i_i_i_i_i_i_i_i:;
-    v_10_not_i52_i_i_i_i_i_i_i_i_i = v_0_sroa_0_0_i_i_i66_i_i > v_encoding_sroa_0_0_i_i454_i;
-    if (v_10_not_i52_i_i_i_i_i_i_i_i_i) { goto L_bb7_i62_i_i_i_i_i_i_i_i_i; } else { goto L_copy_from_slice_pkcs1_c_exit146_i; }
+    v_10_not_i52_i_i_i_i_i_i_i_i_i = v_0_sroa_0_0_i_i_i80_i_i > v_encoding_sroa_0_0_i_i465_i;
+    if (v_10_not_i52_i_i_i_i_i_i_i_i_i) { goto L_bb7_i62_i_i_i_i_i_i_i_i_i; } else { goto L_copy_from_slice_pkcs1_c_exit150_i; }
 L_bb7_i62_i_i_i_i_i_i_i_i_i:;
     TRAP();
     TRAP();
-L_copy_from_slice_pkcs1_c_exit146_i:;
-    v_start1_i51_i_i_i_i_i_i_i_i_i = (u64)((u64)(v_0_sroa_0_0_i_i_i66_i_i) + (u64)(18446744073709551611ull));
+L_copy_from_slice_pkcs1_c_exit150_i:;
+    v_start1_i51_i_i_i_i_i_i_i_i_i = (u64)((u64)(v_0_sroa_0_0_i_i_i80_i_i) + (u64)(18446744073709551611ull));
     v_271 = v_out + (int64_t)(v_start1_i51_i_i_i_i_i_i_i_i_i);
     put_u8(v_271, 160u);
     v_25_i_i_i_i_i_i_i_i_sroa_4_0_sroa_idx_i = v_271 + 1;
@@ -7819,260 +7819,260 @@ L_copy_from_slice_pkcs1_c_exit146_i:;
     put_u8(v_25_i_i_i_i_i_i_i_i_sroa_6_0_sroa_idx_i, v_28_i_i_i_i_i_i_i_i_i);
     v_25_i_i_i_i_i_i_i_i_sroa_7_0_sroa_idx_i = v_271 + 4;
     put_u8(v_25_i_i_i_i_i_i_i_i_sroa_7_0_sroa_idx_i, v_31_i_i_i_i_i_i_i_i_i);
-    { p_v_writer_sroa_98_1_i = v_start1_i51_i_i_i_i_i_i_i_i_i; goto L_back_writer_BackWriter_exit_i_i_i_i_i; }
+    { p_v_writer_sroa_100_1_i = v_start1_i51_i_i_i_i_i_i_i_i_i; goto L_back_writer_BackWriter_exit_i_i_i_i_i; }
 L_back_writer_BackWriter_exit_i_i_i_i_i:;
-    v_writer_sroa_98_1_i = p_v_writer_sroa_98_1_i;
-    v_4_i_i_i15_i_i_i_i_i = v_4_1_i > v_writer_sroa_98_1_i;
-    if (v_4_i_i_i15_i_i_i_i_i) { p_v_0_sroa_0_0_i_i_i_i53_i_i_i_i = v_writer_sroa_98_1_i; goto L_back_writer_BackWriter_exit_i_i_i_i_i__2; } else { goto L_bb2_i_i_i16_i_i_i_i_i; }
+    v_writer_sroa_100_1_i = p_v_writer_sroa_100_1_i;
+    v_4_i_i_i15_i_i_i_i_i = v_4_1_i > v_writer_sroa_100_1_i;
+    if (v_4_i_i_i15_i_i_i_i_i) { p_v_0_sroa_0_0_i_i_i_i61_i_i_i_i = v_writer_sroa_100_1_i; goto L_back_writer_BackWriter_exit_i_i_i_i_i__2; } else { goto L_bb2_i_i_i16_i_i_i_i_i; }
 L_bb2_i_i_i16_i_i_i_i_i:;
-    v_10_not_i_i_i_i47_i_i_i_i = v_writer_sroa_98_1_i > v_encoding_sroa_0_0_i_i454_i;
-    if (v_10_not_i_i_i_i47_i_i_i_i) { goto L_bb7_i_i_i19_i_i_i_i_i; } else { goto L_copy_from_slice_pkcs1_c_exit150_i; }
+    v_10_not_i_i_i_i55_i_i_i_i = v_writer_sroa_100_1_i > v_encoding_sroa_0_0_i_i465_i;
+    if (v_10_not_i_i_i_i55_i_i_i_i) { goto L_bb7_i_i_i19_i_i_i_i_i; } else { goto L_copy_from_slice_pkcs1_c_exit154_i; }
 L_bb7_i_i_i19_i_i_i_i_i:;
     TRAP();
     TRAP();
-L_copy_from_slice_pkcs1_c_exit150_i:;
-    v_start1_i_i_i_i46_i_i_i_i = (u64)((u64)(v_writer_sroa_98_1_i) - (u64)(v_4_1_i));
-    v_272 = v_out + (int64_t)(v_start1_i_i_i_i46_i_i_i_i);
-    copy(v_272, v_4_0_i, v_4_1_i);
-    { p_v_0_sroa_0_0_i_i_i_i53_i_i_i_i = v_start1_i_i_i_i46_i_i_i_i; goto L_back_writer_BackWriter_exit_i_i_i_i_i__2; }
-L_back_writer_BackWriter_exit_i_i_i_i_i__2:;
-    v_0_sroa_0_0_i_i_i_i53_i_i_i_i = p_v_0_sroa_0_0_i_i_i_i53_i_i_i_i;
-    v_5_i_i_i56_i_i_i_i = (u64)((u64)(v_writer_sroa_98_1_i) - (u64)(v_0_sroa_0_0_i_i_i_i53_i_i_i_i));
-    v_13_i_i_i57_i_i_i_i = (u32)(v_5_i_i_i56_i_i_i_i);
-    v_4_i_i_i_i59_i_i_i_i = v_13_i_i_i57_i_i_i_i < 128u;
-    if (v_4_i_i_i_i59_i_i_i_i) { goto L_bb1_i_i_i_i158_i_i_i_i; } else { goto L_bb2_i_i_i_i60_i_i_i_i; }
-L_bb2_i_i_i_i60_i_i_i_i:;
-    v_9_i_i_i_i61_i_i_i_i = v_13_i_i_i57_i_i_i_i < 256u;
-    if (v_9_i_i_i_i61_i_i_i_i) { goto L_bb3_i_i_i_i138_i_i_i_i; } else { goto L_bb4_i_i_i_i62_i_i_i_i; }
-L_bb1_i_i_i_i158_i_i_i_i:;
-    v_8_i_i_i_i159_i_i_i_i = (u16)(v_5_i_i_i56_i_i_i_i);
-    v_4_i_i_i_i_i163_i_i_i_i = v_0_sroa_0_0_i_i_i_i53_i_i_i_i < 2u;
-    if (v_4_i_i_i_i_i163_i_i_i_i) { p_v_writer_sroa_98_2_i = v_0_sroa_0_0_i_i_i_i53_i_i_i_i; goto L_bb2_i_i_i_i12_i; } else { goto L_bb2_i_i_i_i_i164_i_i_i_i; }
-L_bb2_i_i_i_i_i164_i_i_i_i:;
-    v_10_not_i_i_i_i_i166_i_i_i_i = v_0_sroa_0_0_i_i_i_i53_i_i_i_i > v_encoding_sroa_0_0_i_i454_i;
-    if (v_10_not_i_i_i_i_i166_i_i_i_i) { goto L_bb7_i_i_i_i_i177_i_i_i_i; } else { goto L_copy_from_slice_pkcs1_c_exit154_i; }
-L_bb7_i_i_i_i_i177_i_i_i_i:;
-    TRAP();
-    TRAP();
 L_copy_from_slice_pkcs1_c_exit154_i:;
-    v_start1_i_i_i_i_i165_i_i_i_i = (u64)((u64)(v_0_sroa_0_0_i_i_i_i53_i_i_i_i) + (u64)(18446744073709551614ull));
-    v_273 = v_out + (int64_t)(v_start1_i_i_i_i_i165_i_i_i_i);
-    v_7_i_i_i_i40_i_i_i_sroa_0_sroa_4_0_insert_shift_i = (u16)((u32)(v_8_i_i_i_i159_i_i_i_i) << (u32)((8u & 31)));
-    v_7_i_i_i_i40_i_i_i_sroa_0_sroa_0_0_insert_insert_i = (u16)((u32)(v_7_i_i_i_i40_i_i_i_sroa_0_sroa_4_0_insert_shift_i) | (u32)(4u));
-    put_u16(v_273, v_7_i_i_i_i40_i_i_i_sroa_0_sroa_0_0_insert_insert_i);
-    { p_v_writer_sroa_98_2_i = v_start1_i_i_i_i_i165_i_i_i_i; goto L_bb2_i_i_i_i12_i; }
-L_bb4_i_i_i_i62_i_i_i_i:;
-    v_14_i_i_i_i63_i_i_i_i = v_13_i_i_i57_i_i_i_i < 65536u;
-    if (v_14_i_i_i_i63_i_i_i_i) { goto L_bb5_i_i_i_i116_i_i_i_i; } else { goto L_bb6_i_i_i_i64_i_i_i_i; }
-L_bb3_i_i_i_i138_i_i_i_i:;
-    v_13_i_i_i_i139_i_i_i_i = (u8)(v_5_i_i_i56_i_i_i_i);
-    v_4_i11_i_i_i_i143_i_i_i_i = v_0_sroa_0_0_i_i_i_i53_i_i_i_i < 3u;
-    if (v_4_i11_i_i_i_i143_i_i_i_i) { p_v_writer_sroa_98_2_i = v_0_sroa_0_0_i_i_i_i53_i_i_i_i; goto L_bb2_i_i_i_i12_i; } else { goto L_bb2_i12_i_i_i_i144_i_i_i_i; }
-L_bb2_i12_i_i_i_i144_i_i_i_i:;
-    v_10_not_i14_i_i_i_i146_i_i_i_i = v_0_sroa_0_0_i_i_i_i53_i_i_i_i > v_encoding_sroa_0_0_i_i454_i;
-    if (v_10_not_i14_i_i_i_i146_i_i_i_i) { goto L_bb7_i24_i_i_i_i157_i_i_i_i; } else { goto L_copy_from_slice_pkcs1_c_exit158_i; }
-L_bb7_i24_i_i_i_i157_i_i_i_i:;
+    v_start1_i_i_i_i54_i_i_i_i = (u64)((u64)(v_writer_sroa_100_1_i) - (u64)(v_4_1_i));
+    v_272 = v_out + (int64_t)(v_start1_i_i_i_i54_i_i_i_i);
+    copy(v_272, v_4_0_i, v_4_1_i);
+    { p_v_0_sroa_0_0_i_i_i_i61_i_i_i_i = v_start1_i_i_i_i54_i_i_i_i; goto L_back_writer_BackWriter_exit_i_i_i_i_i__2; }
+L_back_writer_BackWriter_exit_i_i_i_i_i__2:;
+    v_0_sroa_0_0_i_i_i_i61_i_i_i_i = p_v_0_sroa_0_0_i_i_i_i61_i_i_i_i;
+    v_5_i_i_i64_i_i_i_i = (u64)((u64)(v_writer_sroa_100_1_i) - (u64)(v_0_sroa_0_0_i_i_i_i61_i_i_i_i));
+    v_13_i_i_i65_i_i_i_i = (u32)(v_5_i_i_i64_i_i_i_i);
+    v_4_i_i_i_i67_i_i_i_i = v_13_i_i_i65_i_i_i_i < 128u;
+    if (v_4_i_i_i_i67_i_i_i_i) { goto L_bb1_i_i_i_i166_i_i_i_i; } else { goto L_bb2_i_i_i_i68_i_i_i_i; }
+L_bb2_i_i_i_i68_i_i_i_i:;
+    v_9_i_i_i_i69_i_i_i_i = v_13_i_i_i65_i_i_i_i < 256u;
+    if (v_9_i_i_i_i69_i_i_i_i) { goto L_bb3_i_i_i_i146_i_i_i_i; } else { goto L_bb4_i_i_i_i70_i_i_i_i; }
+L_bb1_i_i_i_i166_i_i_i_i:;
+    v_8_i_i_i_i167_i_i_i_i = (u16)(v_5_i_i_i64_i_i_i_i);
+    v_4_i_i_i_i_i171_i_i_i_i = v_0_sroa_0_0_i_i_i_i61_i_i_i_i < 2u;
+    if (v_4_i_i_i_i_i171_i_i_i_i) { p_v_writer_sroa_100_2_i = v_0_sroa_0_0_i_i_i_i61_i_i_i_i; goto L_bb2_i_i_i_i13_i; } else { goto L_bb2_i_i_i_i_i172_i_i_i_i; }
+L_bb2_i_i_i_i_i172_i_i_i_i:;
+    v_10_not_i_i_i_i_i174_i_i_i_i = v_0_sroa_0_0_i_i_i_i61_i_i_i_i > v_encoding_sroa_0_0_i_i465_i;
+    if (v_10_not_i_i_i_i_i174_i_i_i_i) { goto L_bb7_i_i_i_i_i185_i_i_i_i; } else { goto L_copy_from_slice_pkcs1_c_exit158_i; }
+L_bb7_i_i_i_i_i185_i_i_i_i:;
     TRAP();
     TRAP();
 L_copy_from_slice_pkcs1_c_exit158_i:;
-    v_start1_i13_i_i_i_i145_i_i_i_i = (u64)((u64)(v_0_sroa_0_0_i_i_i_i53_i_i_i_i) + (u64)(18446744073709551613ull));
-    v_274 = v_out + (int64_t)(v_start1_i13_i_i_i_i145_i_i_i_i);
-    put_u8(v_274, 4u);
-    v_12_i_i_i_i39_i_i_i_sroa_4_0_sroa_idx_i = v_274 + 1;
-    put_u8(v_12_i_i_i_i39_i_i_i_sroa_4_0_sroa_idx_i, 129u);
-    v_12_i_i_i_i39_i_i_i_sroa_5_0_sroa_idx_i = v_274 + 2;
-    put_u8(v_12_i_i_i_i39_i_i_i_sroa_5_0_sroa_idx_i, v_13_i_i_i_i139_i_i_i_i);
-    { p_v_writer_sroa_98_2_i = v_start1_i13_i_i_i_i145_i_i_i_i; goto L_bb2_i_i_i_i12_i; }
-L_bb6_i_i_i_i64_i_i_i_i:;
-    v_22_i_i_i_i65_i_i_i_i = v_13_i_i_i57_i_i_i_i < 16777216u;
-    if (v_22_i_i_i_i65_i_i_i_i) { goto L_bb7_i_i_i_i92_i_i_i_i; } else { goto L_bb8_i_i_i_i66_i_i_i_i; }
-L_bb5_i_i_i_i116_i_i_i_i:;
-    v_4_i30_i_i_i_i123_i_i_i_i = v_0_sroa_0_0_i_i_i_i53_i_i_i_i < 4u;
-    if (v_4_i30_i_i_i_i123_i_i_i_i) { p_v_writer_sroa_98_2_i = v_0_sroa_0_0_i_i_i_i53_i_i_i_i; goto L_bb2_i_i_i_i12_i; } else { goto L_bb2_i31_i_i_i_i124_i_i_i_i; }
-L_bb2_i31_i_i_i_i124_i_i_i_i:;
-    v_10_not_i33_i_i_i_i126_i_i_i_i = v_0_sroa_0_0_i_i_i_i53_i_i_i_i > v_encoding_sroa_0_0_i_i454_i;
-    if (v_10_not_i33_i_i_i_i126_i_i_i_i) { goto L_bb7_i43_i_i_i_i137_i_i_i_i; } else { goto L_copy_from_slice_pkcs1_c_exit162_i; }
-L_bb7_i43_i_i_i_i137_i_i_i_i:;
+    v_start1_i_i_i_i_i173_i_i_i_i = (u64)((u64)(v_0_sroa_0_0_i_i_i_i61_i_i_i_i) + (u64)(18446744073709551614ull));
+    v_273 = v_out + (int64_t)(v_start1_i_i_i_i_i173_i_i_i_i);
+    v_7_i_i_i_i48_i_i_i_sroa_0_sroa_4_0_insert_shift_i = (u16)((u32)(v_8_i_i_i_i167_i_i_i_i) << (u32)((8u & 31)));
+    v_7_i_i_i_i48_i_i_i_sroa_0_sroa_0_0_insert_insert_i = (u16)((u32)(v_7_i_i_i_i48_i_i_i_sroa_0_sroa_4_0_insert_shift_i) | (u32)(4u));
+    put_u16(v_273, v_7_i_i_i_i48_i_i_i_sroa_0_sroa_0_0_insert_insert_i);
+    { p_v_writer_sroa_100_2_i = v_start1_i_i_i_i_i173_i_i_i_i; goto L_bb2_i_i_i_i13_i; }
+L_bb4_i_i_i_i70_i_i_i_i:;
+    v_14_i_i_i_i71_i_i_i_i = v_13_i_i_i65_i_i_i_i < 65536u;
+    if (v_14_i_i_i_i71_i_i_i_i) { goto L_bb5_i_i_i_i124_i_i_i_i; } else { goto L_bb6_i_i_i_i72_i_i_i_i; }
+L_bb3_i_i_i_i146_i_i_i_i:;
+    v_13_i_i_i_i147_i_i_i_i = (u8)(v_5_i_i_i64_i_i_i_i);
+    v_4_i11_i_i_i_i151_i_i_i_i = v_0_sroa_0_0_i_i_i_i61_i_i_i_i < 3u;
+    if (v_4_i11_i_i_i_i151_i_i_i_i) { p_v_writer_sroa_100_2_i = v_0_sroa_0_0_i_i_i_i61_i_i_i_i; goto L_bb2_i_i_i_i13_i; } else { goto L_bb2_i12_i_i_i_i152_i_i_i_i; }
+L_bb2_i12_i_i_i_i152_i_i_i_i:;
+    v_10_not_i14_i_i_i_i154_i_i_i_i = v_0_sroa_0_0_i_i_i_i61_i_i_i_i > v_encoding_sroa_0_0_i_i465_i;
+    if (v_10_not_i14_i_i_i_i154_i_i_i_i) { goto L_bb7_i24_i_i_i_i165_i_i_i_i; } else { goto L_copy_from_slice_pkcs1_c_exit162_i; }
+L_bb7_i24_i_i_i_i165_i_i_i_i:;
     TRAP();
     TRAP();
 L_copy_from_slice_pkcs1_c_exit162_i:;
-    v_start1_i32_i_i_i_i125_i_i_i_i = (u64)((u64)(v_0_sroa_0_0_i_i_i_i53_i_i_i_i) + (u64)(18446744073709551612ull));
-    v_275 = v_out + (int64_t)(v_start1_i32_i_i_i_i125_i_i_i_i);
-    v_276 = (u32)((u32)(v_13_i_i_i57_i_i_i_i) | (u32)(75628544u));
-    v_17_i_i_i_i38_i_i_i_sroa_0_sroa_0_0_insert_insert_i = TURNED(32, v_276);
-    put_u32(v_275, v_17_i_i_i_i38_i_i_i_sroa_0_sroa_0_0_insert_insert_i);
-    { p_v_writer_sroa_98_2_i = v_start1_i32_i_i_i_i125_i_i_i_i; goto L_bb2_i_i_i_i12_i; }
-L_bb8_i_i_i_i66_i_i_i_i:;
-    v_371_i_i_i_i67_i_i_i_i = (u64)((u64)(v_5_i_i_i56_i_i_i_i) >> (u64)((24u & 63)));
-    v_36_i_i_i_i68_i_i_i_i = (u8)(v_371_i_i_i_i67_i_i_i_i);
-    v_402_i_i_i_i69_i_i_i_i = (u64)((u64)(v_5_i_i_i56_i_i_i_i) >> (u64)((16u & 63)));
-    v_38_i_i_i_i70_i_i_i_i = (u8)(v_402_i_i_i_i69_i_i_i_i);
-    v_433_i_i_i_i71_i_i_i_i = (u64)((u64)(v_5_i_i_i56_i_i_i_i) >> (u64)((8u & 63)));
-    v_41_i_i_i_i72_i_i_i_i = (u8)(v_433_i_i_i_i71_i_i_i_i);
-    v_44_i_i_i_i73_i_i_i_i = (u8)(v_5_i_i_i56_i_i_i_i);
-    v_4_i68_i_i_i_i77_i_i_i_i = v_0_sroa_0_0_i_i_i_i53_i_i_i_i < 6u;
-    if (v_4_i68_i_i_i_i77_i_i_i_i) { p_v_writer_sroa_98_2_i = v_0_sroa_0_0_i_i_i_i53_i_i_i_i; goto L_bb2_i_i_i_i12_i; } else { goto L_bb2_i69_i_i_i_i78_i_i_i_i; }
-L_bb2_i69_i_i_i_i78_i_i_i_i:;
-    v_10_not_i71_i_i_i_i80_i_i_i_i = v_0_sroa_0_0_i_i_i_i53_i_i_i_i > v_encoding_sroa_0_0_i_i454_i;
-    if (v_10_not_i71_i_i_i_i80_i_i_i_i) { goto L_bb7_i81_i_i_i_i91_i_i_i_i; } else { goto L_copy_from_slice_pkcs1_c_exit166_i; }
-L_bb7_i81_i_i_i_i91_i_i_i_i:;
+    v_start1_i13_i_i_i_i153_i_i_i_i = (u64)((u64)(v_0_sroa_0_0_i_i_i_i61_i_i_i_i) + (u64)(18446744073709551613ull));
+    v_274 = v_out + (int64_t)(v_start1_i13_i_i_i_i153_i_i_i_i);
+    put_u8(v_274, 4u);
+    v_12_i_i_i_i47_i_i_i_sroa_4_0_sroa_idx_i = v_274 + 1;
+    put_u8(v_12_i_i_i_i47_i_i_i_sroa_4_0_sroa_idx_i, 129u);
+    v_12_i_i_i_i47_i_i_i_sroa_5_0_sroa_idx_i = v_274 + 2;
+    put_u8(v_12_i_i_i_i47_i_i_i_sroa_5_0_sroa_idx_i, v_13_i_i_i_i147_i_i_i_i);
+    { p_v_writer_sroa_100_2_i = v_start1_i13_i_i_i_i153_i_i_i_i; goto L_bb2_i_i_i_i13_i; }
+L_bb6_i_i_i_i72_i_i_i_i:;
+    v_22_i_i_i_i73_i_i_i_i = v_13_i_i_i65_i_i_i_i < 16777216u;
+    if (v_22_i_i_i_i73_i_i_i_i) { goto L_bb7_i_i_i_i100_i_i_i_i; } else { goto L_bb8_i_i_i_i74_i_i_i_i; }
+L_bb5_i_i_i_i124_i_i_i_i:;
+    v_4_i30_i_i_i_i131_i_i_i_i = v_0_sroa_0_0_i_i_i_i61_i_i_i_i < 4u;
+    if (v_4_i30_i_i_i_i131_i_i_i_i) { p_v_writer_sroa_100_2_i = v_0_sroa_0_0_i_i_i_i61_i_i_i_i; goto L_bb2_i_i_i_i13_i; } else { goto L_bb2_i31_i_i_i_i132_i_i_i_i; }
+L_bb2_i31_i_i_i_i132_i_i_i_i:;
+    v_10_not_i33_i_i_i_i134_i_i_i_i = v_0_sroa_0_0_i_i_i_i61_i_i_i_i > v_encoding_sroa_0_0_i_i465_i;
+    if (v_10_not_i33_i_i_i_i134_i_i_i_i) { goto L_bb7_i43_i_i_i_i145_i_i_i_i; } else { goto L_copy_from_slice_pkcs1_c_exit166_i; }
+L_bb7_i43_i_i_i_i145_i_i_i_i:;
     TRAP();
     TRAP();
 L_copy_from_slice_pkcs1_c_exit166_i:;
-    v_start1_i70_i_i_i_i79_i_i_i_i = (u64)((u64)(v_0_sroa_0_0_i_i_i_i53_i_i_i_i) + (u64)(18446744073709551610ull));
-    v_277 = v_out + (int64_t)(v_start1_i70_i_i_i_i79_i_i_i_i);
-    put_u8(v_277, 4u);
-    v_35_i_i_i_i36_i_i_i_sroa_4_0_sroa_idx_i = v_277 + 1;
-    put_u8(v_35_i_i_i_i36_i_i_i_sroa_4_0_sroa_idx_i, 132u);
-    v_35_i_i_i_i36_i_i_i_sroa_5_0_sroa_idx_i = v_277 + 2;
-    put_u8(v_35_i_i_i_i36_i_i_i_sroa_5_0_sroa_idx_i, v_36_i_i_i_i68_i_i_i_i);
-    v_35_i_i_i_i36_i_i_i_sroa_6_0_sroa_idx_i = v_277 + 3;
-    put_u8(v_35_i_i_i_i36_i_i_i_sroa_6_0_sroa_idx_i, v_38_i_i_i_i70_i_i_i_i);
-    v_35_i_i_i_i36_i_i_i_sroa_7_0_sroa_idx_i = v_277 + 4;
-    put_u8(v_35_i_i_i_i36_i_i_i_sroa_7_0_sroa_idx_i, v_41_i_i_i_i72_i_i_i_i);
-    v_35_i_i_i_i36_i_i_i_sroa_8_0_sroa_idx_i = v_277 + 5;
-    put_u8(v_35_i_i_i_i36_i_i_i_sroa_8_0_sroa_idx_i, v_44_i_i_i_i73_i_i_i_i);
-    { p_v_writer_sroa_98_2_i = v_start1_i70_i_i_i_i79_i_i_i_i; goto L_bb2_i_i_i_i12_i; }
-L_bb7_i_i_i_i92_i_i_i_i:;
-    v_274_i_i_i_i93_i_i_i_i = (u64)((u64)(v_5_i_i_i56_i_i_i_i) >> (u64)((16u & 63)));
-    v_26_i_i_i_i94_i_i_i_i = (u8)(v_274_i_i_i_i93_i_i_i_i);
-    v_305_i_i_i_i95_i_i_i_i = (u64)((u64)(v_5_i_i_i56_i_i_i_i) >> (u64)((8u & 63)));
-    v_28_i_i_i_i96_i_i_i_i = (u8)(v_305_i_i_i_i95_i_i_i_i);
-    v_31_i_i_i_i97_i_i_i_i = (u8)(v_5_i_i_i56_i_i_i_i);
-    v_4_i49_i_i_i_i101_i_i_i_i = v_0_sroa_0_0_i_i_i_i53_i_i_i_i < 5u;
-    if (v_4_i49_i_i_i_i101_i_i_i_i) { p_v_writer_sroa_98_2_i = v_0_sroa_0_0_i_i_i_i53_i_i_i_i; goto L_bb2_i_i_i_i12_i; } else { goto L_bb2_i50_i_i_i_i102_i_i_i_i; }
-L_bb2_i50_i_i_i_i102_i_i_i_i:;
-    v_10_not_i52_i_i_i_i104_i_i_i_i = v_0_sroa_0_0_i_i_i_i53_i_i_i_i > v_encoding_sroa_0_0_i_i454_i;
-    if (v_10_not_i52_i_i_i_i104_i_i_i_i) { goto L_bb7_i62_i_i_i_i115_i_i_i_i; } else { goto L_copy_from_slice_pkcs1_c_exit170_i; }
-L_bb7_i62_i_i_i_i115_i_i_i_i:;
+    v_start1_i32_i_i_i_i133_i_i_i_i = (u64)((u64)(v_0_sroa_0_0_i_i_i_i61_i_i_i_i) + (u64)(18446744073709551612ull));
+    v_275 = v_out + (int64_t)(v_start1_i32_i_i_i_i133_i_i_i_i);
+    v_276 = (u32)((u32)(v_13_i_i_i65_i_i_i_i) | (u32)(75628544u));
+    v_17_i_i_i_i46_i_i_i_sroa_0_sroa_0_0_insert_insert_i = TURNED(32, v_276);
+    put_u32(v_275, v_17_i_i_i_i46_i_i_i_sroa_0_sroa_0_0_insert_insert_i);
+    { p_v_writer_sroa_100_2_i = v_start1_i32_i_i_i_i133_i_i_i_i; goto L_bb2_i_i_i_i13_i; }
+L_bb8_i_i_i_i74_i_i_i_i:;
+    v_371_i_i_i_i75_i_i_i_i = (u64)((u64)(v_5_i_i_i64_i_i_i_i) >> (u64)((24u & 63)));
+    v_36_i_i_i_i76_i_i_i_i = (u8)(v_371_i_i_i_i75_i_i_i_i);
+    v_402_i_i_i_i77_i_i_i_i = (u64)((u64)(v_5_i_i_i64_i_i_i_i) >> (u64)((16u & 63)));
+    v_38_i_i_i_i78_i_i_i_i = (u8)(v_402_i_i_i_i77_i_i_i_i);
+    v_433_i_i_i_i79_i_i_i_i = (u64)((u64)(v_5_i_i_i64_i_i_i_i) >> (u64)((8u & 63)));
+    v_41_i_i_i_i80_i_i_i_i = (u8)(v_433_i_i_i_i79_i_i_i_i);
+    v_44_i_i_i_i81_i_i_i_i = (u8)(v_5_i_i_i64_i_i_i_i);
+    v_4_i68_i_i_i_i85_i_i_i_i = v_0_sroa_0_0_i_i_i_i61_i_i_i_i < 6u;
+    if (v_4_i68_i_i_i_i85_i_i_i_i) { p_v_writer_sroa_100_2_i = v_0_sroa_0_0_i_i_i_i61_i_i_i_i; goto L_bb2_i_i_i_i13_i; } else { goto L_bb2_i69_i_i_i_i86_i_i_i_i; }
+L_bb2_i69_i_i_i_i86_i_i_i_i:;
+    v_10_not_i71_i_i_i_i88_i_i_i_i = v_0_sroa_0_0_i_i_i_i61_i_i_i_i > v_encoding_sroa_0_0_i_i465_i;
+    if (v_10_not_i71_i_i_i_i88_i_i_i_i) { goto L_bb7_i81_i_i_i_i99_i_i_i_i; } else { goto L_copy_from_slice_pkcs1_c_exit170_i; }
+L_bb7_i81_i_i_i_i99_i_i_i_i:;
     TRAP();
     TRAP();
 L_copy_from_slice_pkcs1_c_exit170_i:;
-    v_start1_i51_i_i_i_i103_i_i_i_i = (u64)((u64)(v_0_sroa_0_0_i_i_i_i53_i_i_i_i) + (u64)(18446744073709551611ull));
-    v_278 = v_out + (int64_t)(v_start1_i51_i_i_i_i103_i_i_i_i);
+    v_start1_i70_i_i_i_i87_i_i_i_i = (u64)((u64)(v_0_sroa_0_0_i_i_i_i61_i_i_i_i) + (u64)(18446744073709551610ull));
+    v_277 = v_out + (int64_t)(v_start1_i70_i_i_i_i87_i_i_i_i);
+    put_u8(v_277, 4u);
+    v_35_i_i_i_i44_i_i_i_sroa_4_0_sroa_idx_i = v_277 + 1;
+    put_u8(v_35_i_i_i_i44_i_i_i_sroa_4_0_sroa_idx_i, 132u);
+    v_35_i_i_i_i44_i_i_i_sroa_5_0_sroa_idx_i = v_277 + 2;
+    put_u8(v_35_i_i_i_i44_i_i_i_sroa_5_0_sroa_idx_i, v_36_i_i_i_i76_i_i_i_i);
+    v_35_i_i_i_i44_i_i_i_sroa_6_0_sroa_idx_i = v_277 + 3;
+    put_u8(v_35_i_i_i_i44_i_i_i_sroa_6_0_sroa_idx_i, v_38_i_i_i_i78_i_i_i_i);
+    v_35_i_i_i_i44_i_i_i_sroa_7_0_sroa_idx_i = v_277 + 4;
+    put_u8(v_35_i_i_i_i44_i_i_i_sroa_7_0_sroa_idx_i, v_41_i_i_i_i80_i_i_i_i);
+    v_35_i_i_i_i44_i_i_i_sroa_8_0_sroa_idx_i = v_277 + 5;
+    put_u8(v_35_i_i_i_i44_i_i_i_sroa_8_0_sroa_idx_i, v_44_i_i_i_i81_i_i_i_i);
+    { p_v_writer_sroa_100_2_i = v_start1_i70_i_i_i_i87_i_i_i_i; goto L_bb2_i_i_i_i13_i; }
+L_bb7_i_i_i_i100_i_i_i_i:;
+    v_274_i_i_i_i101_i_i_i_i = (u64)((u64)(v_5_i_i_i64_i_i_i_i) >> (u64)((16u & 63)));
+    v_26_i_i_i_i102_i_i_i_i = (u8)(v_274_i_i_i_i101_i_i_i_i);
+    v_305_i_i_i_i103_i_i_i_i = (u64)((u64)(v_5_i_i_i64_i_i_i_i) >> (u64)((8u & 63)));
+    v_28_i_i_i_i104_i_i_i_i = (u8)(v_305_i_i_i_i103_i_i_i_i);
+    v_31_i_i_i_i105_i_i_i_i = (u8)(v_5_i_i_i64_i_i_i_i);
+    v_4_i49_i_i_i_i109_i_i_i_i = v_0_sroa_0_0_i_i_i_i61_i_i_i_i < 5u;
+    if (v_4_i49_i_i_i_i109_i_i_i_i) { p_v_writer_sroa_100_2_i = v_0_sroa_0_0_i_i_i_i61_i_i_i_i; goto L_bb2_i_i_i_i13_i; } else { goto L_bb2_i50_i_i_i_i110_i_i_i_i; }
+L_bb2_i50_i_i_i_i110_i_i_i_i:;
+    v_10_not_i52_i_i_i_i112_i_i_i_i = v_0_sroa_0_0_i_i_i_i61_i_i_i_i > v_encoding_sroa_0_0_i_i465_i;
+    if (v_10_not_i52_i_i_i_i112_i_i_i_i) { goto L_bb7_i62_i_i_i_i123_i_i_i_i; } else { goto L_copy_from_slice_pkcs1_c_exit174_i; }
+L_bb7_i62_i_i_i_i123_i_i_i_i:;
+    TRAP();
+    TRAP();
+L_copy_from_slice_pkcs1_c_exit174_i:;
+    v_start1_i51_i_i_i_i111_i_i_i_i = (u64)((u64)(v_0_sroa_0_0_i_i_i_i61_i_i_i_i) + (u64)(18446744073709551611ull));
+    v_278 = v_out + (int64_t)(v_start1_i51_i_i_i_i111_i_i_i_i);
     put_u8(v_278, 4u);
-    v_25_i_i_i_i37_i_i_i_sroa_4_0_sroa_idx_i = v_278 + 1;
-    put_u8(v_25_i_i_i_i37_i_i_i_sroa_4_0_sroa_idx_i, 131u);
-    v_25_i_i_i_i37_i_i_i_sroa_5_0_sroa_idx_i = v_278 + 2;
-    put_u8(v_25_i_i_i_i37_i_i_i_sroa_5_0_sroa_idx_i, v_26_i_i_i_i94_i_i_i_i);
-    v_25_i_i_i_i37_i_i_i_sroa_6_0_sroa_idx_i = v_278 + 3;
-    put_u8(v_25_i_i_i_i37_i_i_i_sroa_6_0_sroa_idx_i, v_28_i_i_i_i96_i_i_i_i);
-    v_25_i_i_i_i37_i_i_i_sroa_7_0_sroa_idx_i = v_278 + 4;
-    put_u8(v_25_i_i_i_i37_i_i_i_sroa_7_0_sroa_idx_i, v_31_i_i_i_i97_i_i_i_i);
-    { p_v_writer_sroa_98_2_i = v_start1_i51_i_i_i_i103_i_i_i_i; goto L_bb2_i_i_i_i12_i; }
-L_bb2_i_i_i_i12_i:;
-    v_writer_sroa_98_2_i = p_v_writer_sroa_98_2_i;
-    v_10_not_i_i_i_i14_i = v_writer_sroa_98_2_i > v_encoding_sroa_0_0_i_i454_i;
-    if (v_10_not_i_i_i_i14_i) { goto L_bb7_i_i_i_i29_i; } else { goto L_bb1_i_i_i_i_i; }
-L_bb7_i_i_i_i29_i:;
+    v_25_i_i_i_i45_i_i_i_sroa_4_0_sroa_idx_i = v_278 + 1;
+    put_u8(v_25_i_i_i_i45_i_i_i_sroa_4_0_sroa_idx_i, 131u);
+    v_25_i_i_i_i45_i_i_i_sroa_5_0_sroa_idx_i = v_278 + 2;
+    put_u8(v_25_i_i_i_i45_i_i_i_sroa_5_0_sroa_idx_i, v_26_i_i_i_i102_i_i_i_i);
+    v_25_i_i_i_i45_i_i_i_sroa_6_0_sroa_idx_i = v_278 + 3;
+    put_u8(v_25_i_i_i_i45_i_i_i_sroa_6_0_sroa_idx_i, v_28_i_i_i_i104_i_i_i_i);
+    v_25_i_i_i_i45_i_i_i_sroa_7_0_sroa_idx_i = v_278 + 4;
+    put_u8(v_25_i_i_i_i45_i_i_i_sroa_7_0_sroa_idx_i, v_31_i_i_i_i105_i_i_i_i);
+    { p_v_writer_sroa_100_2_i = v_start1_i51_i_i_i_i111_i_i_i_i; goto L_bb2_i_i_i_i13_i; }
+L_bb2_i_i_i_i13_i:;
+    v_writer_sroa_100_2_i = p_v_writer_sroa_100_2_i;
+    v_10_not_i_i_i_i15_i = v_writer_sroa_100_2_i > v_encoding_sroa_0_0_i_i465_i;
+    if (v_10_not_i_i_i_i15_i) { goto L_bb7_i_i_i_i31_i; } else { goto L_bb1_i_i_i_i_i; }
+L_bb7_i_i_i_i31_i:;
     TRAP();
     TRAP();
 L_bb1_i_i_i_i_i:;
-    v_4_i_i_i_i18_i_i = v_writer_sroa_98_2_i < 2u;
-    if (v_4_i_i_i_i18_i_i) { p_v_writer_sroa_98_4_i143 = v_writer_sroa_98_2_i; p_v_0_sroa_0_0_i_i_i42_i_i = v_writer_sroa_98_2_i; goto L_back_writer_BackWriter_exit_i_i__2; } else { goto L_copy_from_slice_pkcs1_c_exit183_i; }
-L_copy_from_slice_pkcs1_c_exit183_i:;
-    v_start1_i_i_i_i_i_i = (u64)((u64)(v_writer_sroa_98_2_i) + (u64)(18446744073709551614ull));
+    v_4_i_i_i_i32_i_i = v_writer_sroa_100_2_i < 2u;
+    if (v_4_i_i_i_i32_i_i) { p_v_writer_sroa_100_4_i142 = v_writer_sroa_100_2_i; p_v_0_sroa_0_0_i_i_i56_i_i = v_writer_sroa_100_2_i; goto L_back_writer_BackWriter_exit_i_i__2; } else { goto L_copy_from_slice_pkcs1_c_exit187_i; }
+L_copy_from_slice_pkcs1_c_exit187_i:;
+    v_start1_i_i_i_i_i_i = (u64)((u64)(v_writer_sroa_100_2_i) + (u64)(18446744073709551614ull));
     v_279 = v_out + (int64_t)(v_start1_i_i_i_i_i_i);
     put_u16(v_279, 5u);
-    v_4_i_i_i30_i_i = v_start1_i_i_i_i_i_i < 9u;
-    if (v_4_i_i_i30_i_i) { p_v_writer_sroa_98_4_i143 = v_start1_i_i_i_i_i_i; p_v_0_sroa_0_0_i_i_i42_i_i = v_start1_i_i_i_i_i_i; goto L_back_writer_BackWriter_exit_i_i__2; } else { goto L_bb2_i_i_i31_i_i; }
-L_bb2_i_i_i31_i_i:;
-    v_10_not_i_i_i33_i_i = v_start1_i_i_i_i_i_i > v_encoding_sroa_0_0_i_i454_i;
-    if (v_10_not_i_i_i33_i_i) { goto L_bb7_i_i_i44_i_i; } else { goto L_copy_from_slice_pkcs1_c_exit203_i; }
-L_bb7_i_i_i44_i_i:;
-    TRAP();
-    TRAP();
-L_copy_from_slice_pkcs1_c_exit203_i:;
-    v_start1_i_i_i32_i_i = (u64)((u64)(v_writer_sroa_98_2_i) + (u64)(18446744073709551605ull));
-    v_280 = v_out + (int64_t)(v_start1_i_i_i32_i_i);
-    copy(v_280, v_made_sroa_6_sroa_0, 9u);
-    { p_v_writer_sroa_98_4_i143 = v_start1_i_i_i_i_i_i; p_v_0_sroa_0_0_i_i_i42_i_i = v_start1_i_i_i32_i_i; goto L_back_writer_BackWriter_exit_i_i__2; }
-L_back_writer_BackWriter_exit_i_i__2:;
-    v_writer_sroa_98_4_i143 = p_v_writer_sroa_98_4_i143;
-    v_0_sroa_0_0_i_i_i42_i_i = p_v_0_sroa_0_0_i_i_i42_i_i;
-    v_5_i_i_i_i_i8 = (u64)((u64)(v_writer_sroa_98_4_i143) - (u64)(v_0_sroa_0_0_i_i_i42_i_i));
-    v_13_i_i_i_i_i = (u32)(v_5_i_i_i_i_i8);
-    v_4_i_i_i_i4_i_i = v_13_i_i_i_i_i < 128u;
-    if (v_4_i_i_i_i4_i_i) { goto L_bb1_i_i_i_i_i_i; } else { goto L_bb2_i_i_i_i5_i_i; }
-L_bb2_i_i_i_i5_i_i:;
-    v_9_i_i_i_i_i_i = v_13_i_i_i_i_i < 256u;
-    if (v_9_i_i_i_i_i_i) { goto L_bb3_i_i_i_i_i_i; } else { goto L_bb4_i_i_i_i_i_i; }
-L_bb1_i_i_i_i_i_i:;
-    v_8_i_i_i_i7_i_i = (u16)(v_5_i_i_i_i_i8);
-    v_4_i_i_i_i_i8_i_i = v_0_sroa_0_0_i_i_i42_i_i < 2u;
-    if (v_4_i_i_i_i_i8_i_i) { p_v_writer_sroa_98_5_i = v_0_sroa_0_0_i_i_i42_i_i; goto L_back_writer_BackWriter_exit_i_i__3; } else { goto L_bb2_i_i_i_i_i9_i_i; }
-L_bb2_i_i_i_i_i9_i_i:;
-    v_10_not_i_i_i_i_i_i_i = v_0_sroa_0_0_i_i_i42_i_i > v_encoding_sroa_0_0_i_i454_i;
-    if (v_10_not_i_i_i_i_i_i_i) { goto L_bb7_i_i_i_i_i12_i_i; } else { goto L_copy_from_slice_pkcs1_c_exit207_i; }
-L_bb7_i_i_i_i_i12_i_i:;
+    v_4_i_i_i44_i_i = v_start1_i_i_i_i_i_i < 9u;
+    if (v_4_i_i_i44_i_i) { p_v_writer_sroa_100_4_i142 = v_start1_i_i_i_i_i_i; p_v_0_sroa_0_0_i_i_i56_i_i = v_start1_i_i_i_i_i_i; goto L_back_writer_BackWriter_exit_i_i__2; } else { goto L_bb2_i_i_i45_i_i; }
+L_bb2_i_i_i45_i_i:;
+    v_10_not_i_i_i47_i_i = v_start1_i_i_i_i_i_i > v_encoding_sroa_0_0_i_i465_i;
+    if (v_10_not_i_i_i47_i_i) { goto L_bb7_i_i_i58_i_i; } else { goto L_copy_from_slice_pkcs1_c_exit207_i; }
+L_bb7_i_i_i58_i_i:;
     TRAP();
     TRAP();
 L_copy_from_slice_pkcs1_c_exit207_i:;
-    v_start1_i_i_i_i_i_i_i = (u64)((u64)(v_0_sroa_0_0_i_i_i42_i_i) + (u64)(18446744073709551614ull));
-    v_281 = v_out + (int64_t)(v_start1_i_i_i_i_i_i_i);
-    v_7_i_i_i_i_i_sroa_0_sroa_4_0_insert_shift_i = (u16)((u32)(v_8_i_i_i_i7_i_i) << (u32)((8u & 31)));
+    v_start1_i_i_i46_i_i = (u64)((u64)(v_writer_sroa_100_2_i) + (u64)(18446744073709551605ull));
+    v_280 = v_out + (int64_t)(v_start1_i_i_i46_i_i);
+    copy(v_280, v_made_sroa_6_sroa_0, 9u);
+    { p_v_writer_sroa_100_4_i142 = v_start1_i_i_i_i_i_i; p_v_0_sroa_0_0_i_i_i56_i_i = v_start1_i_i_i46_i_i; goto L_back_writer_BackWriter_exit_i_i__2; }
+L_back_writer_BackWriter_exit_i_i__2:;
+    v_writer_sroa_100_4_i142 = p_v_writer_sroa_100_4_i142;
+    v_0_sroa_0_0_i_i_i56_i_i = p_v_0_sroa_0_0_i_i_i56_i_i;
+    v_5_i_i_i6_i_i = (u64)((u64)(v_writer_sroa_100_4_i142) - (u64)(v_0_sroa_0_0_i_i_i56_i_i));
+    v_13_i_i_i_i_i = (u32)(v_5_i_i_i6_i_i);
+    v_4_i_i_i_i7_i_i = v_13_i_i_i_i_i < 128u;
+    if (v_4_i_i_i_i7_i_i) { goto L_bb1_i_i_i_i_i_i; } else { goto L_bb2_i_i_i_i8_i_i; }
+L_bb2_i_i_i_i8_i_i:;
+    v_9_i_i_i_i_i_i = v_13_i_i_i_i_i < 256u;
+    if (v_9_i_i_i_i_i_i) { goto L_bb3_i_i_i_i_i_i; } else { goto L_bb4_i_i_i_i_i_i; }
+L_bb1_i_i_i_i_i_i:;
+    v_8_i_i_i_i10_i_i = (u16)(v_5_i_i_i6_i_i);
+    v_4_i_i_i_i_i11_i_i = v_0_sroa_0_0_i_i_i56_i_i < 2u;
+    if (v_4_i_i_i_i_i11_i_i) { p_v_writer_sroa_100_5_i = v_0_sroa_0_0_i_i_i56_i_i; goto L_back_writer_BackWriter_exit_i_i__3; } else { goto L_bb2_i_i_i_i_i12_i_i; }
+L_bb2_i_i_i_i_i12_i_i:;
+    v_10_not_i_i_i_i_i14_i_i = v_0_sroa_0_0_i_i_i56_i_i > v_encoding_sroa_0_0_i_i465_i;
+    if (v_10_not_i_i_i_i_i14_i_i) { goto L_bb7_i_i_i_i_i24_i_i; } else { goto L_copy_from_slice_pkcs1_c_exit211_i; }
+L_bb7_i_i_i_i_i24_i_i:;
+    TRAP();
+    TRAP();
+L_copy_from_slice_pkcs1_c_exit211_i:;
+    v_start1_i_i_i_i_i13_i_i = (u64)((u64)(v_0_sroa_0_0_i_i_i56_i_i) + (u64)(18446744073709551614ull));
+    v_281 = v_out + (int64_t)(v_start1_i_i_i_i_i13_i_i);
+    v_7_i_i_i_i_i_sroa_0_sroa_4_0_insert_shift_i = (u16)((u32)(v_8_i_i_i_i10_i_i) << (u32)((8u & 31)));
     v_7_i_i_i_i_i_sroa_0_sroa_0_0_insert_insert_i = (u16)((u32)(v_7_i_i_i_i_i_sroa_0_sroa_4_0_insert_shift_i) | (u32)(6u));
     put_u16(v_281, v_7_i_i_i_i_i_sroa_0_sroa_0_0_insert_insert_i);
-    { p_v_writer_sroa_98_5_i = v_start1_i_i_i_i_i_i_i; goto L_back_writer_BackWriter_exit_i_i__3; }
+    { p_v_writer_sroa_100_5_i = v_start1_i_i_i_i_i13_i_i; goto L_back_writer_BackWriter_exit_i_i__3; }
 L_bb4_i_i_i_i_i_i:;
     v_14_i_i_i_i_i_i = v_13_i_i_i_i_i < 65536u;
     if (v_14_i_i_i_i_i_i) { goto L_bb5_i_i_i_i_i_i; } else { goto L_bb6_i_i_i_i_i_i; }
 L_bb3_i_i_i_i_i_i:;
-    v_13_i_i_i_i6_i_i = (u8)(v_5_i_i_i_i_i8);
-    v_4_i11_i_i_i_i_i_i = v_0_sroa_0_0_i_i_i42_i_i < 3u;
-    if (v_4_i11_i_i_i_i_i_i) { p_v_writer_sroa_98_5_i = v_0_sroa_0_0_i_i_i42_i_i; goto L_back_writer_BackWriter_exit_i_i__3; } else { goto L_bb2_i12_i_i_i_i_i_i; }
+    v_13_i_i_i_i9_i_i = (u8)(v_5_i_i_i6_i_i);
+    v_4_i11_i_i_i_i_i_i = v_0_sroa_0_0_i_i_i56_i_i < 3u;
+    if (v_4_i11_i_i_i_i_i_i) { p_v_writer_sroa_100_5_i = v_0_sroa_0_0_i_i_i56_i_i; goto L_back_writer_BackWriter_exit_i_i__3; } else { goto L_bb2_i12_i_i_i_i_i_i; }
 L_bb2_i12_i_i_i_i_i_i:;
-    v_10_not_i14_i_i_i_i_i_i = v_0_sroa_0_0_i_i_i42_i_i > v_encoding_sroa_0_0_i_i454_i;
-    if (v_10_not_i14_i_i_i_i_i_i) { goto L_bb7_i24_i_i_i_i_i_i; } else { goto L_copy_from_slice_pkcs1_c_exit211_i; }
+    v_10_not_i14_i_i_i_i_i_i = v_0_sroa_0_0_i_i_i56_i_i > v_encoding_sroa_0_0_i_i465_i;
+    if (v_10_not_i14_i_i_i_i_i_i) { goto L_bb7_i24_i_i_i_i_i_i; } else { goto L_copy_from_slice_pkcs1_c_exit215_i; }
 L_bb7_i24_i_i_i_i_i_i:;
     TRAP();
     TRAP();
-L_copy_from_slice_pkcs1_c_exit211_i:;
-    v_start1_i13_i_i_i_i_i_i = (u64)((u64)(v_0_sroa_0_0_i_i_i42_i_i) + (u64)(18446744073709551613ull));
+L_copy_from_slice_pkcs1_c_exit215_i:;
+    v_start1_i13_i_i_i_i_i_i = (u64)((u64)(v_0_sroa_0_0_i_i_i56_i_i) + (u64)(18446744073709551613ull));
     v_282 = v_out + (int64_t)(v_start1_i13_i_i_i_i_i_i);
     put_u8(v_282, 6u);
     v_12_i_i_i_i_i_sroa_4_0_sroa_idx_i = v_282 + 1;
     put_u8(v_12_i_i_i_i_i_sroa_4_0_sroa_idx_i, 129u);
     v_12_i_i_i_i_i_sroa_5_0_sroa_idx_i = v_282 + 2;
-    put_u8(v_12_i_i_i_i_i_sroa_5_0_sroa_idx_i, v_13_i_i_i_i6_i_i);
-    { p_v_writer_sroa_98_5_i = v_start1_i13_i_i_i_i_i_i; goto L_back_writer_BackWriter_exit_i_i__3; }
+    put_u8(v_12_i_i_i_i_i_sroa_5_0_sroa_idx_i, v_13_i_i_i_i9_i_i);
+    { p_v_writer_sroa_100_5_i = v_start1_i13_i_i_i_i_i_i; goto L_back_writer_BackWriter_exit_i_i__3; }
 L_bb6_i_i_i_i_i_i:;
     v_22_i_i_i_i_i_i = v_13_i_i_i_i_i < 16777216u;
     if (v_22_i_i_i_i_i_i) { goto L_bb7_i_i_i_i_i_i; } else { goto L_bb8_i_i_i_i_i_i; }
 L_bb5_i_i_i_i_i_i:;
-    v_4_i30_i_i_i_i_i_i = v_0_sroa_0_0_i_i_i42_i_i < 4u;
-    if (v_4_i30_i_i_i_i_i_i) { p_v_writer_sroa_98_5_i = v_0_sroa_0_0_i_i_i42_i_i; goto L_back_writer_BackWriter_exit_i_i__3; } else { goto L_bb2_i31_i_i_i_i_i_i; }
+    v_4_i30_i_i_i_i_i_i = v_0_sroa_0_0_i_i_i56_i_i < 4u;
+    if (v_4_i30_i_i_i_i_i_i) { p_v_writer_sroa_100_5_i = v_0_sroa_0_0_i_i_i56_i_i; goto L_back_writer_BackWriter_exit_i_i__3; } else { goto L_bb2_i31_i_i_i_i_i_i; }
 L_bb2_i31_i_i_i_i_i_i:;
-    v_10_not_i33_i_i_i_i_i_i = v_0_sroa_0_0_i_i_i42_i_i > v_encoding_sroa_0_0_i_i454_i;
-    if (v_10_not_i33_i_i_i_i_i_i) { goto L_bb7_i43_i_i_i_i_i_i; } else { goto L_copy_from_slice_pkcs1_c_exit215_i; }
+    v_10_not_i33_i_i_i_i_i_i = v_0_sroa_0_0_i_i_i56_i_i > v_encoding_sroa_0_0_i_i465_i;
+    if (v_10_not_i33_i_i_i_i_i_i) { goto L_bb7_i43_i_i_i_i_i_i; } else { goto L_copy_from_slice_pkcs1_c_exit219_i; }
 L_bb7_i43_i_i_i_i_i_i:;
     TRAP();
     TRAP();
-L_copy_from_slice_pkcs1_c_exit215_i:;
-    v_start1_i32_i_i_i_i_i_i = (u64)((u64)(v_0_sroa_0_0_i_i_i42_i_i) + (u64)(18446744073709551612ull));
+L_copy_from_slice_pkcs1_c_exit219_i:;
+    v_start1_i32_i_i_i_i_i_i = (u64)((u64)(v_0_sroa_0_0_i_i_i56_i_i) + (u64)(18446744073709551612ull));
     v_283 = v_out + (int64_t)(v_start1_i32_i_i_i_i_i_i);
     v_284 = (u32)((u32)(v_13_i_i_i_i_i) | (u32)(109182976u));
     v_17_i_i_i_i_i_sroa_0_sroa_0_0_insert_insert_i = TURNED(32, v_284);
     put_u32(v_283, v_17_i_i_i_i_i_sroa_0_sroa_0_0_insert_insert_i);
-    { p_v_writer_sroa_98_5_i = v_start1_i32_i_i_i_i_i_i; goto L_back_writer_BackWriter_exit_i_i__3; }
+    { p_v_writer_sroa_100_5_i = v_start1_i32_i_i_i_i_i_i; goto L_back_writer_BackWriter_exit_i_i__3; }
 L_bb8_i_i_i_i_i_i:;
-    v_371_i_i_i_i_i_i = (u64)((u64)(v_5_i_i_i_i_i8) >> (u64)((24u & 63)));
+    v_371_i_i_i_i_i_i = (u64)((u64)(v_5_i_i_i6_i_i) >> (u64)((24u & 63)));
     v_36_i_i_i_i_i_i = (u8)(v_371_i_i_i_i_i_i);
-    v_402_i_i_i_i_i_i = (u64)((u64)(v_5_i_i_i_i_i8) >> (u64)((16u & 63)));
+    v_402_i_i_i_i_i_i = (u64)((u64)(v_5_i_i_i6_i_i) >> (u64)((16u & 63)));
     v_38_i_i_i_i_i_i = (u8)(v_402_i_i_i_i_i_i);
-    v_433_i_i_i_i_i_i = (u64)((u64)(v_5_i_i_i_i_i8) >> (u64)((8u & 63)));
+    v_433_i_i_i_i_i_i = (u64)((u64)(v_5_i_i_i6_i_i) >> (u64)((8u & 63)));
     v_41_i_i_i_i_i_i = (u8)(v_433_i_i_i_i_i_i);
-    v_44_i_i_i_i_i_i = (u8)(v_5_i_i_i_i_i8);
-    v_4_i68_i_i_i_i_i_i = v_0_sroa_0_0_i_i_i42_i_i < 6u;
-    if (v_4_i68_i_i_i_i_i_i) { p_v_writer_sroa_98_5_i = v_0_sroa_0_0_i_i_i42_i_i; goto L_back_writer_BackWriter_exit_i_i__3; } else { goto L_bb2_i69_i_i_i_i_i_i; }
+    v_44_i_i_i_i_i_i = (u8)(v_5_i_i_i6_i_i);
+    v_4_i68_i_i_i_i_i_i = v_0_sroa_0_0_i_i_i56_i_i < 6u;
+    if (v_4_i68_i_i_i_i_i_i) { p_v_writer_sroa_100_5_i = v_0_sroa_0_0_i_i_i56_i_i; goto L_back_writer_BackWriter_exit_i_i__3; } else { goto L_bb2_i69_i_i_i_i_i_i; }
 L_bb2_i69_i_i_i_i_i_i:;
-    v_10_not_i71_i_i_i_i_i_i = v_0_sroa_0_0_i_i_i42_i_i > v_encoding_sroa_0_0_i_i454_i;
-    if (v_10_not_i71_i_i_i_i_i_i) { goto L_bb7_i81_i_i_i_i_i_i; } else { goto L_copy_from_slice_pkcs1_c_exit219_i; }
+    v_10_not_i71_i_i_i_i_i_i = v_0_sroa_0_0_i_i_i56_i_i > v_encoding_sroa_0_0_i_i465_i;
+    if (v_10_not_i71_i_i_i_i_i_i) { goto L_bb7_i81_i_i_i_i_i_i; } else { goto L_copy_from_slice_pkcs1_c_exit223_i; }
 L_bb7_i81_i_i_i_i_i_i:;
     TRAP();
     TRAP();
-L_copy_from_slice_pkcs1_c_exit219_i:;
-    v_start1_i70_i_i_i_i_i_i = (u64)((u64)(v_0_sroa_0_0_i_i_i42_i_i) + (u64)(18446744073709551610ull));
+L_copy_from_slice_pkcs1_c_exit223_i:;
+    v_start1_i70_i_i_i_i_i_i = (u64)((u64)(v_0_sroa_0_0_i_i_i56_i_i) + (u64)(18446744073709551610ull));
     v_285 = v_out + (int64_t)(v_start1_i70_i_i_i_i_i_i);
     put_u8(v_285, 6u);
     v_35_i_i_i_i_i_sroa_4_0_sroa_idx_i = v_285 + 1;
@@ -8085,23 +8085,23 @@ L_copy_from_slice_pkcs1_c_exit219_i:;
     put_u8(v_35_i_i_i_i_i_sroa_7_0_sroa_idx_i, v_41_i_i_i_i_i_i);
     v_35_i_i_i_i_i_sroa_8_0_sroa_idx_i = v_285 + 5;
     put_u8(v_35_i_i_i_i_i_sroa_8_0_sroa_idx_i, v_44_i_i_i_i_i_i);
-    { p_v_writer_sroa_98_5_i = v_start1_i70_i_i_i_i_i_i; goto L_back_writer_BackWriter_exit_i_i__3; }
+    { p_v_writer_sroa_100_5_i = v_start1_i70_i_i_i_i_i_i; goto L_back_writer_BackWriter_exit_i_i__3; }
 L_bb7_i_i_i_i_i_i:;
-    v_274_i_i_i_i_i_i = (u64)((u64)(v_5_i_i_i_i_i8) >> (u64)((16u & 63)));
+    v_274_i_i_i_i_i_i = (u64)((u64)(v_5_i_i_i6_i_i) >> (u64)((16u & 63)));
     v_26_i_i_i_i_i_i = (u8)(v_274_i_i_i_i_i_i);
-    v_305_i_i_i_i_i_i = (u64)((u64)(v_5_i_i_i_i_i8) >> (u64)((8u & 63)));
+    v_305_i_i_i_i_i_i = (u64)((u64)(v_5_i_i_i6_i_i) >> (u64)((8u & 63)));
     v_28_i_i_i_i_i_i = (u8)(v_305_i_i_i_i_i_i);
-    v_31_i_i_i_i_i_i = (u8)(v_5_i_i_i_i_i8);
-    v_4_i49_i_i_i_i_i_i = v_0_sroa_0_0_i_i_i42_i_i < 5u;
-    if (v_4_i49_i_i_i_i_i_i) { p_v_writer_sroa_98_5_i = v_0_sroa_0_0_i_i_i42_i_i; goto L_back_writer_BackWriter_exit_i_i__3; } else { goto L_bb2_i50_i_i_i_i_i_i; }
+    v_31_i_i_i_i_i_i = (u8)(v_5_i_i_i6_i_i);
+    v_4_i49_i_i_i_i_i_i = v_0_sroa_0_0_i_i_i56_i_i < 5u;
+    if (v_4_i49_i_i_i_i_i_i) { p_v_writer_sroa_100_5_i = v_0_sroa_0_0_i_i_i56_i_i; goto L_back_writer_BackWriter_exit_i_i__3; } else { goto L_bb2_i50_i_i_i_i_i_i; }
 L_bb2_i50_i_i_i_i_i_i:;
-    v_10_not_i52_i_i_i_i_i_i = v_0_sroa_0_0_i_i_i42_i_i > v_encoding_sroa_0_0_i_i454_i;
-    if (v_10_not_i52_i_i_i_i_i_i) { goto L_bb7_i62_i_i_i_i_i_i; } else { goto L_copy_from_slice_pkcs1_c_exit223_i; }
+    v_10_not_i52_i_i_i_i_i_i = v_0_sroa_0_0_i_i_i56_i_i > v_encoding_sroa_0_0_i_i465_i;
+    if (v_10_not_i52_i_i_i_i_i_i) { goto L_bb7_i62_i_i_i_i_i_i; } else { goto L_copy_from_slice_pkcs1_c_exit227_i; }
 L_bb7_i62_i_i_i_i_i_i:;
     TRAP();
     TRAP();
-L_copy_from_slice_pkcs1_c_exit223_i:;
-    v_start1_i51_i_i_i_i_i_i = (u64)((u64)(v_0_sroa_0_0_i_i_i42_i_i) + (u64)(18446744073709551611ull));
+L_copy_from_slice_pkcs1_c_exit227_i:;
+    v_start1_i51_i_i_i_i_i_i = (u64)((u64)(v_0_sroa_0_0_i_i_i56_i_i) + (u64)(18446744073709551611ull));
     v_286 = v_out + (int64_t)(v_start1_i51_i_i_i_i_i_i);
     put_u8(v_286, 6u);
     v_25_i_i_i_i_i_sroa_4_0_sroa_idx_i = v_286 + 1;
@@ -8112,75 +8112,75 @@ L_copy_from_slice_pkcs1_c_exit223_i:;
     put_u8(v_25_i_i_i_i_i_sroa_6_0_sroa_idx_i, v_28_i_i_i_i_i_i);
     v_25_i_i_i_i_i_sroa_7_0_sroa_idx_i = v_286 + 4;
     put_u8(v_25_i_i_i_i_i_sroa_7_0_sroa_idx_i, v_31_i_i_i_i_i_i);
-    { p_v_writer_sroa_98_5_i = v_start1_i51_i_i_i_i_i_i; goto L_back_writer_BackWriter_exit_i_i__3; }
+    { p_v_writer_sroa_100_5_i = v_start1_i51_i_i_i_i_i_i; goto L_back_writer_BackWriter_exit_i_i__3; }
 L_back_writer_BackWriter_exit_i_i__3:;
-    v_writer_sroa_98_5_i = p_v_writer_sroa_98_5_i;
-    v_5_i_i_i_i_i_i_i = (u64)((u64)(v_writer_sroa_98_2_i) - (u64)(v_writer_sroa_98_5_i));
-    v_13_i_i_i7_i_i_i_i = (u32)(v_5_i_i_i_i_i_i_i);
-    v_4_i_i_i_i8_i_i_i_i = v_13_i_i_i7_i_i_i_i < 128u;
-    if (v_4_i_i_i_i8_i_i_i_i) { goto L_bb1_i_i_i_i_i_i_i_i; } else { goto L_bb2_i_i_i_i9_i_i_i_i; }
-L_bb2_i_i_i_i9_i_i_i_i:;
-    v_9_i_i_i_i10_i_i_i_i = v_13_i_i_i7_i_i_i_i < 256u;
-    if (v_9_i_i_i_i10_i_i_i_i) { goto L_bb3_i_i_i_i_i_i_i_i; } else { goto L_bb4_i_i_i_i_i_i_i_i; }
+    v_writer_sroa_100_5_i = p_v_writer_sroa_100_5_i;
+    v_5_i_i_i_i_i_i_i = (u64)((u64)(v_writer_sroa_100_2_i) - (u64)(v_writer_sroa_100_5_i));
+    v_13_i_i_i15_i_i_i_i = (u32)(v_5_i_i_i_i_i_i_i);
+    v_4_i_i_i_i16_i_i_i_i = v_13_i_i_i15_i_i_i_i < 128u;
+    if (v_4_i_i_i_i16_i_i_i_i) { goto L_bb1_i_i_i_i_i_i_i_i; } else { goto L_bb2_i_i_i_i17_i_i_i_i; }
+L_bb2_i_i_i_i17_i_i_i_i:;
+    v_9_i_i_i_i18_i_i_i_i = v_13_i_i_i15_i_i_i_i < 256u;
+    if (v_9_i_i_i_i18_i_i_i_i) { goto L_bb3_i_i_i_i_i_i_i_i; } else { goto L_bb4_i_i_i_i_i_i_i_i; }
 L_bb1_i_i_i_i_i_i_i_i:;
     v_8_i_i_i_i_i_i_i_i = (u16)(v_5_i_i_i_i_i_i_i);
-    v_4_i_i_i_i_i_i_i_i_i = v_writer_sroa_98_5_i < 2u;
-    if (v_4_i_i_i_i_i_i_i_i_i) { p_v_writer_sroa_98_6_i = v_writer_sroa_98_5_i; goto L_back_writer_BackWriter_exit_i_i_i_i; } else { goto L_bb2_i_i_i_i_i_i_i_i_i; }
+    v_4_i_i_i_i_i_i_i_i_i = v_writer_sroa_100_5_i < 2u;
+    if (v_4_i_i_i_i_i_i_i_i_i) { p_v_writer_sroa_100_6_i = v_writer_sroa_100_5_i; goto L_back_writer_BackWriter_exit_i_i_i_i; } else { goto L_bb2_i_i_i_i_i_i_i_i_i; }
 L_bb2_i_i_i_i_i_i_i_i_i:;
-    v_10_not_i_i_i_i_i_i_i_i_i = v_writer_sroa_98_5_i > v_encoding_sroa_0_0_i_i454_i;
-    if (v_10_not_i_i_i_i_i_i_i_i_i) { goto L_bb7_i_i_i_i_i_i_i_i_i; } else { goto L_copy_from_slice_pkcs1_c_exit227_i; }
+    v_10_not_i_i_i_i_i_i_i_i_i = v_writer_sroa_100_5_i > v_encoding_sroa_0_0_i_i465_i;
+    if (v_10_not_i_i_i_i_i_i_i_i_i) { goto L_bb7_i_i_i_i_i_i_i_i_i; } else { goto L_copy_from_slice_pkcs1_c_exit231_i; }
 L_bb7_i_i_i_i_i_i_i_i_i:;
     TRAP();
     TRAP();
-L_copy_from_slice_pkcs1_c_exit227_i:;
-    v_start1_i_i_i_i_i_i_i_i_i = (u64)((u64)(v_writer_sroa_98_5_i) + (u64)(18446744073709551614ull));
+L_copy_from_slice_pkcs1_c_exit231_i:;
+    v_start1_i_i_i_i_i_i_i_i_i = (u64)((u64)(v_writer_sroa_100_5_i) + (u64)(18446744073709551614ull));
     v_287 = v_out + (int64_t)(v_start1_i_i_i_i_i_i_i_i_i);
     v_7_i_i_i_i_i_i_i_sroa_0_sroa_4_0_insert_shift_i = (u16)((u32)(v_8_i_i_i_i_i_i_i_i) << (u32)((8u & 31)));
     v_7_i_i_i_i_i_i_i_sroa_0_sroa_0_0_insert_insert_i = (u16)((u32)(v_7_i_i_i_i_i_i_i_sroa_0_sroa_4_0_insert_shift_i) | (u32)(48u));
     put_u16(v_287, v_7_i_i_i_i_i_i_i_sroa_0_sroa_0_0_insert_insert_i);
-    { p_v_writer_sroa_98_6_i = v_start1_i_i_i_i_i_i_i_i_i; goto L_back_writer_BackWriter_exit_i_i_i_i; }
+    { p_v_writer_sroa_100_6_i = v_start1_i_i_i_i_i_i_i_i_i; goto L_back_writer_BackWriter_exit_i_i_i_i; }
 L_bb4_i_i_i_i_i_i_i_i:;
-    v_14_i_i_i_i_i_i_i_i = v_13_i_i_i7_i_i_i_i < 65536u;
-    if (v_14_i_i_i_i_i_i_i_i) { goto L_bb5_i_i_i_i13_i_i_i_i; } else { goto L_bb6_i_i_i_i_i_i_i_i; }
+    v_14_i_i_i_i_i_i_i_i = v_13_i_i_i15_i_i_i_i < 65536u;
+    if (v_14_i_i_i_i_i_i_i_i) { goto L_bb5_i_i_i_i21_i_i_i_i; } else { goto L_bb6_i_i_i_i_i_i_i_i; }
 L_bb3_i_i_i_i_i_i_i_i:;
     v_13_i_i_i_i_i_i_i_i = (u8)(v_5_i_i_i_i_i_i_i);
-    v_4_i11_i_i_i_i_i_i_i_i = v_writer_sroa_98_5_i < 3u;
-    if (v_4_i11_i_i_i_i_i_i_i_i) { p_v_writer_sroa_98_6_i = v_writer_sroa_98_5_i; goto L_back_writer_BackWriter_exit_i_i_i_i; } else { goto L_bb2_i12_i_i_i_i_i_i_i_i; }
+    v_4_i11_i_i_i_i_i_i_i_i = v_writer_sroa_100_5_i < 3u;
+    if (v_4_i11_i_i_i_i_i_i_i_i) { p_v_writer_sroa_100_6_i = v_writer_sroa_100_5_i; goto L_back_writer_BackWriter_exit_i_i_i_i; } else { goto L_bb2_i12_i_i_i_i_i_i_i_i; }
 L_bb2_i12_i_i_i_i_i_i_i_i:;
-    v_10_not_i14_i_i_i_i_i_i_i_i = v_writer_sroa_98_5_i > v_encoding_sroa_0_0_i_i454_i;
-    if (v_10_not_i14_i_i_i_i_i_i_i_i) { goto L_bb7_i24_i_i_i_i_i_i_i_i; } else { goto L_copy_from_slice_pkcs1_c_exit231_i; }
+    v_10_not_i14_i_i_i_i_i_i_i_i = v_writer_sroa_100_5_i > v_encoding_sroa_0_0_i_i465_i;
+    if (v_10_not_i14_i_i_i_i_i_i_i_i) { goto L_bb7_i24_i_i_i_i_i_i_i_i; } else { goto L_copy_from_slice_pkcs1_c_exit235_i; }
 L_bb7_i24_i_i_i_i_i_i_i_i:;
     TRAP();
     TRAP();
-L_copy_from_slice_pkcs1_c_exit231_i:;
-    v_start1_i13_i_i_i_i_i_i_i_i = (u64)((u64)(v_writer_sroa_98_5_i) + (u64)(18446744073709551613ull));
+L_copy_from_slice_pkcs1_c_exit235_i:;
+    v_start1_i13_i_i_i_i_i_i_i_i = (u64)((u64)(v_writer_sroa_100_5_i) + (u64)(18446744073709551613ull));
     v_288 = v_out + (int64_t)(v_start1_i13_i_i_i_i_i_i_i_i);
     put_u8(v_288, 48u);
-    v_12_i_i_i_i3_i_i_i_sroa_4_0_sroa_idx_i = v_288 + 1;
-    put_u8(v_12_i_i_i_i3_i_i_i_sroa_4_0_sroa_idx_i, 129u);
-    v_12_i_i_i_i3_i_i_i_sroa_5_0_sroa_idx_i = v_288 + 2;
-    put_u8(v_12_i_i_i_i3_i_i_i_sroa_5_0_sroa_idx_i, v_13_i_i_i_i_i_i_i_i);
-    { p_v_writer_sroa_98_6_i = v_start1_i13_i_i_i_i_i_i_i_i; goto L_back_writer_BackWriter_exit_i_i_i_i; }
+    v_12_i_i_i_i10_i_i_i_sroa_4_0_sroa_idx_i = v_288 + 1;
+    put_u8(v_12_i_i_i_i10_i_i_i_sroa_4_0_sroa_idx_i, 129u);
+    v_12_i_i_i_i10_i_i_i_sroa_5_0_sroa_idx_i = v_288 + 2;
+    put_u8(v_12_i_i_i_i10_i_i_i_sroa_5_0_sroa_idx_i, v_13_i_i_i_i_i_i_i_i);
+    { p_v_writer_sroa_100_6_i = v_start1_i13_i_i_i_i_i_i_i_i; goto L_back_writer_BackWriter_exit_i_i_i_i; }
 L_bb6_i_i_i_i_i_i_i_i:;
-    v_22_i_i_i_i_i_i_i_i = v_13_i_i_i7_i_i_i_i < 16777216u;
-    if (v_22_i_i_i_i_i_i_i_i) { goto L_bb7_i_i_i_i12_i_i_i_i; } else { goto L_bb8_i_i_i_i11_i_i_i_i; }
-L_bb5_i_i_i_i13_i_i_i_i:;
-    v_4_i30_i_i_i_i_i_i_i_i = v_writer_sroa_98_5_i < 4u;
-    if (v_4_i30_i_i_i_i_i_i_i_i) { p_v_writer_sroa_98_6_i = v_writer_sroa_98_5_i; goto L_back_writer_BackWriter_exit_i_i_i_i; } else { goto L_bb2_i31_i_i_i_i_i_i_i_i; }
+    v_22_i_i_i_i_i_i_i_i = v_13_i_i_i15_i_i_i_i < 16777216u;
+    if (v_22_i_i_i_i_i_i_i_i) { goto L_bb7_i_i_i_i20_i_i_i_i; } else { goto L_bb8_i_i_i_i19_i_i_i_i; }
+L_bb5_i_i_i_i21_i_i_i_i:;
+    v_4_i30_i_i_i_i_i_i_i_i = v_writer_sroa_100_5_i < 4u;
+    if (v_4_i30_i_i_i_i_i_i_i_i) { p_v_writer_sroa_100_6_i = v_writer_sroa_100_5_i; goto L_back_writer_BackWriter_exit_i_i_i_i; } else { goto L_bb2_i31_i_i_i_i_i_i_i_i; }
 L_bb2_i31_i_i_i_i_i_i_i_i:;
-    v_10_not_i33_i_i_i_i_i_i_i_i = v_writer_sroa_98_5_i > v_encoding_sroa_0_0_i_i454_i;
-    if (v_10_not_i33_i_i_i_i_i_i_i_i) { goto L_bb7_i43_i_i_i_i_i_i_i_i; } else { goto L_copy_from_slice_pkcs1_c_exit235_i; }
+    v_10_not_i33_i_i_i_i_i_i_i_i = v_writer_sroa_100_5_i > v_encoding_sroa_0_0_i_i465_i;
+    if (v_10_not_i33_i_i_i_i_i_i_i_i) { goto L_bb7_i43_i_i_i_i_i_i_i_i; } else { goto L_copy_from_slice_pkcs1_c_exit239_i; }
 L_bb7_i43_i_i_i_i_i_i_i_i:;
     TRAP();
     TRAP();
-L_copy_from_slice_pkcs1_c_exit235_i:;
-    v_start1_i32_i_i_i_i_i_i_i_i = (u64)((u64)(v_writer_sroa_98_5_i) + (u64)(18446744073709551612ull));
+L_copy_from_slice_pkcs1_c_exit239_i:;
+    v_start1_i32_i_i_i_i_i_i_i_i = (u64)((u64)(v_writer_sroa_100_5_i) + (u64)(18446744073709551612ull));
     v_289 = v_out + (int64_t)(v_start1_i32_i_i_i_i_i_i_i_i);
-    v_290 = (u32)((u32)(v_13_i_i_i7_i_i_i_i) | (u32)(813826048u));
+    v_290 = (u32)((u32)(v_13_i_i_i15_i_i_i_i) | (u32)(813826048u));
     v_17_i_i_i_i_i_i_i_sroa_0_sroa_0_0_insert_insert_i = TURNED(32, v_290);
     put_u32(v_289, v_17_i_i_i_i_i_i_i_sroa_0_sroa_0_0_insert_insert_i);
-    { p_v_writer_sroa_98_6_i = v_start1_i32_i_i_i_i_i_i_i_i; goto L_back_writer_BackWriter_exit_i_i_i_i; }
-L_bb8_i_i_i_i11_i_i_i_i:;
+    { p_v_writer_sroa_100_6_i = v_start1_i32_i_i_i_i_i_i_i_i; goto L_back_writer_BackWriter_exit_i_i_i_i; }
+L_bb8_i_i_i_i19_i_i_i_i:;
     v_371_i_i_i_i_i_i_i_i = (u64)((u64)(v_5_i_i_i_i_i_i_i) >> (u64)((24u & 63)));
     v_36_i_i_i_i_i_i_i_i = (u8)(v_371_i_i_i_i_i_i_i_i);
     v_402_i_i_i_i_i_i_i_i = (u64)((u64)(v_5_i_i_i_i_i_i_i) >> (u64)((16u & 63)));
@@ -8188,16 +8188,16 @@ L_bb8_i_i_i_i11_i_i_i_i:;
     v_433_i_i_i_i_i_i_i_i = (u64)((u64)(v_5_i_i_i_i_i_i_i) >> (u64)((8u & 63)));
     v_41_i_i_i_i_i_i_i_i = (u8)(v_433_i_i_i_i_i_i_i_i);
     v_44_i_i_i_i_i_i_i_i = (u8)(v_5_i_i_i_i_i_i_i);
-    v_4_i68_i_i_i_i_i_i_i_i = v_writer_sroa_98_5_i < 6u;
-    if (v_4_i68_i_i_i_i_i_i_i_i) { p_v_writer_sroa_98_6_i = v_writer_sroa_98_5_i; goto L_back_writer_BackWriter_exit_i_i_i_i; } else { goto L_bb2_i69_i_i_i_i_i_i_i_i; }
+    v_4_i68_i_i_i_i_i_i_i_i = v_writer_sroa_100_5_i < 6u;
+    if (v_4_i68_i_i_i_i_i_i_i_i) { p_v_writer_sroa_100_6_i = v_writer_sroa_100_5_i; goto L_back_writer_BackWriter_exit_i_i_i_i; } else { goto L_bb2_i69_i_i_i_i_i_i_i_i; }
 L_bb2_i69_i_i_i_i_i_i_i_i:;
-    v_10_not_i71_i_i_i_i_i_i_i_i = v_writer_sroa_98_5_i > v_encoding_sroa_0_0_i_i454_i;
-    if (v_10_not_i71_i_i_i_i_i_i_i_i) { goto L_bb7_i81_i_i_i_i_i_i_i_i; } else { goto L_copy_from_slice_pkcs1_c_exit239_i; }
+    v_10_not_i71_i_i_i_i_i_i_i_i = v_writer_sroa_100_5_i > v_encoding_sroa_0_0_i_i465_i;
+    if (v_10_not_i71_i_i_i_i_i_i_i_i) { goto L_bb7_i81_i_i_i_i_i_i_i_i; } else { goto L_copy_from_slice_pkcs1_c_exit243_i; }
 L_bb7_i81_i_i_i_i_i_i_i_i:;
     TRAP();
     TRAP();
-L_copy_from_slice_pkcs1_c_exit239_i:;
-    v_start1_i70_i_i_i_i_i_i_i_i = (u64)((u64)(v_writer_sroa_98_5_i) + (u64)(18446744073709551610ull));
+L_copy_from_slice_pkcs1_c_exit243_i:;
+    v_start1_i70_i_i_i_i_i_i_i_i = (u64)((u64)(v_writer_sroa_100_5_i) + (u64)(18446744073709551610ull));
     v_291 = v_out + (int64_t)(v_start1_i70_i_i_i_i_i_i_i_i);
     put_u8(v_291, 48u);
     v_35_i_i_i_i_i_i_i_sroa_4_0_sroa_idx_i = v_291 + 1;
@@ -8210,23 +8210,23 @@ L_copy_from_slice_pkcs1_c_exit239_i:;
     put_u8(v_35_i_i_i_i_i_i_i_sroa_7_0_sroa_idx_i, v_41_i_i_i_i_i_i_i_i);
     v_35_i_i_i_i_i_i_i_sroa_8_0_sroa_idx_i = v_291 + 5;
     put_u8(v_35_i_i_i_i_i_i_i_sroa_8_0_sroa_idx_i, v_44_i_i_i_i_i_i_i_i);
-    { p_v_writer_sroa_98_6_i = v_start1_i70_i_i_i_i_i_i_i_i; goto L_back_writer_BackWriter_exit_i_i_i_i; }
-L_bb7_i_i_i_i12_i_i_i_i:;
+    { p_v_writer_sroa_100_6_i = v_start1_i70_i_i_i_i_i_i_i_i; goto L_back_writer_BackWriter_exit_i_i_i_i; }
+L_bb7_i_i_i_i20_i_i_i_i:;
     v_274_i_i_i_i_i_i_i_i = (u64)((u64)(v_5_i_i_i_i_i_i_i) >> (u64)((16u & 63)));
     v_26_i_i_i_i_i_i_i_i = (u8)(v_274_i_i_i_i_i_i_i_i);
     v_305_i_i_i_i_i_i_i_i = (u64)((u64)(v_5_i_i_i_i_i_i_i) >> (u64)((8u & 63)));
     v_28_i_i_i_i_i_i_i_i = (u8)(v_305_i_i_i_i_i_i_i_i);
     v_31_i_i_i_i_i_i_i_i = (u8)(v_5_i_i_i_i_i_i_i);
-    v_4_i49_i_i_i_i_i_i_i_i = v_writer_sroa_98_5_i < 5u;
-    if (v_4_i49_i_i_i_i_i_i_i_i) { p_v_writer_sroa_98_6_i = v_writer_sroa_98_5_i; goto L_back_writer_BackWriter_exit_i_i_i_i; } else { goto L_bb2_i50_i_i_i_i_i_i_i_i; }
+    v_4_i49_i_i_i_i_i_i_i_i = v_writer_sroa_100_5_i < 5u;
+    if (v_4_i49_i_i_i_i_i_i_i_i) { p_v_writer_sroa_100_6_i = v_writer_sroa_100_5_i; goto L_back_writer_BackWriter_exit_i_i_i_i; } else { goto L_bb2_i50_i_i_i_i_i_i_i_i; }
 L_bb2_i50_i_i_i_i_i_i_i_i:;
-    v_10_not_i52_i_i_i_i_i_i_i_i = v_writer_sroa_98_5_i > v_encoding_sroa_0_0_i_i454_i;
-    if (v_10_not_i52_i_i_i_i_i_i_i_i) { goto L_bb7_i62_i_i_i_i_i_i_i_i; } else { goto L_copy_from_slice_pkcs1_c_exit243_i; }
+    v_10_not_i52_i_i_i_i_i_i_i_i = v_writer_sroa_100_5_i > v_encoding_sroa_0_0_i_i465_i;
+    if (v_10_not_i52_i_i_i_i_i_i_i_i) { goto L_bb7_i62_i_i_i_i_i_i_i_i; } else { goto L_copy_from_slice_pkcs1_c_exit247_i; }
 L_bb7_i62_i_i_i_i_i_i_i_i:;
     TRAP();
     TRAP();
-L_copy_from_slice_pkcs1_c_exit243_i:;
-    v_start1_i51_i_i_i_i_i_i_i_i = (u64)((u64)(v_writer_sroa_98_5_i) + (u64)(18446744073709551611ull));
+L_copy_from_slice_pkcs1_c_exit247_i:;
+    v_start1_i51_i_i_i_i_i_i_i_i = (u64)((u64)(v_writer_sroa_100_5_i) + (u64)(18446744073709551611ull));
     v_292 = v_out + (int64_t)(v_start1_i51_i_i_i_i_i_i_i_i);
     put_u8(v_292, 48u);
     v_25_i_i_i_i_i_i_i_sroa_4_0_sroa_idx_i = v_292 + 1;
@@ -8237,102 +8237,102 @@ L_copy_from_slice_pkcs1_c_exit243_i:;
     put_u8(v_25_i_i_i_i_i_i_i_sroa_6_0_sroa_idx_i, v_28_i_i_i_i_i_i_i_i);
     v_25_i_i_i_i_i_i_i_sroa_7_0_sroa_idx_i = v_292 + 4;
     put_u8(v_25_i_i_i_i_i_i_i_sroa_7_0_sroa_idx_i, v_31_i_i_i_i_i_i_i_i);
-    { p_v_writer_sroa_98_6_i = v_start1_i51_i_i_i_i_i_i_i_i; goto L_back_writer_BackWriter_exit_i_i_i_i; }
+    { p_v_writer_sroa_100_6_i = v_start1_i51_i_i_i_i_i_i_i_i; goto L_back_writer_BackWriter_exit_i_i_i_i; }
 L_back_writer_BackWriter_exit_i_i_i_i:;
-    v_writer_sroa_98_6_i = p_v_writer_sroa_98_6_i;
-    v_4_i_i8_i_i_i_i_i = v_writer_sroa_98_6_i == 0u;
+    v_writer_sroa_100_6_i = p_v_writer_sroa_100_6_i;
+    v_4_i_i8_i_i_i_i_i = v_writer_sroa_100_6_i == 0u;
     if (v_4_i_i8_i_i_i_i_i) { p_v_0_sroa_0_0_i = 0u; goto L_object_identifier_ObjectIdentifier_exit; } else { goto L_bb2_i_i9_i_i_i_i_i; }
 L_bb2_i_i9_i_i_i_i_i:;
-    v_10_not_i_i11_i_i_i_i_i = v_writer_sroa_98_6_i > v_encoding_sroa_0_0_i_i454_i;
+    v_10_not_i_i11_i_i_i_i_i = v_writer_sroa_100_6_i > v_encoding_sroa_0_0_i_i465_i;
     if (v_10_not_i_i11_i_i_i_i_i) { goto L_bb7_i_i21_i_i_i_i_i; } else { goto L_bb1_i_i_i_i_i_i_i; }
 L_bb7_i_i21_i_i_i_i_i:;
     TRAP();
     TRAP();
 L_bb1_i_i_i_i_i_i_i:;
-    v_start1_i_i10_i_i_i_i_i = (u64)((u64)(v_writer_sroa_98_6_i) + (u64)(18446744073709551615ull));
+    v_start1_i_i10_i_i_i_i_i = (u64)((u64)(v_writer_sroa_100_6_i) + (u64)(18446744073709551615ull));
     v_293 = v_out + (int64_t)(v_start1_i_i10_i_i_i_i_i);
     put_u8(v_293, 0u);
-    v_4_i_i_i_i_i_i_i_i = v_writer_sroa_98_6_i < 3u;
-    if (v_4_i_i_i_i_i_i_i_i) { p_v_writer_sroa_98_7_i = v_start1_i_i10_i_i_i_i_i; goto L_back_writer_BackWriter_exit_i; } else { goto L_bb2_i_i_i_i_i_i_i_i; }
+    v_4_i_i_i_i_i_i_i_i = v_writer_sroa_100_6_i < 3u;
+    if (v_4_i_i_i_i_i_i_i_i) { p_v_writer_sroa_100_8_i = v_start1_i_i10_i_i_i_i_i; goto L_back_writer_BackWriter_exit_i; } else { goto L_bb2_i_i_i_i_i_i_i_i; }
 L_bb2_i_i_i_i_i_i_i_i:;
-    v_10_not_i_i_i_i_i_i_i_i = v_start1_i_i10_i_i_i_i_i > v_encoding_sroa_0_0_i_i454_i;
-    if (v_10_not_i_i_i_i_i_i_i_i) { goto L_bb7_i_i_i_i_i_i_i_i; } else { goto L_copy_from_slice_pkcs1_c_exit251_i; }
+    v_10_not_i_i_i_i_i_i_i_i = v_start1_i_i10_i_i_i_i_i > v_encoding_sroa_0_0_i_i465_i;
+    if (v_10_not_i_i_i_i_i_i_i_i) { goto L_bb7_i_i_i_i_i_i_i_i; } else { goto L_copy_from_slice_pkcs1_c_exit259_i; }
 L_bb7_i_i_i_i_i_i_i_i:;
     TRAP();
     TRAP();
-L_copy_from_slice_pkcs1_c_exit251_i:;
-    v_start1_i_i_i_i_i_i_i_i = (u64)((u64)(v_writer_sroa_98_6_i) + (u64)(18446744073709551613ull));
+L_copy_from_slice_pkcs1_c_exit259_i:;
+    v_start1_i_i_i_i_i_i_i_i = (u64)((u64)(v_writer_sroa_100_6_i) + (u64)(18446744073709551613ull));
     v_294 = v_out + (int64_t)(v_start1_i_i_i_i_i_i_i_i);
     put_u16(v_294, 258u);
-    { p_v_writer_sroa_98_7_i = v_start1_i_i_i_i_i_i_i_i; goto L_back_writer_BackWriter_exit_i; }
+    { p_v_writer_sroa_100_8_i = v_start1_i_i_i_i_i_i_i_i; goto L_back_writer_BackWriter_exit_i; }
 L_back_writer_BackWriter_exit_i:;
-    v_writer_sroa_98_7_i = p_v_writer_sroa_98_7_i;
-    v_5_i_i_i = (u64)((u64)(v_encoding_sroa_0_0_i_i454_i) - (u64)(v_writer_sroa_98_7_i));
-    v_13_i_i_i9 = (u32)(v_5_i_i_i);
-    v_4_i_i_i_i = v_13_i_i_i9 < 128u;
-    if (v_4_i_i_i_i) { goto L_bb1_i_i_i_i16; } else { goto L_bb2_i_i_i_i; }
+    v_writer_sroa_100_8_i = p_v_writer_sroa_100_8_i;
+    v_5_i_i_i = (u64)((u64)(v_encoding_sroa_0_0_i_i465_i) - (u64)(v_writer_sroa_100_8_i));
+    v_13_i_i_i8 = (u32)(v_5_i_i_i);
+    v_4_i_i_i_i = v_13_i_i_i8 < 128u;
+    if (v_4_i_i_i_i) { goto L_bb1_i_i_i_i15; } else { goto L_bb2_i_i_i_i; }
 L_bb2_i_i_i_i:;
-    v_9_i_i_i_i = v_13_i_i_i9 < 256u;
-    if (v_9_i_i_i_i) { goto L_bb3_i_i_i_i14; } else { goto L_bb4_i_i_i_i10; }
-L_bb1_i_i_i_i16:;
+    v_9_i_i_i_i = v_13_i_i_i8 < 256u;
+    if (v_9_i_i_i_i) { goto L_bb3_i_i_i_i13; } else { goto L_bb4_i_i_i_i9; }
+L_bb1_i_i_i_i15:;
     v_8_i_i_i_i = (u16)(v_5_i_i_i);
-    v_4_i_i_i_i_i = v_writer_sroa_98_7_i < 2u;
+    v_4_i_i_i_i_i = v_writer_sroa_100_8_i < 2u;
     if (v_4_i_i_i_i_i) { p_v_0_sroa_0_0_i = 0u; goto L_object_identifier_ObjectIdentifier_exit; } else { goto L_bb2_i_i_i_i_i; }
 L_bb2_i_i_i_i_i:;
-    v_10_not_i_i_i_i_i = v_writer_sroa_98_7_i > v_encoding_sroa_0_0_i_i454_i;
-    if (v_10_not_i_i_i_i_i) { goto L_bb7_i_i_i_i_i17; } else { goto L_copy_from_slice_pkcs1_c_exit271_i; }
-L_bb7_i_i_i_i_i17:;
+    v_10_not_i_i_i_i_i = v_writer_sroa_100_8_i > v_encoding_sroa_0_0_i_i465_i;
+    if (v_10_not_i_i_i_i_i) { goto L_bb7_i_i_i_i_i16; } else { goto L_copy_from_slice_pkcs1_c_exit279_i; }
+L_bb7_i_i_i_i_i16:;
     TRAP();
     TRAP();
-L_copy_from_slice_pkcs1_c_exit271_i:;
-    v_295 = (P)((u64)v_out + (u64)(v_writer_sroa_98_7_i));
+L_copy_from_slice_pkcs1_c_exit279_i:;
+    v_295 = (P)((u64)v_out + (u64)(v_writer_sroa_100_8_i));
     v_296 = (P)((u64)v_295 + (u64)(-2));
     v_7_i_i_i_sroa_0_sroa_4_0_insert_shift_i = (u16)((u32)(v_8_i_i_i_i) << (u32)((8u & 31)));
     v_7_i_i_i_sroa_0_sroa_0_0_insert_insert_i = (u16)((u32)(v_7_i_i_i_sroa_0_sroa_4_0_insert_shift_i) | (u32)(48u));
     put_u16(v_296, v_7_i_i_i_sroa_0_sroa_0_0_insert_insert_i);
     { p_v_0_sroa_0_0_i = 0u; goto L_object_identifier_ObjectIdentifier_exit; }
-L_bb4_i_i_i_i10:;
-    v_14_i_i_i_i = v_13_i_i_i9 < 65536u;
-    if (v_14_i_i_i_i) { goto L_bb5_i_i_i_i13; } else { goto L_bb6_i_i_i_i; }
-L_bb3_i_i_i_i14:;
-    v_13_i_i_i_i15 = (u8)(v_5_i_i_i);
-    v_4_i11_i_i_i_i = v_writer_sroa_98_7_i < 3u;
+L_bb4_i_i_i_i9:;
+    v_14_i_i_i_i = v_13_i_i_i8 < 65536u;
+    if (v_14_i_i_i_i) { goto L_bb5_i_i_i_i12; } else { goto L_bb6_i_i_i_i; }
+L_bb3_i_i_i_i13:;
+    v_13_i_i_i_i14 = (u8)(v_5_i_i_i);
+    v_4_i11_i_i_i_i = v_writer_sroa_100_8_i < 3u;
     if (v_4_i11_i_i_i_i) { p_v_0_sroa_0_0_i = 0u; goto L_object_identifier_ObjectIdentifier_exit; } else { goto L_bb2_i12_i_i_i_i; }
 L_bb2_i12_i_i_i_i:;
-    v_10_not_i14_i_i_i_i = v_writer_sroa_98_7_i > v_encoding_sroa_0_0_i_i454_i;
-    if (v_10_not_i14_i_i_i_i) { goto L_bb7_i24_i_i_i_i; } else { goto L_copy_from_slice_pkcs1_c_exit275_i; }
+    v_10_not_i14_i_i_i_i = v_writer_sroa_100_8_i > v_encoding_sroa_0_0_i_i465_i;
+    if (v_10_not_i14_i_i_i_i) { goto L_bb7_i24_i_i_i_i; } else { goto L_copy_from_slice_pkcs1_c_exit283_i; }
 L_bb7_i24_i_i_i_i:;
     TRAP();
     TRAP();
-L_copy_from_slice_pkcs1_c_exit275_i:;
-    v_297 = (P)((u64)v_out + (u64)(v_writer_sroa_98_7_i));
+L_copy_from_slice_pkcs1_c_exit283_i:;
+    v_297 = (P)((u64)v_out + (u64)(v_writer_sroa_100_8_i));
     v_298 = (P)((u64)v_297 + (u64)(-3));
     put_u8(v_298, 48u);
     v_12_i_i_i_sroa_4_0_sroa_idx_i = (P)((u64)v_297 + (u64)(-2));
     put_u8(v_12_i_i_i_sroa_4_0_sroa_idx_i, 129u);
     v_12_i_i_i_sroa_5_0_sroa_idx_i = (P)((u64)v_297 + (u64)(-1));
-    put_u8(v_12_i_i_i_sroa_5_0_sroa_idx_i, v_13_i_i_i_i15);
+    put_u8(v_12_i_i_i_sroa_5_0_sroa_idx_i, v_13_i_i_i_i14);
     { p_v_0_sroa_0_0_i = 0u; goto L_object_identifier_ObjectIdentifier_exit; }
 L_bb6_i_i_i_i:;
-    v_22_i_i_i_i = v_13_i_i_i9 < 16777216u;
-    if (v_22_i_i_i_i) { goto L_bb7_i_i_i_i12; } else { goto L_bb8_i_i_i_i11; }
-L_bb5_i_i_i_i13:;
-    v_4_i30_i_i_i_i = v_writer_sroa_98_7_i < 4u;
+    v_22_i_i_i_i = v_13_i_i_i8 < 16777216u;
+    if (v_22_i_i_i_i) { goto L_bb7_i_i_i_i11; } else { goto L_bb8_i_i_i_i10; }
+L_bb5_i_i_i_i12:;
+    v_4_i30_i_i_i_i = v_writer_sroa_100_8_i < 4u;
     if (v_4_i30_i_i_i_i) { p_v_0_sroa_0_0_i = 0u; goto L_object_identifier_ObjectIdentifier_exit; } else { goto L_bb2_i31_i_i_i_i; }
 L_bb2_i31_i_i_i_i:;
-    v_10_not_i33_i_i_i_i = v_writer_sroa_98_7_i > v_encoding_sroa_0_0_i_i454_i;
-    if (v_10_not_i33_i_i_i_i) { goto L_bb7_i43_i_i_i_i; } else { goto L_copy_from_slice_pkcs1_c_exit279_i; }
+    v_10_not_i33_i_i_i_i = v_writer_sroa_100_8_i > v_encoding_sroa_0_0_i_i465_i;
+    if (v_10_not_i33_i_i_i_i) { goto L_bb7_i43_i_i_i_i; } else { goto L_copy_from_slice_pkcs1_c_exit287_i; }
 L_bb7_i43_i_i_i_i:;
     TRAP();
     TRAP();
-L_copy_from_slice_pkcs1_c_exit279_i:;
-    v_299 = (P)((u64)v_out + (u64)(v_writer_sroa_98_7_i));
+L_copy_from_slice_pkcs1_c_exit287_i:;
+    v_299 = (P)((u64)v_out + (u64)(v_writer_sroa_100_8_i));
     v_300 = (P)((u64)v_299 + (u64)(-4));
-    v_301 = (u32)((u32)(v_13_i_i_i9) | (u32)(813826048u));
+    v_301 = (u32)((u32)(v_13_i_i_i8) | (u32)(813826048u));
     v_17_i_i_i_sroa_0_sroa_0_0_insert_insert_i = TURNED(32, v_301);
     put_u32(v_300, v_17_i_i_i_sroa_0_sroa_0_0_insert_insert_i);
     { p_v_0_sroa_0_0_i = 0u; goto L_object_identifier_ObjectIdentifier_exit; }
-L_bb8_i_i_i_i11:;
+L_bb8_i_i_i_i10:;
     v_371_i_i_i_i = (u64)((u64)(v_5_i_i_i) >> (u64)((24u & 63)));
     v_36_i_i_i_i = (u8)(v_371_i_i_i_i);
     v_402_i_i_i_i = (u64)((u64)(v_5_i_i_i) >> (u64)((16u & 63)));
@@ -8340,16 +8340,16 @@ L_bb8_i_i_i_i11:;
     v_433_i_i_i_i = (u64)((u64)(v_5_i_i_i) >> (u64)((8u & 63)));
     v_41_i_i_i_i = (u8)(v_433_i_i_i_i);
     v_44_i_i_i_i = (u8)(v_5_i_i_i);
-    v_4_i68_i_i_i_i = v_writer_sroa_98_7_i < 6u;
+    v_4_i68_i_i_i_i = v_writer_sroa_100_8_i < 6u;
     if (v_4_i68_i_i_i_i) { p_v_0_sroa_0_0_i = 0u; goto L_object_identifier_ObjectIdentifier_exit; } else { goto L_bb2_i69_i_i_i_i; }
 L_bb2_i69_i_i_i_i:;
-    v_10_not_i71_i_i_i_i = v_writer_sroa_98_7_i > v_encoding_sroa_0_0_i_i454_i;
-    if (v_10_not_i71_i_i_i_i) { goto L_bb7_i81_i_i_i_i; } else { goto L_copy_from_slice_pkcs1_c_exit283_i; }
+    v_10_not_i71_i_i_i_i = v_writer_sroa_100_8_i > v_encoding_sroa_0_0_i_i465_i;
+    if (v_10_not_i71_i_i_i_i) { goto L_bb7_i81_i_i_i_i; } else { goto L_copy_from_slice_pkcs1_c_exit291_i; }
 L_bb7_i81_i_i_i_i:;
     TRAP();
     TRAP();
-L_copy_from_slice_pkcs1_c_exit283_i:;
-    v_302 = (P)((u64)v_out + (u64)(v_writer_sroa_98_7_i));
+L_copy_from_slice_pkcs1_c_exit291_i:;
+    v_302 = (P)((u64)v_out + (u64)(v_writer_sroa_100_8_i));
     v_303 = (P)((u64)v_302 + (u64)(-6));
     put_u8(v_303, 48u);
     v_35_i_i_i_sroa_4_0_sroa_idx_i = (P)((u64)v_302 + (u64)(-5));
@@ -8363,22 +8363,22 @@ L_copy_from_slice_pkcs1_c_exit283_i:;
     v_35_i_i_i_sroa_8_0_sroa_idx_i = (P)((u64)v_302 + (u64)(-1));
     put_u8(v_35_i_i_i_sroa_8_0_sroa_idx_i, v_44_i_i_i_i);
     { p_v_0_sroa_0_0_i = 0u; goto L_object_identifier_ObjectIdentifier_exit; }
-L_bb7_i_i_i_i12:;
+L_bb7_i_i_i_i11:;
     v_274_i_i_i_i = (u64)((u64)(v_5_i_i_i) >> (u64)((16u & 63)));
     v_26_i_i_i_i = (u8)(v_274_i_i_i_i);
     v_305_i_i_i_i = (u64)((u64)(v_5_i_i_i) >> (u64)((8u & 63)));
     v_28_i_i_i_i = (u8)(v_305_i_i_i_i);
     v_31_i_i_i_i = (u8)(v_5_i_i_i);
-    v_4_i49_i_i_i_i = v_writer_sroa_98_7_i < 5u;
+    v_4_i49_i_i_i_i = v_writer_sroa_100_8_i < 5u;
     if (v_4_i49_i_i_i_i) { p_v_0_sroa_0_0_i = 0u; goto L_object_identifier_ObjectIdentifier_exit; } else { goto L_bb2_i50_i_i_i_i; }
 L_bb2_i50_i_i_i_i:;
-    v_10_not_i52_i_i_i_i = v_writer_sroa_98_7_i > v_encoding_sroa_0_0_i_i454_i;
-    if (v_10_not_i52_i_i_i_i) { goto L_bb7_i62_i_i_i_i; } else { goto L_copy_from_slice_pkcs1_c_exit287_i; }
+    v_10_not_i52_i_i_i_i = v_writer_sroa_100_8_i > v_encoding_sroa_0_0_i_i465_i;
+    if (v_10_not_i52_i_i_i_i) { goto L_bb7_i62_i_i_i_i; } else { goto L_copy_from_slice_pkcs1_c_exit295_i; }
 L_bb7_i62_i_i_i_i:;
     TRAP();
     TRAP();
-L_copy_from_slice_pkcs1_c_exit287_i:;
-    v_304 = (P)((u64)v_out + (u64)(v_writer_sroa_98_7_i));
+L_copy_from_slice_pkcs1_c_exit295_i:;
+    v_304 = (P)((u64)v_out + (u64)(v_writer_sroa_100_8_i));
     v_305 = (P)((u64)v_304 + (u64)(-5));
     put_u8(v_305, 48u);
     v_25_i_i_i_sroa_4_0_sroa_idx_i = (P)((u64)v_304 + (u64)(-4));
@@ -8395,10 +8395,10 @@ L_object_identifier_ObjectIdentifier_exit:;
     { p_v_0_sroa_0_0 = v_0_sroa_0_0_i; goto L_bb7; }
 L_bb3_thread:;
     v_6_sroa_6_sroa_0_0_ph_ph_off0 = p_v_6_sroa_6_sroa_0_0_ph_ph_off0;
-    { p_v_failure_sroa_0_0_extract_trunc148 = v_6_sroa_6_sroa_0_0_ph_ph_off0; goto L_bb5_i; }
-L_bb3_thread151:;
+    { p_v_failure_sroa_0_0_extract_trunc147 = v_6_sroa_6_sroa_0_0_ph_ph_off0; goto L_bb5_i; }
+L_bb3_thread150:;
     v_6_sroa_6_sroa_0_0_ph_off0_ph = p_v_6_sroa_6_sroa_0_0_ph_off0_ph;
-    { p_v_failure_sroa_0_0_extract_trunc148 = v_6_sroa_6_sroa_0_0_ph_off0_ph; goto L_bb5_i; }
+    { p_v_failure_sroa_0_0_extract_trunc147 = v_6_sroa_6_sroa_0_0_ph_off0_ph; goto L_bb5_i; }
 L_bb3:;
     v_6_sroa_6_sroa_0_0_ph_off0 = p_v_6_sroa_6_sroa_0_0_ph_off0;
     v_306 = (u8)((u32)(v_6_sroa_6_sroa_0_0_ph_off0) + (u32)(239u));
@@ -8407,7 +8407,7 @@ L_bb3:;
     v_309 = (u64)((u64)(v_307) + (u64)(1u));
     v_2_i = v_308 ? v_309 : 0u;
     switch (v_2_i) {
-    case 0u: { p_v_failure_sroa_0_0_extract_trunc148 = v_6_sroa_6_sroa_0_0_ph_off0; goto L_bb5_i; }
+    case 0u: { p_v_failure_sroa_0_0_extract_trunc147 = v_6_sroa_6_sroa_0_0_ph_off0; goto L_bb5_i; }
     case 1u: { p_v_0_sroa_0_0 = 18u; goto L_bb7; }
     case 2u: { goto L_bb3_i; }
     case 3u: { goto L_bb2_i; }
@@ -8416,50 +8416,50 @@ L_bb3:;
 L_bb1_i:;
     TRAP();
 L_bb5_i:;
-    v_failure_sroa_0_0_extract_trunc148 = p_v_failure_sroa_0_0_extract_trunc148;
-    switch (v_failure_sroa_0_0_extract_trunc148) {
+    v_failure_sroa_0_0_extract_trunc147 = p_v_failure_sroa_0_0_extract_trunc147;
+    switch (v_failure_sroa_0_0_extract_trunc147) {
     case 0u: { p_v_0_sroa_0_0 = 1u; goto L_bb7; }
     case 1u: { goto L_bb17_i_i; }
-    case 2u: { goto L_bb16_i_i32; }
-    case 3u: { goto L_bb15_i_i31; }
-    case 4u: { goto L_bb14_i_i30; }
+    case 2u: { goto L_bb16_i_i31; }
+    case 3u: { goto L_bb15_i_i30; }
+    case 4u: { goto L_bb14_i_i29; }
     case 5u: { goto L_bb13_i_i; }
-    case 6u: { goto L_bb12_i_i29; }
-    case 7u: { goto L_bb11_i_i28; }
+    case 6u: { goto L_bb12_i_i28; }
+    case 7u: { goto L_bb11_i_i27; }
     case 8u: { goto L_bb10_i_i; }
-    case 9u: { goto L_bb9_i_i27; }
-    case 10u: { goto L_bb8_i_i26; }
-    case 11u: { goto L_bb7_i_i25; }
+    case 9u: { goto L_bb9_i_i26; }
+    case 10u: { goto L_bb8_i_i25; }
+    case 11u: { goto L_bb7_i_i24; }
     case 12u: { goto L_bb6_i_i; }
     case 13u: { goto L_bb5_i_i; }
     case 14u: { goto L_bb4_i_i; }
-    case 15u: { goto L_bb3_i_i24; }
-    case 16u: { goto L_bb2_i_i23; }
+    case 15u: { goto L_bb3_i_i23; }
+    case 16u: { goto L_bb2_i_i22; }
     default: { goto L_default_unreachable_i_i; }
     }
 L_default_unreachable_i_i:;
     TRAP();
 L_bb17_i_i:;
     { p_v_0_sroa_0_0 = 2u; goto L_bb7; }
-L_bb16_i_i32:;
+L_bb16_i_i31:;
     { p_v_0_sroa_0_0 = 3u; goto L_bb7; }
-L_bb15_i_i31:;
+L_bb15_i_i30:;
     { p_v_0_sroa_0_0 = 4u; goto L_bb7; }
-L_bb14_i_i30:;
+L_bb14_i_i29:;
     { p_v_0_sroa_0_0 = 5u; goto L_bb7; }
 L_bb13_i_i:;
     { p_v_0_sroa_0_0 = 6u; goto L_bb7; }
-L_bb12_i_i29:;
+L_bb12_i_i28:;
     { p_v_0_sroa_0_0 = 7u; goto L_bb7; }
-L_bb11_i_i28:;
+L_bb11_i_i27:;
     { p_v_0_sroa_0_0 = 8u; goto L_bb7; }
 L_bb10_i_i:;
     { p_v_0_sroa_0_0 = 9u; goto L_bb7; }
-L_bb9_i_i27:;
+L_bb9_i_i26:;
     { p_v_0_sroa_0_0 = 10u; goto L_bb7; }
-L_bb8_i_i26:;
+L_bb8_i_i25:;
     { p_v_0_sroa_0_0 = 11u; goto L_bb7; }
-L_bb7_i_i25:;
+L_bb7_i_i24:;
     { p_v_0_sroa_0_0 = 12u; goto L_bb7; }
 L_bb6_i_i:;
     { p_v_0_sroa_0_0 = 13u; goto L_bb7; }
@@ -8467,9 +8467,9 @@ L_bb5_i_i:;
     { p_v_0_sroa_0_0 = 14u; goto L_bb7; }
 L_bb4_i_i:;
     { p_v_0_sroa_0_0 = 15u; goto L_bb7; }
-L_bb3_i_i24:;
+L_bb3_i_i23:;
     { p_v_0_sroa_0_0 = 16u; goto L_bb7; }
-L_bb2_i_i23:;
+L_bb2_i_i22:;
     { p_v_0_sroa_0_0 = 17u; goto L_bb7; }
 L_bb3_i:;
     { p_v_0_sroa_0_0 = 19u; goto L_bb7; }
@@ -18959,100 +18959,100 @@ static u32 proved_private_key_encode(P v_key, P v_others, u64 v_others_len, P v_
     u64 p_v_rest_sroa_9_07_i_i_i_i_i;
     P p_v_rest_sroa_0_08_i_i_i_i_i_lcssa;
     u64 p_v_rest_sroa_9_07_i_i_i_i_i_lcssa;
-    P p_v_19_i_sroa_0_0115_i_i_i;
-    u64 p_v_19_i_sroa_7_0114_i_i_i;
-    P p_v_rest_sroa_0_08_i_i61_i_i_i;
-    u64 p_v_rest_sroa_9_07_i_i62_i_i_i;
-    P p_v_rest_sroa_0_08_i_i61_i_i_i_lcssa;
-    u64 p_v_rest_sroa_9_07_i_i62_i_i_i_lcssa;
-    u64 p_v_32_i_sroa_7_0125_i_i_i;
-    P p_v_32_i_sroa_0_0124_i_i_i;
-    P p_v_rest_sroa_0_08_i_i83_i_i_i;
-    u64 p_v_rest_sroa_9_07_i_i84_i_i_i;
-    P p_v_rest_sroa_0_08_i_i83_i_i_i_lcssa;
-    u64 p_v_rest_sroa_9_07_i_i84_i_i_i_lcssa;
-    u64 p_v_46_i_sroa_7_0135_i_i_i;
-    P p_v_46_i_sroa_0_0134_i_i_i;
-    u64 p_v_encoding_sroa_0_0_i_i_i33_i_i_i;
-    u64 p_v_encoding_sroa_0_0_i_i_i_i_i973_i;
-    u64 p_v_encoding_sroa_0_0_i_i_i_i985_i;
-    u64 p_v_encoding_sroa_0_0_i_i_i992_i;
+    P p_v_19_i_sroa_0_0109_i_i_i;
+    u64 p_v_19_i_sroa_7_0108_i_i_i;
+    P p_v_rest_sroa_0_08_i_i55_i_i_i;
+    u64 p_v_rest_sroa_9_07_i_i56_i_i_i;
+    P p_v_rest_sroa_0_08_i_i55_i_i_i_lcssa;
+    u64 p_v_rest_sroa_9_07_i_i56_i_i_i_lcssa;
+    u64 p_v_32_i_sroa_7_0119_i_i_i;
+    P p_v_32_i_sroa_0_0118_i_i_i;
+    P p_v_rest_sroa_0_08_i_i77_i_i_i;
+    u64 p_v_rest_sroa_9_07_i_i78_i_i_i;
+    P p_v_rest_sroa_0_08_i_i77_i_i_i_lcssa;
+    u64 p_v_rest_sroa_9_07_i_i78_i_i_i_lcssa;
+    u64 p_v_46_i_sroa_7_0129_i_i_i;
+    P p_v_46_i_sroa_0_0128_i_i_i;
+    u64 p_v_encoding_sroa_0_0_i_i_i29_i_i_i;
+    u64 p_v_encoding_sroa_0_0_i_i_i_i_i984_i;
+    u64 p_v_encoding_sroa_0_0_i_i_i_i996_i;
+    u64 p_v_encoding_sroa_0_0_i_i_i1003_i;
     u64 p_v_counter_i_sroa_0_1_i;
     u64 p_v_0_i_i7_i_i;
     u64 p_v_counter_i_sroa_0_1_i_lcssa;
     u8 p_v_15_i_i568_shrunk;
     P p_v_11_sroa_54_0527;
     u64 p_v_counter_i_sroa_0_3_i;
-    u64 p_v_encoding_sroa_0_0_i_i_i_i_i879_i;
-    u64 p_v_encoding_sroa_0_0_i_i_i_i898_i;
-    u64 p_v_encoding_sroa_0_0_i_i_i918_i;
+    u64 p_v_encoding_sroa_0_0_i_i_i_i_i891_i;
+    u64 p_v_encoding_sroa_0_0_i_i_i_i909_i;
+    u64 p_v_encoding_sroa_0_0_i_i_i928_i;
     u64 p_v_sink_i;
-    u64 p_v_sink2613_i;
-    u64 p_v_sink2614_i;
-    u64 p_v_sink2615_i;
-    u64 p_v_sink2616_i;
-    u64 p_v_sink2617_i;
-    u64 p_v_encoding_sroa_0_0_i14_i2020_i;
+    u64 p_v_sink2630_i;
+    u64 p_v_sink2631_i;
+    u64 p_v_sink2632_i;
+    u64 p_v_sink2633_i;
+    u64 p_v_sink2634_i;
+    u64 p_v_encoding_sroa_0_0_i12_i2037_i;
     u64 p_v_writer_sroa_174_0_i;
-    u64 p_v_0_sroa_0_0_i_i_i_i263_i36_i_i;
+    u64 p_v_0_sroa_0_0_i_i_i_i19_i250_i36_i_i;
     u64 p_v_left_sroa_0_034_i_i;
-    P p_v_rest_sroa_0_08_i_i_i_i1210_i;
-    u64 p_v_rest_sroa_9_07_i_i_i_i1211_i;
-    P p_v_rest_sroa_0_08_i_i_i_i1210_i_lcssa;
-    u64 p_v_rest_sroa_9_07_i_i_i_i1211_i_lcssa;
-    P p_v_19_i_sroa_0_0458_i_i_i;
-    u64 p_v_19_i_sroa_7_0457_i_i_i;
-    P p_v_rest_sroa_0_08_i_i287_i_i_i;
-    u64 p_v_rest_sroa_9_07_i_i288_i_i_i;
-    P p_v_rest_sroa_0_08_i_i287_i_i_i_lcssa;
-    u64 p_v_rest_sroa_9_07_i_i288_i_i_i_lcssa;
-    u64 p_v_32_i_sroa_7_0468_i_i_i;
-    P p_v_32_i_sroa_0_0467_i_i_i;
-    P p_v_rest_sroa_0_08_i_i309_i_i_i;
-    u64 p_v_rest_sroa_9_07_i_i310_i_i_i;
-    P p_v_rest_sroa_0_08_i_i309_i_i_i_lcssa;
-    u64 p_v_rest_sroa_9_07_i_i310_i_i_i_lcssa;
-    u64 p_v_46_i_sroa_7_0478_i_i_i;
-    P p_v_46_i_sroa_0_0477_i_i_i;
-    u64 p_v_0_sroa_0_0_i_i19_i_i116_i_i_i;
-    u64 p_v_8_i_i_i124_i_i_i;
-    u64 p_v_0_sroa_0_0_i_i_i_i_i244_sink_i_i_i;
+    P p_v_rest_sroa_0_08_i_i_i_i1227_i;
+    u64 p_v_rest_sroa_9_07_i_i_i_i1228_i;
+    P p_v_rest_sroa_0_08_i_i_i_i1227_i_lcssa;
+    u64 p_v_rest_sroa_9_07_i_i_i_i1228_i_lcssa;
+    P p_v_19_i_sroa_0_0444_i_i_i;
+    u64 p_v_19_i_sroa_7_0443_i_i_i;
+    P p_v_rest_sroa_0_08_i_i273_i_i_i;
+    u64 p_v_rest_sroa_9_07_i_i274_i_i_i;
+    P p_v_rest_sroa_0_08_i_i273_i_i_i_lcssa;
+    u64 p_v_rest_sroa_9_07_i_i274_i_i_i_lcssa;
+    u64 p_v_32_i_sroa_7_0454_i_i_i;
+    P p_v_32_i_sroa_0_0453_i_i_i;
+    P p_v_rest_sroa_0_08_i_i295_i_i_i;
+    u64 p_v_rest_sroa_9_07_i_i296_i_i_i;
+    P p_v_rest_sroa_0_08_i_i295_i_i_i_lcssa;
+    u64 p_v_rest_sroa_9_07_i_i296_i_i_i_lcssa;
+    u64 p_v_46_i_sroa_7_0464_i_i_i;
+    P p_v_46_i_sroa_0_0463_i_i_i;
+    u64 p_v_0_sroa_0_0_i_i19_i_i_i104_i_i_i;
+    u64 p_v_8_i_i_i111_i_i_i;
+    u64 p_v_0_sroa_0_0_i_i_i_i_i231_sink_i_i_i;
     u64 p_v_storemerge_i_i_i;
-    u64 p_v_8_i_i_i43_i_i_i;
+    u64 p_v_8_i_i_i40_i_i_i;
     u64 p_v_0_sroa_0_0_i_i_i_i_i_sink_i_i_i;
-    u64 p_v_storemerge502_i_i_i;
+    u64 p_v_storemerge488_i_i_i;
     u64 p_v_8_i_i3_i_i_i;
-    u64 p_v_8_i_i_i1085_i;
+    u64 p_v_8_i_i_i1099_i;
     u64 p_v_writer_sroa_174_1_i;
-    u64 p_v_0_sroa_0_0_i_i_i_i263_i35_i_i;
+    u64 p_v_0_sroa_0_0_i_i_i_i19_i250_i35_i_i;
     u64 p_v_writer_sroa_174_1_i_lcssa;
     u64 p_v_writer_sroa_174_4_i;
-    u64 p_v_0_sroa_0_0_i_i19_i_i_i_i298_i;
+    u64 p_v_0_sroa_0_0_i_i19_i_i_i_i_i292_i;
     u64 p_v_writer_sroa_174_5_i;
     u64 p_v_writer_sroa_174_6_i;
-    u64 p_v_0_sroa_0_0_i_i19_i_i_i352_i;
+    u64 p_v_0_sroa_0_0_i_i19_i_i_i_i345_i;
     u64 p_v_writer_sroa_174_7_i;
     u64 p_v_writer_sroa_174_8_i;
-    u64 p_v_0_sroa_0_0_i_i19_i_i408_i;
+    u64 p_v_0_sroa_0_0_i_i19_i_i_i400_i;
     u64 p_v_writer_sroa_174_9_i;
     u64 p_v_writer_sroa_174_10_i;
-    u64 p_v_0_sroa_0_0_i_i19_i_i_i_i_i_i_i;
+    u64 p_v_0_sroa_0_0_i_i19_i_i_i_i_i_i_i_i;
     u64 p_v_writer_sroa_174_11_i;
     u64 p_v_writer_sroa_174_12_i;
-    u64 p_v_0_sroa_0_0_i_i19_i_i_i_i_i_i;
+    u64 p_v_0_sroa_0_0_i_i19_i_i_i_i_i_i_i;
     u64 p_v_writer_sroa_174_13_i;
     u64 p_v_writer_sroa_174_14_i;
-    u64 p_v_0_sroa_0_0_i_i19_i_i_i_i_i;
+    u64 p_v_0_sroa_0_0_i_i19_i_i_i_i_i_i;
     u64 p_v_writer_sroa_174_15_i;
     u64 p_v_writer_sroa_174_16_i;
-    u64 p_v_0_sroa_0_0_i_i19_i_i_i_i;
+    u64 p_v_0_sroa_0_0_i_i19_i_i_i_i_i;
     u64 p_v_writer_sroa_174_17_i;
     u64 p_v_writer_sroa_174_18_i;
-    u64 p_v_0_sroa_0_0_i_i19_i_i_i;
+    u64 p_v_0_sroa_0_0_i_i19_i_i_i_i;
     u64 p_v_writer_sroa_174_19_i;
     u64 p_v_writer_sroa_174_20_i;
-    u64 p_v_writer_sroa_174_202600_i;
-    u64 p_v_0_sroa_0_0_i_i24_i_i;
+    u64 p_v_writer_sroa_174_202617_i;
+    u64 p_v_0_sroa_0_0_i_i19_i_i;
     u64 p_v_writer_sroa_174_22_i;
     u32 p_v_0_sroa_0_1;
     P v_0;
@@ -19287,142 +19287,142 @@ static u32 proved_private_key_encode(P v_key, P v_others, u64 v_others_len, P v_
     u64 v_left_sroa_0_011_i_i;
     u64 v_0_i_i810_i_i;
     u64 v_68;
-    P v_7_i959_i;
+    P v_7_i970_i;
     P v_15_0_i_i_i_i;
     P v_69;
     u64 v_15_1_i_i_i_i;
-    u1 v_36_i_i_i_i960_i;
+    u1 v_36_i_i_i_i971_i;
     P v_70;
     P v_scevgep_i_i_i_i_i;
     P v_rest_sroa_0_08_i_i_i_i_i;
     u64 v_rest_sroa_9_07_i_i_i_i_i;
-    u8 v_6_i_i45_i_i_i;
+    u8 v_6_i_i40_i_i_i;
     u1 v_71;
-    u64 v_16_i_i_i_i1002_i;
-    P v_17_i_i_i_i1003_i;
-    u1 v_3_i_i_i_i1004_i;
+    u64 v_16_i_i_i_i1014_i;
+    P v_17_i_i_i_i1015_i;
+    u1 v_3_i_i_i_i1016_i;
     u1 v_72;
     P v_rest_sroa_0_08_i_i_i_i_i_lcssa;
     u64 v_rest_sroa_9_07_i_i_i_i_i_lcssa;
-    u1 v_5_i47_i_i_i;
+    u1 v_5_i_i_i1013_i;
     u1 v_73;
-    P v_19_i_sroa_0_0115_i_i_i;
-    u64 v_19_i_sroa_7_0114_i_i_i;
+    P v_19_i_sroa_0_0109_i_i_i;
+    u64 v_19_i_sroa_7_0108_i_i_i;
     P v_74;
     P v_16_0_i_i_i_i;
     P v_75;
     u64 v_16_1_i_i_i_i;
-    u1 v_36_i_i50_i_i_i;
+    u1 v_36_i_i44_i_i_i;
     P v_76;
-    P v_scevgep_i_i59_i_i_i;
-    P v_rest_sroa_0_08_i_i61_i_i_i;
-    u64 v_rest_sroa_9_07_i_i62_i_i_i;
-    u8 v_6_i_i63_i_i_i;
+    P v_scevgep_i_i53_i_i_i;
+    P v_rest_sroa_0_08_i_i55_i_i_i;
+    u64 v_rest_sroa_9_07_i_i56_i_i_i;
+    u8 v_6_i_i57_i_i_i;
     u1 v_77;
-    u64 v_16_i_i68_i_i_i;
-    P v_17_i_i69_i_i_i;
-    u1 v_3_i_i70_i_i_i;
+    u64 v_16_i_i62_i_i_i;
+    P v_17_i_i63_i_i_i;
+    u1 v_3_i_i64_i_i_i;
     u1 v_78;
-    P v_rest_sroa_0_08_i_i61_i_i_i_lcssa;
-    u64 v_rest_sroa_9_07_i_i62_i_i_i_lcssa;
-    u1 v_5_i65_i_i_i;
+    P v_rest_sroa_0_08_i_i55_i_i_i_lcssa;
+    u64 v_rest_sroa_9_07_i_i56_i_i_i_lcssa;
+    u1 v_5_i59_i_i_i;
     u1 v_79;
-    u64 v_32_i_sroa_7_0125_i_i_i;
-    P v_32_i_sroa_0_0124_i_i_i;
+    u64 v_32_i_sroa_7_0119_i_i_i;
+    P v_32_i_sroa_0_0118_i_i_i;
     P v_80;
     P v_17_0_i_i_i_i;
     P v_81;
     u64 v_17_1_i_i_i_i;
-    u1 v_36_i_i72_i_i_i;
+    u1 v_36_i_i66_i_i_i;
     P v_82;
-    P v_scevgep_i_i81_i_i_i;
-    P v_rest_sroa_0_08_i_i83_i_i_i;
-    u64 v_rest_sroa_9_07_i_i84_i_i_i;
-    u8 v_6_i_i85_i_i_i;
+    P v_scevgep_i_i75_i_i_i;
+    P v_rest_sroa_0_08_i_i77_i_i_i;
+    u64 v_rest_sroa_9_07_i_i78_i_i_i;
+    u8 v_6_i_i79_i_i_i;
     u1 v_83;
-    u64 v_16_i_i90_i_i_i;
-    P v_17_i_i91_i_i_i;
-    u1 v_3_i_i92_i_i_i;
+    u64 v_16_i_i84_i_i_i;
+    P v_17_i_i85_i_i_i;
+    u1 v_3_i_i86_i_i_i;
     u1 v_84;
-    P v_rest_sroa_0_08_i_i83_i_i_i_lcssa;
-    u64 v_rest_sroa_9_07_i_i84_i_i_i_lcssa;
-    u1 v_5_i87_i_i_i;
+    P v_rest_sroa_0_08_i_i77_i_i_i_lcssa;
+    u64 v_rest_sroa_9_07_i_i78_i_i_i_lcssa;
+    u1 v_5_i81_i_i_i;
     u1 v_85;
-    u64 v_46_i_sroa_7_0135_i_i_i;
-    P v_46_i_sroa_0_0134_i_i_i;
+    u64 v_46_i_sroa_7_0129_i_i_i;
+    P v_46_i_sroa_0_0128_i_i_i;
     u64 v_86;
-    u8 v_5_i_i21_i_i_i;
-    u1 v_4_i1_i22_i_i_i;
+    u8 v_5_i_i_i17_i_i_i;
+    u1 v_4_i_i_i18_i_i_i;
     u64 v_87;
-    u64 v_6_i_i_i24_i_i_i;
+    u64 v_6_i_i_i20_i_i_i;
     u64 v_88;
-    u1 v_9_i_i_i25_i_i_i;
-    u1 v_10_i_i_i27_i_i_i;
+    u1 v_9_i_i_i21_i_i_i;
+    u1 v_10_i_i_i23_i_i_i;
     u64 v_89;
-    u1 v_11_i_i_i29_i_i_i;
+    u1 v_11_i_i_i25_i_i_i;
     u64 v_90;
-    u1 v_12_i_i_i31_i_i_i;
+    u1 v_12_i_i_i27_i_i_i;
     u64 v_91;
     u64 v_92;
     u64 v_93;
-    u64 v_encoding_sroa_0_0_i_i_i33_i_i_i;
+    u64 v_encoding_sroa_0_0_i_i_i29_i_i_i;
     u64 v_94;
     u64 v_95;
-    u8 v_5_i_i_i_i963_i;
-    u1 v_4_i1_i10_i_i_i;
+    u8 v_5_i_i_i_i_i974_i;
+    u1 v_4_i_i_i8_i_i_i;
     u64 v_96;
-    u64 v_6_i_i_i_i_i964_i;
+    u64 v_6_i_i_i_i_i975_i;
     u64 v_97;
-    u1 v_9_i_i_i_i_i965_i;
-    u1 v_10_i_i_i_i_i967_i;
+    u1 v_9_i_i_i_i_i976_i;
+    u1 v_10_i_i_i_i_i978_i;
     u64 v_98;
-    u1 v_11_i_i_i_i_i969_i;
+    u1 v_11_i_i_i_i_i980_i;
     u64 v_99;
-    u1 v_12_i_i_i_i_i971_i;
+    u1 v_12_i_i_i_i_i982_i;
     u64 v_100;
     u64 v_101;
     u64 v_102;
-    u64 v_encoding_sroa_0_0_i_i_i_i_i973_i;
+    u64 v_encoding_sroa_0_0_i_i_i_i_i984_i;
     u64 v_103;
     u64 v_104;
-    u8 v_5_i_i_i974_i;
-    u1 v_4_i_i_i975_i;
+    u8 v_5_i_i_i_i985_i;
+    u1 v_4_i_i_i_i986_i;
     u64 v_105;
-    u64 v_6_i_i_i_i976_i;
+    u64 v_6_i_i_i_i987_i;
     u64 v_106;
-    u1 v_9_i_i_i_i977_i;
-    u1 v_10_i_i_i_i979_i;
+    u1 v_9_i_i_i_i988_i;
+    u1 v_10_i_i_i_i990_i;
     u64 v_107;
-    u1 v_11_i_i_i_i981_i;
+    u1 v_11_i_i_i_i992_i;
     u64 v_108;
-    u1 v_12_i_i_i_i983_i;
+    u1 v_12_i_i_i_i994_i;
     u64 v_109;
     u64 v_110;
     u64 v_111;
-    u64 v_encoding_sroa_0_0_i_i_i_i985_i;
+    u64 v_encoding_sroa_0_0_i_i_i_i996_i;
     u64 v_112;
     u64 v_113;
-    u1 v_9_i_i_i986_i;
-    u1 v_10_i_i_i988_i;
+    u1 v_9_i_i_i997_i;
+    u1 v_10_i_i_i999_i;
     u64 v_114;
-    u1 v_11_i_i_i989_i;
+    u1 v_11_i_i_i1000_i;
     u64 v_115;
-    u1 v_12_i_i_i991_i;
+    u1 v_12_i_i_i1002_i;
     u64 v_116;
     u64 v_117;
     u64 v_118;
-    u64 v_encoding_sroa_0_0_i_i_i992_i;
+    u64 v_encoding_sroa_0_0_i_i_i1003_i;
     u64 v_119;
     u64 v_counter_i_sroa_0_1_i;
     u64 v_0_i_i7_i_i;
     u1 v_4_not_i_i;
     u64 v_counter_i_sroa_0_1_i_lcssa;
-    u1 v_9_i_i_i_i_i_i850_i;
-    u1 v_10_i_i_i_i_i_i852_i;
+    u1 v_9_i_i_i_i_i_i865_i;
+    u1 v_10_i_i_i_i_i_i867_i;
     u64 v_120;
-    u1 v_11_i_i_i_i_i_i854_i;
+    u1 v_11_i_i_i_i_i_i869_i;
     u64 v_121;
-    u1 v_12_i_i_i_i_i_i856_i;
+    u1 v_12_i_i_i_i_i_i871_i;
     u64 v_122;
     u64 v_123;
     u64 v_124;
@@ -19430,124 +19430,124 @@ static u32 proved_private_key_encode(P v_key, P v_others, u64 v_others_len, P v_
     P v_11_sroa_54_0527;
     u64 v_counter_i_sroa_0_3_i;
     u64 v_125;
-    u8 v_5_i_i_i_i867_i;
-    u1 v_4_i1_i4_i_i868_i;
+    u8 v_5_i_i_i_i_i880_i;
+    u1 v_4_i_i_i5_i_i_i;
     u64 v_126;
     u64 v_counter_i_sroa_0_4_i;
     u64 v_127;
-    u1 v_9_i_i_i_i_i871_i;
-    u1 v_10_i_i_i_i_i873_i;
+    u1 v_9_i_i_i_i_i883_i;
+    u1 v_10_i_i_i_i_i885_i;
     u64 v_128;
-    u1 v_11_i_i_i_i_i875_i;
+    u1 v_11_i_i_i_i_i887_i;
     u64 v_129;
-    u1 v_12_i_i_i_i_i877_i;
+    u1 v_12_i_i_i_i_i889_i;
     u64 v_130;
     u64 v_131;
     u64 v_132;
-    u64 v_encoding_sroa_0_0_i_i_i_i_i879_i;
+    u64 v_encoding_sroa_0_0_i_i_i_i_i891_i;
     u64 v_133;
     u64 v_134;
-    u8 v_5_i_i_i887_i;
-    u1 v_4_i1_i3_i_i;
+    u8 v_5_i_i_i_i898_i;
+    u1 v_4_i_i_i3_i_i;
     u64 v_135;
     u64 v_counter_i_sroa_0_5_i;
     u64 v_136;
-    u1 v_9_i_i_i_i890_i;
-    u1 v_10_i_i_i_i892_i;
+    u1 v_9_i_i_i_i901_i;
+    u1 v_10_i_i_i_i903_i;
     u64 v_137;
-    u1 v_11_i_i_i_i894_i;
+    u1 v_11_i_i_i_i905_i;
     u64 v_138;
-    u1 v_12_i_i_i_i896_i;
+    u1 v_12_i_i_i_i907_i;
     u64 v_139;
     u64 v_140;
     u64 v_141;
-    u64 v_encoding_sroa_0_0_i_i_i_i898_i;
+    u64 v_encoding_sroa_0_0_i_i_i_i909_i;
     u64 v_142;
     u64 v_143;
-    u8 v_5_i_i906_i;
-    u1 v_4_i_i907_i;
+    u8 v_5_i_i_i916_i;
+    u1 v_4_i_i_i917_i;
     u64 v_144;
     u64 v_counter_i_sroa_0_6_i;
     u64 v_145;
-    u1 v_9_i_i_i910_i;
-    u1 v_10_i_i_i912_i;
+    u1 v_9_i_i_i920_i;
+    u1 v_10_i_i_i922_i;
     u64 v_146;
-    u1 v_11_i_i_i914_i;
+    u1 v_11_i_i_i924_i;
     u64 v_147;
-    u1 v_12_i_i_i916_i;
+    u1 v_12_i_i_i926_i;
     u64 v_148;
     u64 v_149;
     u64 v_150;
-    u64 v_encoding_sroa_0_0_i_i_i918_i;
+    u64 v_encoding_sroa_0_0_i_i_i928_i;
     u64 v_151;
     u64 v_152;
-    u8 v_5_i_i_i_i_i_i42_i;
-    u1 v_4_i1_i4_i_i_i_i_i;
+    u8 v_5_i_i_i_i_i_i_i38_i;
+    u1 v_4_i_i_i4_i_i_i_i_i;
     u64 v_153;
     u64 v_counter_i_sroa_0_7_i;
     u64 v_154;
-    u1 v_9_i_i_i_i_i_i_i43_i;
+    u1 v_9_i_i_i_i_i_i_i39_i;
     u1 v_10_i_i_i_i_i_i_i_i;
     u1 v_11_i_i_i_i_i_i_i_i;
-    u1 v_12_i_i_i_i_i_i_i47_i;
+    u1 v_12_i_i_i_i_i_i_i43_i;
     u64 v_i;
     u64 v_sink_i;
     u64 v_155;
     u64 v_156;
     u64 v_157;
-    u8 v_5_i_i_i_i_i54_i;
-    u1 v_4_i1_i4_i_i_i_i;
+    u8 v_5_i_i_i_i_i_i49_i;
+    u1 v_4_i_i_i4_i_i_i_i;
     u64 v_158;
     u64 v_counter_i_sroa_0_8_i;
     u64 v_159;
-    u1 v_9_i_i_i_i_i_i55_i;
+    u1 v_9_i_i_i_i_i_i50_i;
     u1 v_10_i_i_i_i_i_i_i;
     u1 v_11_i_i_i_i_i_i_i;
-    u1 v_12_i_i_i_i_i_i59_i;
-    u64 v_2635_i;
-    u64 v_sink2613_i;
+    u1 v_12_i_i_i_i_i_i54_i;
+    u64 v_2652_i;
+    u64 v_sink2630_i;
     u64 v_160;
     u64 v_161;
     u64 v_162;
-    u8 v_5_i_i_i_i66_i;
-    u1 v_4_i1_i4_i_i_i;
+    u8 v_5_i_i_i_i_i60_i;
+    u1 v_4_i_i_i4_i_i_i;
     u64 v_163;
     u64 v_counter_i_sroa_0_9_i;
     u64 v_164;
-    u1 v_9_i_i_i_i_i67_i;
+    u1 v_9_i_i_i_i_i61_i;
     u1 v_10_i_i_i_i_i_i;
     u1 v_11_i_i_i_i_i_i;
-    u1 v_12_i_i_i_i_i71_i;
-    u64 v_2636_i;
-    u64 v_sink2614_i;
+    u1 v_12_i_i_i_i_i65_i;
+    u64 v_2653_i;
+    u64 v_sink2631_i;
     u64 v_165;
     u64 v_166;
     u64 v_167;
-    u8 v_5_i_i_i78_i;
-    u1 v_4_i1_i4_i_i;
+    u8 v_5_i_i_i_i71_i;
+    u1 v_4_i_i_i4_i_i;
     u64 v_168;
     u64 v_counter_i_sroa_0_10_i;
     u64 v_169;
-    u1 v_9_i_i_i_i79_i;
+    u1 v_9_i_i_i_i72_i;
     u1 v_10_i_i_i_i_i;
     u1 v_11_i_i_i_i_i;
-    u1 v_12_i_i_i_i83_i;
-    u64 v_2637_i;
-    u64 v_sink2615_i;
+    u1 v_12_i_i_i_i76_i;
+    u64 v_2654_i;
+    u64 v_sink2632_i;
     u64 v_170;
     u64 v_171;
     u64 v_172;
-    u8 v_5_i_i91_i;
-    u1 v_4_i1_i_i;
+    u8 v_5_i_i_i83_i;
+    u1 v_4_i_i_i84_i;
     u64 v_173;
     u64 v_counter_i_sroa_0_11_i;
     u64 v_174;
-    u1 v_9_i_i_i92_i;
+    u1 v_9_i_i_i85_i;
     u1 v_10_i_i_i_i;
     u1 v_11_i_i_i_i;
-    u1 v_12_i_i_i96_i;
-    u64 v_2638_i;
-    u64 v_sink2616_i;
+    u1 v_12_i_i_i89_i;
+    u64 v_2655_i;
+    u64 v_sink2633_i;
     u64 v_175;
     u64 v_176;
     u64 v_177;
@@ -19556,628 +19556,628 @@ static u32 proved_private_key_encode(P v_key, P v_others, u64 v_others_len, P v_
     u1 v_10_i_i_i;
     u1 v_11_i_i_i;
     u1 v_12_i_i_i;
-    u64 v_2639_i;
-    u64 v_sink2617_i;
+    u64 v_2656_i;
+    u64 v_sink2634_i;
     u64 v_179;
     u64 v_180;
-    u1 v_9_i6_i_i;
-    u1 v_10_i8_i_i;
+    u1 v_9_i4_i_i;
+    u1 v_10_i6_i_i;
     u64 v_181;
-    u1 v_11_i10_i_i;
+    u1 v_11_i8_i_i;
     u64 v_182;
-    u1 v_12_i12_i_i;
+    u1 v_12_i10_i_i;
     u64 v_183;
     u64 v_184;
     u64 v_185;
     u1 v_13_i_i;
-    u64 v_encoding_sroa_0_0_i14_i2020_i;
+    u64 v_encoding_sroa_0_0_i12_i2037_i;
     u1 v_9_i233;
     u64 v_writer_sroa_174_0_i;
-    u64 v_0_sroa_0_0_i_i_i_i263_i36_i_i;
+    u64 v_0_sroa_0_0_i_i_i_i19_i250_i36_i_i;
     u64 v_left_sroa_0_034_i_i;
     u64 v_186;
-    P v_7_i1028_i;
-    P v_15_0_i_i_i1029_i;
+    P v_7_i1041_i;
+    P v_15_0_i_i_i1042_i;
     P v_187;
-    u64 v_15_1_i_i_i1030_i;
-    u1 v_36_i_i269_i_i_i;
+    u64 v_15_1_i_i_i1043_i;
+    u1 v_36_i_i256_i_i_i;
     P v_188;
-    P v_scevgep_i_i_i_i1209_i;
-    P v_rest_sroa_0_08_i_i_i_i1210_i;
-    u64 v_rest_sroa_9_07_i_i_i_i1211_i;
-    u8 v_6_i_i_i_i1212_i;
+    P v_scevgep_i_i_i_i1226_i;
+    P v_rest_sroa_0_08_i_i_i_i1227_i;
+    u64 v_rest_sroa_9_07_i_i_i_i1228_i;
+    u8 v_6_i_i_i_i1229_i;
     u1 v_189;
-    u64 v_16_i_i_i_i1214_i;
-    P v_17_i_i275_i_i_i;
-    u1 v_3_i_i_i_i1215_i;
+    u64 v_16_i_i_i_i1231_i;
+    P v_17_i_i261_i_i_i;
+    u1 v_3_i_i_i_i1232_i;
     u1 v_190;
-    P v_rest_sroa_0_08_i_i_i_i1210_i_lcssa;
-    u64 v_rest_sroa_9_07_i_i_i_i1211_i_lcssa;
-    u1 v_5_i274_i_i_i;
+    P v_rest_sroa_0_08_i_i_i_i1227_i_lcssa;
+    u64 v_rest_sroa_9_07_i_i_i_i1228_i_lcssa;
+    u1 v_5_i260_i_i_i;
     u1 v_191;
-    P v_19_i_sroa_0_0458_i_i_i;
-    u64 v_19_i_sroa_7_0457_i_i_i;
+    P v_19_i_sroa_0_0444_i_i_i;
+    u64 v_19_i_sroa_7_0443_i_i_i;
     P v_192;
-    P v_16_0_i_i_i1033_i;
+    P v_16_0_i_i_i1046_i;
     P v_193;
-    u64 v_16_1_i_i_i1034_i;
-    u1 v_36_i_i276_i_i_i;
+    u64 v_16_1_i_i_i1047_i;
+    u1 v_36_i_i262_i_i_i;
     P v_194;
-    P v_scevgep_i_i285_i_i_i;
-    P v_rest_sroa_0_08_i_i287_i_i_i;
-    u64 v_rest_sroa_9_07_i_i288_i_i_i;
-    u8 v_6_i_i289_i_i_i;
+    P v_scevgep_i_i271_i_i_i;
+    P v_rest_sroa_0_08_i_i273_i_i_i;
+    u64 v_rest_sroa_9_07_i_i274_i_i_i;
+    u8 v_6_i_i275_i_i_i;
     u1 v_195;
-    u64 v_16_i_i294_i_i_i;
-    P v_17_i_i295_i_i_i;
-    u1 v_3_i_i296_i_i_i;
+    u64 v_16_i_i280_i_i_i;
+    P v_17_i_i281_i_i_i;
+    u1 v_3_i_i282_i_i_i;
     u1 v_196;
-    P v_rest_sroa_0_08_i_i287_i_i_i_lcssa;
-    u64 v_rest_sroa_9_07_i_i288_i_i_i_lcssa;
-    u1 v_5_i291_i_i_i;
+    P v_rest_sroa_0_08_i_i273_i_i_i_lcssa;
+    u64 v_rest_sroa_9_07_i_i274_i_i_i_lcssa;
+    u1 v_5_i277_i_i_i;
     u1 v_197;
-    u64 v_32_i_sroa_7_0468_i_i_i;
-    P v_32_i_sroa_0_0467_i_i_i;
+    u64 v_32_i_sroa_7_0454_i_i_i;
+    P v_32_i_sroa_0_0453_i_i_i;
     P v_198;
-    P v_17_0_i_i_i1036_i;
+    P v_17_0_i_i_i1049_i;
     P v_199;
-    u64 v_17_1_i_i_i1037_i;
-    u1 v_36_i_i298_i_i_i;
+    u64 v_17_1_i_i_i1050_i;
+    u1 v_36_i_i284_i_i_i;
     P v_200;
-    P v_scevgep_i_i307_i_i_i;
-    P v_rest_sroa_0_08_i_i309_i_i_i;
-    u64 v_rest_sroa_9_07_i_i310_i_i_i;
-    u8 v_6_i_i311_i_i_i;
+    P v_scevgep_i_i293_i_i_i;
+    P v_rest_sroa_0_08_i_i295_i_i_i;
+    u64 v_rest_sroa_9_07_i_i296_i_i_i;
+    u8 v_6_i_i297_i_i_i;
     u1 v_201;
-    u64 v_16_i_i316_i_i_i;
-    P v_17_i_i317_i_i_i;
-    u1 v_3_i_i318_i_i_i;
+    u64 v_16_i_i302_i_i_i;
+    P v_17_i_i303_i_i_i;
+    u1 v_3_i_i304_i_i_i;
     u1 v_202;
-    P v_rest_sroa_0_08_i_i309_i_i_i_lcssa;
-    u64 v_rest_sroa_9_07_i_i310_i_i_i_lcssa;
-    u1 v_5_i313_i_i_i;
+    P v_rest_sroa_0_08_i_i295_i_i_i_lcssa;
+    u64 v_rest_sroa_9_07_i_i296_i_i_i_lcssa;
+    u1 v_5_i299_i_i_i;
     u1 v_203;
-    u64 v_46_i_sroa_7_0478_i_i_i;
-    P v_46_i_sroa_0_0477_i_i_i;
-    u1 v_4_i_i8_i_i104_i_i_i;
-    u1 v_10_not_i_i11_i_i107_i_i_i;
-    u64 v_start1_i_i10_i_i106_i_i_i;
+    u64 v_46_i_sroa_7_0464_i_i_i;
+    P v_46_i_sroa_0_0463_i_i_i;
+    u1 v_4_i_i8_i_i_i92_i_i_i;
+    u1 v_10_not_i_i11_i_i_i95_i_i_i;
+    u64 v_start1_i_i10_i_i_i94_i_i_i;
     P v_204;
-    u64 v_0_sroa_0_0_i_i19_i_i116_i_i_i;
-    u8 v_5_i_i120_i_i_i;
-    u1 v_4_i3_i121_i_i_i;
-    u1 v_4_i_i_i6_i251_i_i_i;
-    u1 v_10_not_i_i_i_i254_i_i_i;
-    u64 v_start1_i_i_i_i253_i_i_i;
+    u64 v_0_sroa_0_0_i_i19_i_i_i104_i_i_i;
+    u8 v_5_i_i5_i107_i_i_i;
+    u1 v_4_i_i6_i108_i_i_i;
+    u1 v_4_i_i_i_i8_i238_i_i_i;
+    u1 v_10_not_i_i_i_i11_i241_i_i_i;
+    u64 v_start1_i_i_i_i10_i240_i_i_i;
     P v_205;
-    u64 v_8_i_i_i124_i_i_i;
-    u64 v_5_i_i_i125_i_i_i;
-    u32 v_13_i_i_i126_i_i_i;
-    u1 v_4_i_i_i_i128_i_i_i;
-    u1 v_9_i_i_i_i130_i_i_i;
-    u16 v_8_i_i_i_i228_i_i_i;
-    u1 v_4_i_i_i_i_i232_i_i_i;
-    u1 v_10_not_i_i_i_i_i235_i_i_i;
-    u64 v_start1_i_i_i_i_i234_i_i_i;
+    u64 v_8_i_i_i111_i_i_i;
+    u64 v_5_i_i_i112_i_i_i;
+    u32 v_13_i_i_i113_i_i_i;
+    u1 v_4_i_i_i_i115_i_i_i;
+    u1 v_9_i_i_i_i117_i_i_i;
+    u16 v_8_i_i_i_i215_i_i_i;
+    u1 v_4_i_i_i_i_i219_i_i_i;
+    u1 v_10_not_i_i_i_i_i222_i_i_i;
+    u64 v_start1_i_i_i_i_i221_i_i_i;
     P v_206;
-    u16 v_7_i_i_i_i93_sroa_0_sroa_4_0_insert_shift_i_i_i;
-    u16 v_7_i_i_i_i93_sroa_0_sroa_0_0_insert_insert_i_i_i;
-    u1 v_14_i_i_i_i132_i_i_i;
-    u8 v_13_i_i_i_i208_i_i_i;
-    u1 v_4_i11_i_i_i_i212_i_i_i;
-    u1 v_10_not_i14_i_i_i_i215_i_i_i;
-    u64 v_start1_i13_i_i_i_i214_i_i_i;
+    u16 v_7_i_i_i_i81_sroa_0_sroa_4_0_insert_shift_i_i_i;
+    u16 v_7_i_i_i_i81_sroa_0_sroa_0_0_insert_insert_i_i_i;
+    u1 v_14_i_i_i_i119_i_i_i;
+    u8 v_13_i_i_i_i195_i_i_i;
+    u1 v_4_i11_i_i_i_i199_i_i_i;
+    u1 v_10_not_i14_i_i_i_i202_i_i_i;
+    u64 v_start1_i13_i_i_i_i201_i_i_i;
     P v_207;
-    P v_12_i_i_i_i92_sroa_4_0_sroa_idx_i_i_i;
-    P v_12_i_i_i_i92_sroa_5_0_sroa_idx_i_i_i;
-    u1 v_22_i_i_i_i134_i_i_i;
-    u1 v_4_i30_i_i_i_i192_i_i_i;
-    u1 v_10_not_i33_i_i_i_i195_i_i_i;
-    u64 v_start1_i32_i_i_i_i194_i_i_i;
+    P v_12_i_i_i_i80_sroa_4_0_sroa_idx_i_i_i;
+    P v_12_i_i_i_i80_sroa_5_0_sroa_idx_i_i_i;
+    u1 v_22_i_i_i_i121_i_i_i;
+    u1 v_4_i30_i_i_i_i179_i_i_i;
+    u1 v_10_not_i33_i_i_i_i182_i_i_i;
+    u64 v_start1_i32_i_i_i_i181_i_i_i;
     P v_208;
     u32 v_209;
-    u32 v_17_i_i_i_i91_sroa_0_sroa_0_0_insert_insert_i_i_i;
-    u64 v_371_i_i_i_i136_i_i_i;
-    u8 v_36_i_i_i_i137_i_i_i;
-    u64 v_402_i_i_i_i138_i_i_i;
-    u8 v_38_i_i_i_i139_i_i_i;
-    u64 v_433_i_i_i_i140_i_i_i;
-    u8 v_41_i_i_i_i141_i_i_i;
-    u8 v_44_i_i_i_i142_i_i_i;
-    u1 v_4_i68_i_i_i_i146_i_i_i;
-    u1 v_10_not_i71_i_i_i_i149_i_i_i;
-    u64 v_start1_i70_i_i_i_i148_i_i_i;
+    u32 v_17_i_i_i_i79_sroa_0_sroa_0_0_insert_insert_i_i_i;
+    u64 v_371_i_i_i_i123_i_i_i;
+    u8 v_36_i_i_i_i124_i_i_i;
+    u64 v_402_i_i_i_i125_i_i_i;
+    u8 v_38_i_i_i_i126_i_i_i;
+    u64 v_433_i_i_i_i127_i_i_i;
+    u8 v_41_i_i_i_i128_i_i_i;
+    u8 v_44_i_i_i_i129_i_i_i;
+    u1 v_4_i68_i_i_i_i133_i_i_i;
+    u1 v_10_not_i71_i_i_i_i136_i_i_i;
+    u64 v_start1_i70_i_i_i_i135_i_i_i;
     P v_210;
-    P v_35_i_i_i_i89_sroa_4_0_sroa_idx_i_i_i;
-    P v_35_i_i_i_i89_sroa_5_0_sroa_idx_i_i_i;
-    P v_35_i_i_i_i89_sroa_6_0_sroa_idx_i_i_i;
-    P v_35_i_i_i_i89_sroa_7_0_sroa_idx_i_i_i;
-    P v_35_i_i_i_i89_sroa_8_0_sroa_idx_i_i_i;
-    u64 v_274_i_i_i_i162_i_i_i;
-    u8 v_26_i_i_i_i163_i_i_i;
-    u64 v_305_i_i_i_i164_i_i_i;
-    u8 v_28_i_i_i_i165_i_i_i;
-    u8 v_31_i_i_i_i166_i_i_i;
-    u1 v_4_i49_i_i_i_i170_i_i_i;
-    u1 v_10_not_i52_i_i_i_i173_i_i_i;
-    u64 v_start1_i51_i_i_i_i172_i_i_i;
+    P v_35_i_i_i_i77_sroa_4_0_sroa_idx_i_i_i;
+    P v_35_i_i_i_i77_sroa_5_0_sroa_idx_i_i_i;
+    P v_35_i_i_i_i77_sroa_6_0_sroa_idx_i_i_i;
+    P v_35_i_i_i_i77_sroa_7_0_sroa_idx_i_i_i;
+    P v_35_i_i_i_i77_sroa_8_0_sroa_idx_i_i_i;
+    u64 v_274_i_i_i_i149_i_i_i;
+    u8 v_26_i_i_i_i150_i_i_i;
+    u64 v_305_i_i_i_i151_i_i_i;
+    u8 v_28_i_i_i_i152_i_i_i;
+    u8 v_31_i_i_i_i153_i_i_i;
+    u1 v_4_i49_i_i_i_i157_i_i_i;
+    u1 v_10_not_i52_i_i_i_i160_i_i_i;
+    u64 v_start1_i51_i_i_i_i159_i_i_i;
     P v_211;
-    P v_25_i_i_i_i90_sroa_4_0_sroa_idx_i_i_i;
-    P v_25_i_i_i_i90_sroa_5_0_sroa_idx_i_i_i;
-    P v_25_i_i_i_i90_sroa_6_0_sroa_idx_i_i_i;
-    P v_25_i_i_i_i90_sroa_7_0_sroa_idx_i_i_i;
-    u64 v_0_sroa_0_0_i_i_i_i_i244_sink_i_i_i;
-    u1 v_4_i_i8_i_i_i_i1039_i;
-    u1 v_10_not_i_i11_i_i_i_i1041_i;
-    u64 v_start1_i_i10_i_i_i_i1043_i;
+    P v_25_i_i_i_i78_sroa_4_0_sroa_idx_i_i_i;
+    P v_25_i_i_i_i78_sroa_5_0_sroa_idx_i_i_i;
+    P v_25_i_i_i_i78_sroa_6_0_sroa_idx_i_i_i;
+    P v_25_i_i_i_i78_sroa_7_0_sroa_idx_i_i_i;
+    u64 v_0_sroa_0_0_i_i_i_i_i231_sink_i_i_i;
+    u1 v_4_i_i8_i_i_i_i_i1052_i;
+    u1 v_10_not_i_i11_i_i_i_i_i1054_i;
+    u64 v_start1_i_i10_i_i_i_i_i1056_i;
     P v_212;
     u64 v_storemerge_i_i_i;
-    u8 v_5_i_i42_i_i_i;
-    u1 v_4_i3_i_i_i1044_i;
-    u1 v_4_i_i_i6_i_i_i1203_i;
-    u1 v_10_not_i_i_i_i53_i_i_i;
-    u64 v_start1_i_i_i_i52_i_i_i;
+    u8 v_5_i_i5_i_i_i1057_i;
+    u1 v_4_i_i6_i_i_i1058_i;
+    u1 v_4_i_i_i_i8_i_i_i1217_i;
+    u1 v_10_not_i_i_i_i11_i_i_i1219_i;
+    u64 v_start1_i_i_i_i10_i_i_i1220_i;
     P v_213;
-    u64 v_8_i_i_i43_i_i_i;
-    u64 v_5_i_i_i_i_i1046_i;
-    u32 v_13_i_i_i44_i_i_i;
-    u1 v_4_i_i_i_i45_i_i_i;
-    u1 v_9_i_i_i_i47_i_i_i;
-    u16 v_8_i_i_i_i_i_i1197_i;
-    u1 v_4_i_i_i_i_i_i_i1198_i;
-    u1 v_10_not_i_i_i_i_i_i_i1200_i;
-    u64 v_start1_i_i_i_i_i_i_i1201_i;
+    u64 v_8_i_i_i40_i_i_i;
+    u64 v_5_i_i_i_i_i1060_i;
+    u32 v_13_i_i_i41_i_i_i;
+    u1 v_4_i_i_i_i42_i_i_i;
+    u1 v_9_i_i_i_i44_i_i_i;
+    u16 v_8_i_i_i_i_i_i1211_i;
+    u1 v_4_i_i_i_i_i_i_i1212_i;
+    u1 v_10_not_i_i_i_i_i_i_i1214_i;
+    u64 v_start1_i_i_i_i_i_i_i1215_i;
     P v_214;
     u16 v_7_i_i_i_i_sroa_0_sroa_4_0_insert_shift_i_i_i;
     u16 v_7_i_i_i_i_sroa_0_sroa_0_0_insert_insert_i_i_i;
-    u1 v_14_i_i_i_i_i_i1048_i;
-    u8 v_13_i_i_i_i_i_i1190_i;
-    u1 v_4_i11_i_i_i_i_i_i1191_i;
-    u1 v_10_not_i14_i_i_i_i_i_i1193_i;
-    u64 v_start1_i13_i_i_i_i_i_i1194_i;
+    u1 v_14_i_i_i_i_i_i1062_i;
+    u8 v_13_i_i_i_i_i_i1204_i;
+    u1 v_4_i11_i_i_i_i_i_i1205_i;
+    u1 v_10_not_i14_i_i_i_i_i_i1207_i;
+    u64 v_start1_i13_i_i_i_i_i_i1208_i;
     P v_215;
-    P v_12_i_i_i_i37_sroa_4_0_sroa_idx_i_i_i;
-    P v_12_i_i_i_i37_sroa_5_0_sroa_idx_i_i_i;
-    u1 v_22_i_i_i_i_i_i1050_i;
-    u1 v_4_i30_i_i_i_i_i_i1184_i;
-    u1 v_10_not_i33_i_i_i_i_i_i1186_i;
-    u64 v_start1_i32_i_i_i_i_i_i1187_i;
+    P v_12_i_i_i_i34_sroa_4_0_sroa_idx_i_i_i;
+    P v_12_i_i_i_i34_sroa_5_0_sroa_idx_i_i_i;
+    u1 v_22_i_i_i_i_i_i1064_i;
+    u1 v_4_i30_i_i_i_i_i_i1198_i;
+    u1 v_10_not_i33_i_i_i_i_i_i1200_i;
+    u64 v_start1_i32_i_i_i_i_i_i1201_i;
     P v_216;
     u32 v_217;
     u32 v_17_i_i_i_i_sroa_0_sroa_0_0_insert_insert_i_i_i;
-    u64 v_371_i_i_i_i_i_i1051_i;
-    u8 v_36_i_i_i_i_i_i1052_i;
-    u64 v_402_i_i_i_i_i_i1053_i;
-    u8 v_38_i_i_i_i_i_i1054_i;
-    u64 v_433_i_i_i_i_i_i1055_i;
-    u8 v_41_i_i_i_i_i_i1056_i;
-    u8 v_44_i_i_i_i_i_i1057_i;
-    u1 v_4_i68_i_i_i_i_i_i1058_i;
-    u1 v_10_not_i71_i_i_i_i_i_i1060_i;
-    u64 v_start1_i70_i_i_i_i_i_i1061_i;
+    u64 v_371_i_i_i_i_i_i1065_i;
+    u8 v_36_i_i_i_i_i_i1066_i;
+    u64 v_402_i_i_i_i_i_i1067_i;
+    u8 v_38_i_i_i_i_i_i1068_i;
+    u64 v_433_i_i_i_i_i_i1069_i;
+    u8 v_41_i_i_i_i_i_i1070_i;
+    u8 v_44_i_i_i_i_i_i1071_i;
+    u1 v_4_i68_i_i_i_i_i_i1072_i;
+    u1 v_10_not_i71_i_i_i_i_i_i1074_i;
+    u64 v_start1_i70_i_i_i_i_i_i1075_i;
     P v_218;
     P v_35_i_i_i_i_sroa_4_0_sroa_idx_i_i_i;
     P v_35_i_i_i_i_sroa_5_0_sroa_idx_i_i_i;
     P v_35_i_i_i_i_sroa_6_0_sroa_idx_i_i_i;
     P v_35_i_i_i_i_sroa_7_0_sroa_idx_i_i_i;
     P v_35_i_i_i_i_sroa_8_0_sroa_idx_i_i_i;
-    u64 v_274_i_i_i_i_i_i1174_i;
-    u8 v_26_i_i_i_i_i_i1175_i;
-    u64 v_305_i_i_i_i_i_i1176_i;
-    u8 v_28_i_i_i_i_i_i1177_i;
-    u8 v_31_i_i_i_i_i_i1178_i;
-    u1 v_4_i49_i_i_i_i_i_i1179_i;
-    u1 v_10_not_i52_i_i_i_i_i_i1181_i;
-    u64 v_start1_i51_i_i_i_i_i_i1182_i;
+    u64 v_274_i_i_i_i_i_i1188_i;
+    u8 v_26_i_i_i_i_i_i1189_i;
+    u64 v_305_i_i_i_i_i_i1190_i;
+    u8 v_28_i_i_i_i_i_i1191_i;
+    u8 v_31_i_i_i_i_i_i1192_i;
+    u1 v_4_i49_i_i_i_i_i_i1193_i;
+    u1 v_10_not_i52_i_i_i_i_i_i1195_i;
+    u64 v_start1_i51_i_i_i_i_i_i1196_i;
     P v_219;
     P v_25_i_i_i_i_sroa_4_0_sroa_idx_i_i_i;
     P v_25_i_i_i_i_sroa_5_0_sroa_idx_i_i_i;
     P v_25_i_i_i_i_sroa_6_0_sroa_idx_i_i_i;
     P v_25_i_i_i_i_sroa_7_0_sroa_idx_i_i_i;
     u64 v_0_sroa_0_0_i_i_i_i_i_sink_i_i_i;
-    u1 v_4_i_i8_i_i_i1062_i;
-    u1 v_10_not_i_i11_i_i_i1064_i;
-    u64 v_start1_i_i10_i_i_i1066_i;
+    u1 v_4_i_i8_i_i_i_i1076_i;
+    u1 v_10_not_i_i11_i_i_i_i1078_i;
+    u64 v_start1_i_i10_i_i_i_i1080_i;
     P v_220;
-    u64 v_storemerge502_i_i_i;
-    u8 v_5_i15_i_i_i;
-    u1 v_4_i16_i_i_i;
-    u1 v_4_i_i_i21_i_i_i;
-    u1 v_10_not_i_i_i24_i_i_i;
-    u64 v_start1_i_i_i23_i_i_i;
+    u64 v_storemerge488_i_i_i;
+    u8 v_5_i_i16_i_i_i;
+    u1 v_4_i_i17_i_i_i;
+    u1 v_4_i_i_i_i20_i_i_i;
+    u1 v_10_not_i_i_i_i23_i_i_i;
+    u64 v_start1_i_i_i_i22_i_i_i;
     P v_221;
     u64 v_8_i_i3_i_i_i;
-    u64 v_5_i_i_i_i1069_i;
+    u64 v_5_i_i_i_i1082_i;
     u32 v_13_i_i4_i_i_i;
-    u1 v_4_i_i_i5_i_i_i;
+    u1 v_4_i_i_i5_i_i1083_i;
     u1 v_9_i_i_i7_i_i_i;
-    u16 v_8_i_i_i_i_i1165_i;
-    u1 v_4_i_i_i_i_i_i1166_i;
-    u1 v_10_not_i_i_i_i_i_i1168_i;
-    u64 v_start1_i_i_i_i_i_i1169_i;
+    u16 v_8_i_i_i_i_i1179_i;
+    u1 v_4_i_i_i_i_i_i1180_i;
+    u1 v_10_not_i_i_i_i_i_i1182_i;
+    u64 v_start1_i_i_i_i_i_i1183_i;
     P v_222;
     u16 v_7_i_i_i_sroa_0_sroa_4_0_insert_shift_i_i_i;
     u16 v_7_i_i_i_sroa_0_sroa_0_0_insert_insert_i_i_i;
-    u1 v_14_i_i_i_i_i1071_i;
-    u8 v_13_i_i_i_i_i1158_i;
-    u1 v_4_i11_i_i_i_i_i1159_i;
-    u1 v_10_not_i14_i_i_i_i_i1161_i;
-    u64 v_start1_i13_i_i_i_i_i1162_i;
+    u1 v_14_i_i_i_i_i1085_i;
+    u8 v_13_i_i_i_i_i1172_i;
+    u1 v_4_i11_i_i_i_i_i1173_i;
+    u1 v_10_not_i14_i_i_i_i_i1175_i;
+    u64 v_start1_i13_i_i_i_i_i1176_i;
     P v_223;
     P v_12_i_i_i1_sroa_4_0_sroa_idx_i_i_i;
     P v_12_i_i_i1_sroa_5_0_sroa_idx_i_i_i;
-    u1 v_22_i_i_i_i_i1073_i;
-    u1 v_4_i30_i_i_i_i_i1152_i;
-    u1 v_10_not_i33_i_i_i_i_i1154_i;
-    u64 v_start1_i32_i_i_i_i_i1155_i;
+    u1 v_22_i_i_i_i_i1087_i;
+    u1 v_4_i30_i_i_i_i_i1166_i;
+    u1 v_10_not_i33_i_i_i_i_i1168_i;
+    u64 v_start1_i32_i_i_i_i_i1169_i;
     P v_224;
     u32 v_225;
     u32 v_17_i_i_i_sroa_0_sroa_0_0_insert_insert_i_i_i;
-    u64 v_371_i_i_i_i_i1074_i;
-    u8 v_36_i_i_i_i_i1075_i;
-    u64 v_402_i_i_i_i_i1076_i;
-    u8 v_38_i_i_i_i_i1077_i;
-    u64 v_433_i_i_i_i_i1078_i;
-    u8 v_41_i_i_i_i_i1079_i;
-    u8 v_44_i_i_i_i_i1080_i;
-    u1 v_4_i68_i_i_i_i_i1081_i;
-    u1 v_10_not_i71_i_i_i_i_i1083_i;
-    u64 v_start1_i70_i_i_i_i_i1084_i;
+    u64 v_371_i_i_i_i_i1088_i;
+    u8 v_36_i_i_i_i_i1089_i;
+    u64 v_402_i_i_i_i_i1090_i;
+    u8 v_38_i_i_i_i_i1091_i;
+    u64 v_433_i_i_i_i_i1092_i;
+    u8 v_41_i_i_i_i_i1093_i;
+    u8 v_44_i_i_i_i_i1094_i;
+    u1 v_4_i68_i_i_i_i_i1095_i;
+    u1 v_10_not_i71_i_i_i_i_i1097_i;
+    u64 v_start1_i70_i_i_i_i_i1098_i;
     P v_226;
     P v_35_i_i_i_sroa_4_0_sroa_idx_i_i_i;
     P v_35_i_i_i_sroa_5_0_sroa_idx_i_i_i;
     P v_35_i_i_i_sroa_6_0_sroa_idx_i_i_i;
     P v_35_i_i_i_sroa_7_0_sroa_idx_i_i_i;
     P v_35_i_i_i_sroa_8_0_sroa_idx_i_i_i;
-    u64 v_274_i_i_i_i_i1142_i;
-    u8 v_26_i_i_i_i_i1143_i;
-    u64 v_305_i_i_i_i_i1144_i;
-    u8 v_28_i_i_i_i_i1145_i;
-    u8 v_31_i_i_i_i_i1146_i;
-    u1 v_4_i49_i_i_i_i_i1147_i;
-    u1 v_10_not_i52_i_i_i_i_i1149_i;
-    u64 v_start1_i51_i_i_i_i_i1150_i;
+    u64 v_274_i_i_i_i_i1156_i;
+    u8 v_26_i_i_i_i_i1157_i;
+    u64 v_305_i_i_i_i_i1158_i;
+    u8 v_28_i_i_i_i_i1159_i;
+    u8 v_31_i_i_i_i_i1160_i;
+    u1 v_4_i49_i_i_i_i_i1161_i;
+    u1 v_10_not_i52_i_i_i_i_i1163_i;
+    u64 v_start1_i51_i_i_i_i_i1164_i;
     P v_227;
     P v_25_i_i_i_sroa_4_0_sroa_idx_i_i_i;
     P v_25_i_i_i_sroa_5_0_sroa_idx_i_i_i;
     P v_25_i_i_i_sroa_6_0_sroa_idx_i_i_i;
     P v_25_i_i_i_sroa_7_0_sroa_idx_i_i_i;
-    u64 v_8_i_i_i1085_i;
-    u64 v_5_i_i_i1086_i;
-    u32 v_13_i_i_i1087_i;
-    u1 v_4_i_i_i_i1088_i;
-    u1 v_9_i_i_i_i1090_i;
-    u16 v_8_i_i_i_i1135_i;
-    u1 v_4_i_i_i_i_i1136_i;
-    u1 v_10_not_i_i_i_i_i1138_i;
-    u64 v_start1_i_i_i_i_i1139_i;
+    u64 v_8_i_i_i1099_i;
+    u64 v_5_i_i_i1100_i;
+    u32 v_13_i_i_i1101_i;
+    u1 v_4_i_i_i_i1102_i;
+    u1 v_9_i_i_i_i1104_i;
+    u16 v_8_i_i_i_i1149_i;
+    u1 v_4_i_i_i_i_i1150_i;
+    u1 v_10_not_i_i_i_i_i1152_i;
+    u64 v_start1_i_i_i_i_i1153_i;
     P v_228;
     u16 v_7_i_i_sroa_0_sroa_4_0_insert_shift_i_i_i;
     u16 v_7_i_i_sroa_0_sroa_0_0_insert_insert_i_i_i;
-    u1 v_14_i_i_i_i1092_i;
-    u8 v_13_i_i_i_i1128_i;
-    u1 v_4_i11_i_i_i_i1129_i;
-    u1 v_10_not_i14_i_i_i_i1131_i;
-    u64 v_start1_i13_i_i_i_i1132_i;
+    u1 v_14_i_i_i_i1106_i;
+    u8 v_13_i_i_i_i1142_i;
+    u1 v_4_i11_i_i_i_i1143_i;
+    u1 v_10_not_i14_i_i_i_i1145_i;
+    u64 v_start1_i13_i_i_i_i1146_i;
     P v_229;
     P v_12_i_i_sroa_4_0_sroa_idx_i_i_i;
     P v_12_i_i_sroa_5_0_sroa_idx_i_i_i;
-    u1 v_22_i_i_i_i1094_i;
-    u1 v_4_i30_i_i_i_i1122_i;
-    u1 v_10_not_i33_i_i_i_i1124_i;
-    u64 v_start1_i32_i_i_i_i1125_i;
+    u1 v_22_i_i_i_i1108_i;
+    u1 v_4_i30_i_i_i_i1136_i;
+    u1 v_10_not_i33_i_i_i_i1138_i;
+    u64 v_start1_i32_i_i_i_i1139_i;
     P v_230;
     u32 v_231;
     u32 v_17_i_i_sroa_0_sroa_0_0_insert_insert_i_i_i;
-    u64 v_371_i_i_i_i1096_i;
-    u8 v_36_i_i_i_i1097_i;
-    u64 v_402_i_i_i_i1098_i;
-    u8 v_38_i_i_i_i1099_i;
-    u64 v_433_i_i_i_i1100_i;
-    u8 v_41_i_i_i_i1101_i;
-    u8 v_44_i_i_i_i1102_i;
-    u1 v_4_i68_i_i_i_i1103_i;
-    u1 v_10_not_i71_i_i_i_i1105_i;
-    u64 v_start1_i70_i_i_i_i1106_i;
+    u64 v_371_i_i_i_i1110_i;
+    u8 v_36_i_i_i_i1111_i;
+    u64 v_402_i_i_i_i1112_i;
+    u8 v_38_i_i_i_i1113_i;
+    u64 v_433_i_i_i_i1114_i;
+    u8 v_41_i_i_i_i1115_i;
+    u8 v_44_i_i_i_i1116_i;
+    u1 v_4_i68_i_i_i_i1117_i;
+    u1 v_10_not_i71_i_i_i_i1119_i;
+    u64 v_start1_i70_i_i_i_i1120_i;
     P v_232;
     P v_35_i_i_sroa_4_0_sroa_idx_i_i_i;
     P v_35_i_i_sroa_5_0_sroa_idx_i_i_i;
     P v_35_i_i_sroa_6_0_sroa_idx_i_i_i;
     P v_35_i_i_sroa_7_0_sroa_idx_i_i_i;
     P v_35_i_i_sroa_8_0_sroa_idx_i_i_i;
-    u64 v_274_i_i_i_i1111_i;
-    u8 v_26_i_i_i_i1112_i;
-    u64 v_305_i_i_i_i1113_i;
-    u8 v_28_i_i_i_i1114_i;
-    u8 v_31_i_i_i_i1115_i;
-    u1 v_4_i49_i_i_i_i1116_i;
-    u1 v_10_not_i52_i_i_i_i1118_i;
-    u64 v_start1_i51_i_i_i_i1119_i;
+    u64 v_274_i_i_i_i1125_i;
+    u8 v_26_i_i_i_i1126_i;
+    u64 v_305_i_i_i_i1127_i;
+    u8 v_28_i_i_i_i1128_i;
+    u8 v_31_i_i_i_i1129_i;
+    u1 v_4_i49_i_i_i_i1130_i;
+    u1 v_10_not_i52_i_i_i_i1132_i;
+    u64 v_start1_i51_i_i_i_i1133_i;
     P v_233;
     P v_25_i_i_sroa_4_0_sroa_idx_i_i_i;
     P v_25_i_i_sroa_5_0_sroa_idx_i_i_i;
     P v_25_i_i_sroa_6_0_sroa_idx_i_i_i;
     P v_25_i_i_sroa_7_0_sroa_idx_i_i_i;
     u64 v_writer_sroa_174_1_i;
-    u64 v_0_sroa_0_0_i_i_i_i263_i35_i_i;
-    u1 v_4_not_i1107_i;
+    u64 v_0_sroa_0_0_i_i_i_i19_i250_i35_i_i;
+    u1 v_4_not_i1121_i;
     u64 v_writer_sroa_174_1_i_lcssa;
-    u64 v_5_i_i_i_i_i_i250_i;
-    u32 v_13_i_i_i15_i_i_i_i;
-    u1 v_4_i_i_i_i16_i_i_i_i;
-    u1 v_9_i_i_i_i18_i_i_i_i;
-    u16 v_8_i_i_i_i_i_i_i818_i;
-    u1 v_4_i_i_i_i_i_i_i_i822_i;
-    u1 v_10_not_i_i_i_i_i_i_i_i825_i;
-    u64 v_start1_i_i_i_i_i_i_i_i824_i;
+    u64 v_5_i_i_i_i_i_i245_i;
+    u32 v_13_i_i_i26_i_i_i_i;
+    u1 v_4_i_i_i_i27_i_i_i_i;
+    u1 v_9_i_i_i_i29_i_i_i_i;
+    u16 v_8_i_i_i_i_i_i_i833_i;
+    u1 v_4_i_i_i_i_i_i_i_i837_i;
+    u1 v_10_not_i_i_i_i_i_i_i_i840_i;
+    u64 v_start1_i_i_i_i_i_i_i_i839_i;
     P v_234;
-    u16 v_7_i_i_i_i_i_i_i147_sroa_0_sroa_4_0_insert_shift_i;
-    u16 v_7_i_i_i_i_i_i_i147_sroa_0_sroa_0_0_insert_insert_i;
-    u1 v_14_i_i_i_i_i_i_i253_i;
-    u8 v_13_i_i_i_i_i_i_i798_i;
-    u1 v_4_i11_i_i_i_i_i_i_i802_i;
-    u1 v_10_not_i14_i_i_i_i_i_i_i805_i;
-    u64 v_start1_i13_i_i_i_i_i_i_i804_i;
+    u16 v_7_i_i_i_i_i_i_i140_sroa_0_sroa_4_0_insert_shift_i;
+    u16 v_7_i_i_i_i_i_i_i140_sroa_0_sroa_0_0_insert_insert_i;
+    u1 v_14_i_i_i_i_i_i_i248_i;
+    u8 v_13_i_i_i_i_i_i_i813_i;
+    u1 v_4_i11_i_i_i_i_i_i_i817_i;
+    u1 v_10_not_i14_i_i_i_i_i_i_i820_i;
+    u64 v_start1_i13_i_i_i_i_i_i_i819_i;
     P v_235;
-    P v_12_i_i_i_i11_i_i_i_sroa_4_0_sroa_idx_i;
-    P v_12_i_i_i_i11_i_i_i_sroa_5_0_sroa_idx_i;
-    u1 v_22_i_i_i_i_i_i_i255_i;
-    u1 v_4_i30_i_i_i_i_i_i_i782_i;
-    u1 v_10_not_i33_i_i_i_i_i_i_i785_i;
-    u64 v_start1_i32_i_i_i_i_i_i_i784_i;
+    P v_12_i_i_i_i22_i_i_i139_sroa_4_0_sroa_idx_i;
+    P v_12_i_i_i_i22_i_i_i139_sroa_5_0_sroa_idx_i;
+    u1 v_22_i_i_i_i_i_i_i250_i;
+    u1 v_4_i30_i_i_i_i_i_i_i797_i;
+    u1 v_10_not_i33_i_i_i_i_i_i_i800_i;
+    u64 v_start1_i32_i_i_i_i_i_i_i799_i;
     P v_236;
     u32 v_237;
-    u32 v_17_i_i_i_i_i_i_i146_sroa_0_sroa_0_0_insert_insert_;
-    u64 v_371_i_i_i_i_i_i_i256_i;
-    u8 v_36_i_i_i_i_i_i_i257_i;
-    u64 v_402_i_i_i_i_i_i_i258_i;
-    u8 v_38_i_i_i_i_i_i_i259_i;
-    u64 v_433_i_i_i_i_i_i_i260_i;
-    u8 v_41_i_i_i_i_i_i_i261_i;
-    u8 v_44_i_i_i_i_i_i_i262_i;
-    u1 v_4_i68_i_i_i_i_i_i_i266_i;
-    u1 v_10_not_i71_i_i_i_i_i_i_i269_i;
-    u64 v_start1_i70_i_i_i_i_i_i_i268_i;
+    u32 v_17_i_i_i_i_i_i_i138_sroa_0_sroa_0_0_insert_insert_;
+    u64 v_371_i_i_i_i_i_i_i251_i;
+    u8 v_36_i_i_i_i_i_i_i252_i;
+    u64 v_402_i_i_i_i_i_i_i253_i;
+    u8 v_38_i_i_i_i_i_i_i254_i;
+    u64 v_433_i_i_i_i_i_i_i255_i;
+    u8 v_41_i_i_i_i_i_i_i256_i;
+    u8 v_44_i_i_i_i_i_i_i257_i;
+    u1 v_4_i68_i_i_i_i_i_i_i261_i;
+    u1 v_10_not_i71_i_i_i_i_i_i_i264_i;
+    u64 v_start1_i70_i_i_i_i_i_i_i263_i;
     P v_238;
-    P v_35_i_i_i_i_i_i_i144_sroa_4_0_sroa_idx_i;
-    P v_35_i_i_i_i_i_i_i144_sroa_5_0_sroa_idx_i;
-    P v_35_i_i_i_i_i_i_i144_sroa_6_0_sroa_idx_i;
-    P v_35_i_i_i_i_i_i_i144_sroa_7_0_sroa_idx_i;
-    P v_35_i_i_i_i_i_i_i144_sroa_8_0_sroa_idx_i;
-    u64 v_274_i_i_i_i_i_i_i753_i;
-    u8 v_26_i_i_i_i_i_i_i754_i;
-    u64 v_305_i_i_i_i_i_i_i755_i;
-    u8 v_28_i_i_i_i_i_i_i756_i;
-    u8 v_31_i_i_i_i_i_i_i757_i;
-    u1 v_4_i49_i_i_i_i_i_i_i761_i;
-    u1 v_10_not_i52_i_i_i_i_i_i_i764_i;
-    u64 v_start1_i51_i_i_i_i_i_i_i763_i;
+    P v_35_i_i_i_i_i_i_i136_sroa_4_0_sroa_idx_i;
+    P v_35_i_i_i_i_i_i_i136_sroa_5_0_sroa_idx_i;
+    P v_35_i_i_i_i_i_i_i136_sroa_6_0_sroa_idx_i;
+    P v_35_i_i_i_i_i_i_i136_sroa_7_0_sroa_idx_i;
+    P v_35_i_i_i_i_i_i_i136_sroa_8_0_sroa_idx_i;
+    u64 v_274_i_i_i_i_i_i_i768_i;
+    u8 v_26_i_i_i_i_i_i_i769_i;
+    u64 v_305_i_i_i_i_i_i_i770_i;
+    u8 v_28_i_i_i_i_i_i_i771_i;
+    u8 v_31_i_i_i_i_i_i_i772_i;
+    u1 v_4_i49_i_i_i_i_i_i_i776_i;
+    u1 v_10_not_i52_i_i_i_i_i_i_i779_i;
+    u64 v_start1_i51_i_i_i_i_i_i_i778_i;
     P v_239;
-    P v_25_i_i_i_i_i_i_i145_sroa_4_0_sroa_idx_i;
-    P v_25_i_i_i_i_i_i_i145_sroa_5_0_sroa_idx_i;
-    P v_25_i_i_i_i_i_i_i145_sroa_6_0_sroa_idx_i;
-    P v_25_i_i_i_i_i_i_i145_sroa_7_0_sroa_idx_i;
+    P v_25_i_i_i_i_i_i_i137_sroa_4_0_sroa_idx_i;
+    P v_25_i_i_i_i_i_i_i137_sroa_5_0_sroa_idx_i;
+    P v_25_i_i_i_i_i_i_i137_sroa_6_0_sroa_idx_i;
+    P v_25_i_i_i_i_i_i_i137_sroa_7_0_sroa_idx_i;
     u64 v_writer_sroa_174_4_i;
-    u1 v_4_i_i8_i_i_i_i286_i;
-    u1 v_10_not_i_i11_i_i_i_i289_i;
-    u64 v_start1_i_i10_i_i_i_i288_i;
+    u1 v_4_i_i8_i_i_i_i_i280_i;
+    u1 v_10_not_i_i11_i_i_i_i_i283_i;
+    u64 v_start1_i_i10_i_i_i_i_i282_i;
     P v_240;
-    u64 v_0_sroa_0_0_i_i19_i_i_i_i298_i;
-    u8 v_5_i_i17_i_i_i;
-    u1 v_4_i3_i_i_i301_i;
-    u1 v_4_i_i_i6_i_i_i742_i;
-    u1 v_10_not_i_i_i_i27_i_i_i;
-    u64 v_start1_i_i_i_i26_i_i_i;
+    u64 v_0_sroa_0_0_i_i19_i_i_i_i_i292_i;
+    u8 v_5_i_i5_i_i_i294_i;
+    u1 v_4_i_i6_i_i_i295_i;
+    u1 v_4_i_i_i_i8_i_i_i748_i;
+    u1 v_10_not_i_i_i_i11_i_i_i751_i;
+    u64 v_start1_i_i_i_i10_i_i_i750_i;
     P v_241;
     u64 v_writer_sroa_174_5_i;
-    u64 v_5_i_i_i_i_i304_i;
-    u32 v_13_i_i_i19_i_i_i;
-    u1 v_4_i_i_i_i20_i_i_i;
-    u1 v_9_i_i_i_i22_i_i_i;
-    u16 v_8_i_i_i_i_i_i720_i;
-    u1 v_4_i_i_i_i_i_i_i724_i;
-    u1 v_10_not_i_i_i_i_i_i_i727_i;
-    u64 v_start1_i_i_i_i_i_i_i726_i;
+    u64 v_5_i_i_i_i_i298_i;
+    u32 v_13_i_i_i30_i_i_i;
+    u1 v_4_i_i_i_i31_i_i_i;
+    u1 v_9_i_i_i_i33_i_i_i;
+    u16 v_8_i_i_i_i_i_i726_i;
+    u1 v_4_i_i_i_i_i_i_i730_i;
+    u1 v_10_not_i_i_i_i_i_i_i733_i;
+    u64 v_start1_i_i_i_i_i_i_i732_i;
     P v_242;
-    u16 v_7_i_i_i_i_i_i180_sroa_0_sroa_4_0_insert_shift_i;
-    u16 v_7_i_i_i_i_i_i180_sroa_0_sroa_0_0_insert_insert_i;
-    u1 v_14_i_i_i_i_i_i307_i;
-    u8 v_13_i_i_i_i_i_i700_i;
-    u1 v_4_i11_i_i_i_i_i_i704_i;
-    u1 v_10_not_i14_i_i_i_i_i_i707_i;
-    u64 v_start1_i13_i_i_i_i_i_i706_i;
+    u16 v_7_i_i_i_i_i_i173_sroa_0_sroa_4_0_insert_shift_i;
+    u16 v_7_i_i_i_i_i_i173_sroa_0_sroa_0_0_insert_insert_i;
+    u1 v_14_i_i_i_i_i_i301_i;
+    u8 v_13_i_i_i_i_i_i706_i;
+    u1 v_4_i11_i_i_i_i_i_i710_i;
+    u1 v_10_not_i14_i_i_i_i_i_i713_i;
+    u64 v_start1_i13_i_i_i_i_i_i712_i;
     P v_243;
-    P v_12_i_i_i_i13_i_i179_sroa_4_0_sroa_idx_i;
-    P v_12_i_i_i_i13_i_i179_sroa_5_0_sroa_idx_i;
-    u1 v_22_i_i_i_i_i_i309_i;
-    u1 v_4_i30_i_i_i_i_i_i684_i;
-    u1 v_10_not_i33_i_i_i_i_i_i687_i;
-    u64 v_start1_i32_i_i_i_i_i_i686_i;
+    P v_12_i_i_i_i22_i_i172_sroa_4_0_sroa_idx_i;
+    P v_12_i_i_i_i22_i_i172_sroa_5_0_sroa_idx_i;
+    u1 v_22_i_i_i_i_i_i303_i;
+    u1 v_4_i30_i_i_i_i_i_i690_i;
+    u1 v_10_not_i33_i_i_i_i_i_i693_i;
+    u64 v_start1_i32_i_i_i_i_i_i692_i;
     P v_244;
     u32 v_245;
-    u32 v_17_i_i_i_i_i_i178_sroa_0_sroa_0_0_insert_insert_i;
-    u64 v_371_i_i_i_i_i_i310_i;
-    u8 v_36_i_i_i_i_i_i311_i;
-    u64 v_402_i_i_i_i_i_i312_i;
-    u8 v_38_i_i_i_i_i_i313_i;
-    u64 v_433_i_i_i_i_i_i314_i;
-    u8 v_41_i_i_i_i_i_i315_i;
-    u8 v_44_i_i_i_i_i_i316_i;
-    u1 v_4_i68_i_i_i_i_i_i320_i;
-    u1 v_10_not_i71_i_i_i_i_i_i323_i;
-    u64 v_start1_i70_i_i_i_i_i_i322_i;
+    u32 v_17_i_i_i_i_i_i171_sroa_0_sroa_0_0_insert_insert_i;
+    u64 v_371_i_i_i_i_i_i304_i;
+    u8 v_36_i_i_i_i_i_i305_i;
+    u64 v_402_i_i_i_i_i_i306_i;
+    u8 v_38_i_i_i_i_i_i307_i;
+    u64 v_433_i_i_i_i_i_i308_i;
+    u8 v_41_i_i_i_i_i_i309_i;
+    u8 v_44_i_i_i_i_i_i310_i;
+    u1 v_4_i68_i_i_i_i_i_i314_i;
+    u1 v_10_not_i71_i_i_i_i_i_i317_i;
+    u64 v_start1_i70_i_i_i_i_i_i316_i;
     P v_246;
-    P v_35_i_i_i_i_i_i176_sroa_4_0_sroa_idx_i;
-    P v_35_i_i_i_i_i_i176_sroa_5_0_sroa_idx_i;
-    P v_35_i_i_i_i_i_i176_sroa_6_0_sroa_idx_i;
-    P v_35_i_i_i_i_i_i176_sroa_7_0_sroa_idx_i;
-    P v_35_i_i_i_i_i_i176_sroa_8_0_sroa_idx_i;
-    u64 v_274_i_i_i_i_i_i655_i;
-    u8 v_26_i_i_i_i_i_i656_i;
-    u64 v_305_i_i_i_i_i_i657_i;
-    u8 v_28_i_i_i_i_i_i658_i;
-    u8 v_31_i_i_i_i_i_i659_i;
-    u1 v_4_i49_i_i_i_i_i_i663_i;
-    u1 v_10_not_i52_i_i_i_i_i_i666_i;
-    u64 v_start1_i51_i_i_i_i_i_i665_i;
+    P v_35_i_i_i_i_i_i169_sroa_4_0_sroa_idx_i;
+    P v_35_i_i_i_i_i_i169_sroa_5_0_sroa_idx_i;
+    P v_35_i_i_i_i_i_i169_sroa_6_0_sroa_idx_i;
+    P v_35_i_i_i_i_i_i169_sroa_7_0_sroa_idx_i;
+    P v_35_i_i_i_i_i_i169_sroa_8_0_sroa_idx_i;
+    u64 v_274_i_i_i_i_i_i661_i;
+    u8 v_26_i_i_i_i_i_i662_i;
+    u64 v_305_i_i_i_i_i_i663_i;
+    u8 v_28_i_i_i_i_i_i664_i;
+    u8 v_31_i_i_i_i_i_i665_i;
+    u1 v_4_i49_i_i_i_i_i_i669_i;
+    u1 v_10_not_i52_i_i_i_i_i_i672_i;
+    u64 v_start1_i51_i_i_i_i_i_i671_i;
     P v_247;
-    P v_25_i_i_i_i_i_i177_sroa_4_0_sroa_idx_i;
-    P v_25_i_i_i_i_i_i177_sroa_5_0_sroa_idx_i;
-    P v_25_i_i_i_i_i_i177_sroa_6_0_sroa_idx_i;
-    P v_25_i_i_i_i_i_i177_sroa_7_0_sroa_idx_i;
+    P v_25_i_i_i_i_i_i170_sroa_4_0_sroa_idx_i;
+    P v_25_i_i_i_i_i_i170_sroa_5_0_sroa_idx_i;
+    P v_25_i_i_i_i_i_i170_sroa_6_0_sroa_idx_i;
+    P v_25_i_i_i_i_i_i170_sroa_7_0_sroa_idx_i;
     u64 v_writer_sroa_174_6_i;
-    u1 v_4_i_i8_i_i_i340_i;
-    u1 v_10_not_i_i11_i_i_i343_i;
-    u64 v_start1_i_i10_i_i_i342_i;
+    u1 v_4_i_i8_i_i_i_i333_i;
+    u1 v_10_not_i_i11_i_i_i_i336_i;
+    u64 v_start1_i_i10_i_i_i_i335_i;
     P v_248;
-    u64 v_0_sroa_0_0_i_i19_i_i_i352_i;
-    u8 v_5_i_i17_i_i;
-    u1 v_4_i3_i_i356_i;
-    u1 v_4_i_i_i6_i_i644_i;
-    u1 v_10_not_i_i_i_i27_i_i;
-    u64 v_start1_i_i_i_i26_i_i;
+    u64 v_0_sroa_0_0_i_i19_i_i_i_i345_i;
+    u8 v_5_i_i5_i_i347_i;
+    u1 v_4_i_i6_i_i348_i;
+    u1 v_4_i_i_i_i8_i_i641_i;
+    u1 v_10_not_i_i_i_i11_i_i644_i;
+    u64 v_start1_i_i_i_i10_i_i643_i;
     P v_249;
     u64 v_writer_sroa_174_7_i;
-    u64 v_5_i_i_i_i359_i;
-    u32 v_13_i_i_i19_i_i;
-    u1 v_4_i_i_i_i20_i_i;
-    u1 v_9_i_i_i_i22_i_i;
-    u16 v_8_i_i_i_i_i621_i;
-    u1 v_4_i_i_i_i_i_i625_i;
-    u1 v_10_not_i_i_i_i_i_i628_i;
-    u64 v_start1_i_i_i_i_i_i627_i;
+    u64 v_5_i_i_i_i351_i;
+    u32 v_13_i_i_i28_i_i;
+    u1 v_4_i_i_i_i29_i_i;
+    u1 v_9_i_i_i_i31_i_i;
+    u16 v_8_i_i_i_i_i619_i;
+    u1 v_4_i_i_i_i_i_i623_i;
+    u1 v_10_not_i_i_i_i_i_i626_i;
+    u64 v_start1_i_i_i_i_i_i625_i;
     P v_250;
-    u16 v_7_i_i_i_i_i210_sroa_0_sroa_4_0_insert_shift_i;
-    u16 v_7_i_i_i_i_i210_sroa_0_sroa_0_0_insert_insert_i;
-    u1 v_14_i_i_i_i_i362_i;
-    u8 v_13_i_i_i_i_i601_i;
-    u1 v_4_i11_i_i_i_i_i605_i;
-    u1 v_10_not_i14_i_i_i_i_i608_i;
-    u64 v_start1_i13_i_i_i_i_i607_i;
+    u16 v_7_i_i_i_i_i206_sroa_0_sroa_4_0_insert_shift_i;
+    u16 v_7_i_i_i_i_i206_sroa_0_sroa_0_0_insert_insert_i;
+    u1 v_14_i_i_i_i_i354_i;
+    u8 v_13_i_i_i_i_i599_i;
+    u1 v_4_i11_i_i_i_i_i603_i;
+    u1 v_10_not_i14_i_i_i_i_i606_i;
+    u64 v_start1_i13_i_i_i_i_i605_i;
     P v_251;
-    P v_12_i_i_i_i12_i_sroa_4_0_sroa_idx_i;
-    P v_12_i_i_i_i12_i_sroa_5_0_sroa_idx_i;
-    u1 v_22_i_i_i_i_i364_i;
-    u1 v_4_i30_i_i_i_i_i585_i;
-    u1 v_10_not_i33_i_i_i_i_i588_i;
-    u64 v_start1_i32_i_i_i_i_i587_i;
+    P v_12_i_i_i_i22_i205_sroa_4_0_sroa_idx_i;
+    P v_12_i_i_i_i22_i205_sroa_5_0_sroa_idx_i;
+    u1 v_22_i_i_i_i_i356_i;
+    u1 v_4_i30_i_i_i_i_i583_i;
+    u1 v_10_not_i33_i_i_i_i_i586_i;
+    u64 v_start1_i32_i_i_i_i_i585_i;
     P v_252;
     u32 v_253;
-    u32 v_17_i_i_i_i_i209_sroa_0_sroa_0_0_insert_insert_i;
-    u64 v_371_i_i_i_i_i365_i;
-    u8 v_36_i_i_i_i_i366_i;
-    u64 v_402_i_i_i_i_i367_i;
-    u8 v_38_i_i_i_i_i368_i;
-    u64 v_433_i_i_i_i_i369_i;
-    u8 v_41_i_i_i_i_i370_i;
-    u8 v_44_i_i_i_i_i371_i;
-    u1 v_4_i68_i_i_i_i_i375_i;
-    u1 v_10_not_i71_i_i_i_i_i378_i;
-    u64 v_start1_i70_i_i_i_i_i377_i;
+    u32 v_17_i_i_i_i_i204_sroa_0_sroa_0_0_insert_insert_i;
+    u64 v_371_i_i_i_i_i357_i;
+    u8 v_36_i_i_i_i_i358_i;
+    u64 v_402_i_i_i_i_i359_i;
+    u8 v_38_i_i_i_i_i360_i;
+    u64 v_433_i_i_i_i_i361_i;
+    u8 v_41_i_i_i_i_i362_i;
+    u8 v_44_i_i_i_i_i363_i;
+    u1 v_4_i68_i_i_i_i_i367_i;
+    u1 v_10_not_i71_i_i_i_i_i370_i;
+    u64 v_start1_i70_i_i_i_i_i369_i;
     P v_254;
-    P v_35_i_i_i_i_i207_sroa_4_0_sroa_idx_i;
-    P v_35_i_i_i_i_i207_sroa_5_0_sroa_idx_i;
-    P v_35_i_i_i_i_i207_sroa_6_0_sroa_idx_i;
-    P v_35_i_i_i_i_i207_sroa_7_0_sroa_idx_i;
-    P v_35_i_i_i_i_i207_sroa_8_0_sroa_idx_i;
-    u64 v_274_i_i_i_i_i556_i;
-    u8 v_26_i_i_i_i_i557_i;
-    u64 v_305_i_i_i_i_i558_i;
-    u8 v_28_i_i_i_i_i559_i;
-    u8 v_31_i_i_i_i_i560_i;
-    u1 v_4_i49_i_i_i_i_i564_i;
-    u1 v_10_not_i52_i_i_i_i_i567_i;
-    u64 v_start1_i51_i_i_i_i_i566_i;
+    P v_35_i_i_i_i_i202_sroa_4_0_sroa_idx_i;
+    P v_35_i_i_i_i_i202_sroa_5_0_sroa_idx_i;
+    P v_35_i_i_i_i_i202_sroa_6_0_sroa_idx_i;
+    P v_35_i_i_i_i_i202_sroa_7_0_sroa_idx_i;
+    P v_35_i_i_i_i_i202_sroa_8_0_sroa_idx_i;
+    u64 v_274_i_i_i_i_i554_i;
+    u8 v_26_i_i_i_i_i555_i;
+    u64 v_305_i_i_i_i_i556_i;
+    u8 v_28_i_i_i_i_i557_i;
+    u8 v_31_i_i_i_i_i558_i;
+    u1 v_4_i49_i_i_i_i_i562_i;
+    u1 v_10_not_i52_i_i_i_i_i565_i;
+    u64 v_start1_i51_i_i_i_i_i564_i;
     P v_255;
-    P v_25_i_i_i_i_i208_sroa_4_0_sroa_idx_i;
-    P v_25_i_i_i_i_i208_sroa_5_0_sroa_idx_i;
-    P v_25_i_i_i_i_i208_sroa_6_0_sroa_idx_i;
-    P v_25_i_i_i_i_i208_sroa_7_0_sroa_idx_i;
+    P v_25_i_i_i_i_i203_sroa_4_0_sroa_idx_i;
+    P v_25_i_i_i_i_i203_sroa_5_0_sroa_idx_i;
+    P v_25_i_i_i_i_i203_sroa_6_0_sroa_idx_i;
+    P v_25_i_i_i_i_i203_sroa_7_0_sroa_idx_i;
     u64 v_writer_sroa_174_8_i;
-    u1 v_4_i_i8_i_i396_i;
-    u1 v_10_not_i_i11_i_i399_i;
-    u64 v_start1_i_i10_i_i398_i;
+    u1 v_4_i_i8_i_i_i388_i;
+    u1 v_10_not_i_i11_i_i_i391_i;
+    u64 v_start1_i_i10_i_i_i390_i;
     P v_256;
-    u64 v_0_sroa_0_0_i_i19_i_i408_i;
-    u8 v_5_i_i412_i;
-    u1 v_4_i_i413_i;
-    u1 v_4_i_i_i5_i_i;
-    u1 v_10_not_i_i_i_i542_i;
-    u64 v_start1_i_i_i_i541_i;
+    u64 v_0_sroa_0_0_i_i19_i_i_i400_i;
+    u8 v_5_i_i5_i403_i;
+    u1 v_4_i_i6_i404_i;
+    u1 v_4_i_i_i_i8_i534_i;
+    u1 v_10_not_i_i_i_i11_i537_i;
+    u64 v_start1_i_i_i_i10_i536_i;
     P v_257;
     u64 v_writer_sroa_174_9_i;
-    u64 v_5_i_i_i417_i;
-    u32 v_13_i_i_i418_i;
-    u1 v_4_i_i_i_i420_i;
-    u1 v_9_i_i_i_i422_i;
-    u16 v_8_i_i_i_i520_i;
-    u1 v_4_i_i_i_i_i524_i;
-    u1 v_10_not_i_i_i_i_i527_i;
-    u64 v_start1_i_i_i_i_i526_i;
+    u64 v_5_i_i_i408_i;
+    u32 v_13_i_i_i409_i;
+    u1 v_4_i_i_i_i411_i;
+    u1 v_9_i_i_i_i413_i;
+    u16 v_8_i_i_i_i511_i;
+    u1 v_4_i_i_i_i_i515_i;
+    u1 v_10_not_i_i_i_i_i518_i;
+    u64 v_start1_i_i_i_i_i517_i;
     P v_258;
-    u16 v_7_i_i_i_i243_sroa_0_sroa_4_0_insert_shift_i;
-    u16 v_7_i_i_i_i243_sroa_0_sroa_0_0_insert_insert_i;
-    u1 v_14_i_i_i_i424_i;
-    u8 v_13_i_i_i_i500_i;
-    u1 v_4_i11_i_i_i_i504_i;
-    u1 v_10_not_i14_i_i_i_i507_i;
-    u64 v_start1_i13_i_i_i_i506_i;
+    u16 v_7_i_i_i_i239_sroa_0_sroa_4_0_insert_shift_i;
+    u16 v_7_i_i_i_i239_sroa_0_sroa_0_0_insert_insert_i;
+    u1 v_14_i_i_i_i415_i;
+    u8 v_13_i_i_i_i491_i;
+    u1 v_4_i11_i_i_i_i495_i;
+    u1 v_10_not_i14_i_i_i_i498_i;
+    u64 v_start1_i13_i_i_i_i497_i;
     P v_259;
-    P v_12_i_i_i_i242_sroa_4_0_sroa_idx_i;
-    P v_12_i_i_i_i242_sroa_5_0_sroa_idx_i;
-    u1 v_22_i_i_i_i426_i;
-    u1 v_4_i30_i_i_i_i484_i;
-    u1 v_10_not_i33_i_i_i_i487_i;
-    u64 v_start1_i32_i_i_i_i486_i;
+    P v_12_i_i_i_i238_sroa_4_0_sroa_idx_i;
+    P v_12_i_i_i_i238_sroa_5_0_sroa_idx_i;
+    u1 v_22_i_i_i_i417_i;
+    u1 v_4_i30_i_i_i_i475_i;
+    u1 v_10_not_i33_i_i_i_i478_i;
+    u64 v_start1_i32_i_i_i_i477_i;
     P v_260;
     u32 v_261;
-    u32 v_17_i_i_i_i241_sroa_0_sroa_0_0_insert_insert_i;
-    u64 v_371_i_i_i_i428_i;
-    u8 v_36_i_i_i_i429_i;
-    u64 v_402_i_i_i_i430_i;
-    u8 v_38_i_i_i_i431_i;
-    u64 v_433_i_i_i_i432_i;
-    u8 v_41_i_i_i_i433_i;
-    u8 v_44_i_i_i_i434_i;
-    u1 v_4_i68_i_i_i_i438_i;
-    u1 v_10_not_i71_i_i_i_i441_i;
-    u64 v_start1_i70_i_i_i_i440_i;
+    u32 v_17_i_i_i_i237_sroa_0_sroa_0_0_insert_insert_i;
+    u64 v_371_i_i_i_i419_i;
+    u8 v_36_i_i_i_i420_i;
+    u64 v_402_i_i_i_i421_i;
+    u8 v_38_i_i_i_i422_i;
+    u64 v_433_i_i_i_i423_i;
+    u8 v_41_i_i_i_i424_i;
+    u8 v_44_i_i_i_i425_i;
+    u1 v_4_i68_i_i_i_i429_i;
+    u1 v_10_not_i71_i_i_i_i432_i;
+    u64 v_start1_i70_i_i_i_i431_i;
     P v_262;
-    P v_35_i_i_i_i239_sroa_4_0_sroa_idx_i;
-    P v_35_i_i_i_i239_sroa_5_0_sroa_idx_i;
-    P v_35_i_i_i_i239_sroa_6_0_sroa_idx_i;
-    P v_35_i_i_i_i239_sroa_7_0_sroa_idx_i;
-    P v_35_i_i_i_i239_sroa_8_0_sroa_idx_i;
-    u64 v_274_i_i_i_i454_i;
-    u8 v_26_i_i_i_i455_i;
-    u64 v_305_i_i_i_i456_i;
-    u8 v_28_i_i_i_i457_i;
-    u8 v_31_i_i_i_i458_i;
-    u1 v_4_i49_i_i_i_i462_i;
-    u1 v_10_not_i52_i_i_i_i465_i;
-    u64 v_start1_i51_i_i_i_i464_i;
+    P v_35_i_i_i_i235_sroa_4_0_sroa_idx_i;
+    P v_35_i_i_i_i235_sroa_5_0_sroa_idx_i;
+    P v_35_i_i_i_i235_sroa_6_0_sroa_idx_i;
+    P v_35_i_i_i_i235_sroa_7_0_sroa_idx_i;
+    P v_35_i_i_i_i235_sroa_8_0_sroa_idx_i;
+    u64 v_274_i_i_i_i445_i;
+    u8 v_26_i_i_i_i446_i;
+    u64 v_305_i_i_i_i447_i;
+    u8 v_28_i_i_i_i448_i;
+    u8 v_31_i_i_i_i449_i;
+    u1 v_4_i49_i_i_i_i453_i;
+    u1 v_10_not_i52_i_i_i_i456_i;
+    u64 v_start1_i51_i_i_i_i455_i;
     P v_263;
-    P v_25_i_i_i_i240_sroa_4_0_sroa_idx_i;
-    P v_25_i_i_i_i240_sroa_5_0_sroa_idx_i;
-    P v_25_i_i_i_i240_sroa_6_0_sroa_idx_i;
-    P v_25_i_i_i_i240_sroa_7_0_sroa_idx_i;
+    P v_25_i_i_i_i236_sroa_4_0_sroa_idx_i;
+    P v_25_i_i_i_i236_sroa_5_0_sroa_idx_i;
+    P v_25_i_i_i_i236_sroa_6_0_sroa_idx_i;
+    P v_25_i_i_i_i236_sroa_7_0_sroa_idx_i;
     u64 v_writer_sroa_174_10_i;
-    u1 v_4_i_i8_i_i_i_i_i_i_i;
-    u1 v_10_not_i_i11_i_i_i_i_i_i_i;
-    u64 v_start1_i_i10_i_i_i_i_i_i_i;
+    u1 v_4_i_i8_i_i_i_i_i_i_i_i;
+    u1 v_10_not_i_i11_i_i_i_i_i_i_i_i;
+    u64 v_start1_i_i10_i_i_i_i_i_i_i_i;
     P v_264;
-    u64 v_0_sroa_0_0_i_i19_i_i_i_i_i_i_i;
-    u8 v_5_i_i17_i_i_i_i_i;
-    u1 v_4_i3_i_i_i_i_i_i;
-    u1 v_4_i_i_i6_i_i_i_i_i_i;
-    u1 v_10_not_i_i_i_i27_i_i_i_i_i;
-    u64 v_start1_i_i_i_i26_i_i_i_i_i;
+    u64 v_0_sroa_0_0_i_i19_i_i_i_i_i_i_i_i;
+    u8 v_5_i_i5_i_i_i_i_i_i;
+    u1 v_4_i_i6_i_i_i_i_i_i;
+    u1 v_4_i_i_i_i8_i_i_i_i_i_i;
+    u1 v_10_not_i_i_i_i11_i_i_i_i_i_i;
+    u64 v_start1_i_i_i_i10_i_i_i_i_i_i;
     P v_265;
     u64 v_writer_sroa_174_11_i;
     u64 v_5_i_i_i_i_i_i_i_i;
-    u32 v_13_i_i_i19_i_i_i_i_i;
-    u1 v_4_i_i_i_i20_i_i_i_i_i;
-    u1 v_9_i_i_i_i22_i_i_i_i_i;
+    u32 v_13_i_i_i29_i_i_i_i_i;
+    u1 v_4_i_i_i_i30_i_i_i_i_i;
+    u1 v_9_i_i_i_i32_i_i_i_i_i;
     u16 v_8_i_i_i_i_i_i_i_i_i;
     u1 v_4_i_i_i_i_i_i_i_i_i_i;
     u1 v_10_not_i_i_i_i_i_i_i_i_i_i;
@@ -20191,8 +20191,8 @@ static u32 proved_private_key_encode(P v_key, P v_others, u64 v_others_len, P v_
     u1 v_10_not_i14_i_i_i_i_i_i_i_i_i;
     u64 v_start1_i13_i_i_i_i_i_i_i_i_i;
     P v_267;
-    P v_12_i_i_i_i13_i_i_i_i_sroa_4_0_sroa_idx_i;
-    P v_12_i_i_i_i13_i_i_i_i_sroa_5_0_sroa_idx_i;
+    P v_12_i_i_i_i22_i_i_i_i_sroa_4_0_sroa_idx_i;
+    P v_12_i_i_i_i22_i_i_i_i_sroa_5_0_sroa_idx_i;
     u1 v_22_i_i_i_i_i_i_i_i_i;
     u1 v_4_i30_i_i_i_i_i_i_i_i_i;
     u1 v_10_not_i33_i_i_i_i_i_i_i_i_i;
@@ -20230,22 +20230,22 @@ static u32 proved_private_key_encode(P v_key, P v_others, u64 v_others_len, P v_
     P v_25_i_i_i_i_i_i_i_i_sroa_6_0_sroa_idx_i;
     P v_25_i_i_i_i_i_i_i_i_sroa_7_0_sroa_idx_i;
     u64 v_writer_sroa_174_12_i;
-    u1 v_4_i_i8_i_i_i_i_i_i;
-    u1 v_10_not_i_i11_i_i_i_i_i_i;
-    u64 v_start1_i_i10_i_i_i_i_i_i;
+    u1 v_4_i_i8_i_i_i_i_i_i_i;
+    u1 v_10_not_i_i11_i_i_i_i_i_i_i;
+    u64 v_start1_i_i10_i_i_i_i_i_i_i;
     P v_272;
-    u64 v_0_sroa_0_0_i_i19_i_i_i_i_i_i;
-    u8 v_5_i_i18_i_i_i_i;
-    u1 v_4_i3_i_i_i_i_i;
-    u1 v_4_i_i_i6_i_i_i_i_i;
-    u1 v_10_not_i_i_i_i28_i_i_i_i;
-    u64 v_start1_i_i_i_i27_i_i_i_i;
+    u64 v_0_sroa_0_0_i_i19_i_i_i_i_i_i_i;
+    u8 v_5_i_i5_i_i_i_i_i;
+    u1 v_4_i_i6_i_i_i_i_i;
+    u1 v_4_i_i_i_i8_i_i_i_i_i;
+    u1 v_10_not_i_i_i_i11_i_i_i_i_i;
+    u64 v_start1_i_i_i_i10_i_i_i_i_i;
     P v_273;
     u64 v_writer_sroa_174_13_i;
     u64 v_5_i_i_i_i_i_i_i;
-    u32 v_13_i_i_i20_i_i_i_i;
-    u1 v_4_i_i_i_i21_i_i_i_i;
-    u1 v_9_i_i_i_i23_i_i_i_i;
+    u32 v_13_i_i_i29_i_i_i_i;
+    u1 v_4_i_i_i_i30_i_i_i_i;
+    u1 v_9_i_i_i_i32_i_i_i_i;
     u16 v_8_i_i_i_i_i_i_i_i;
     u1 v_4_i_i_i_i_i_i_i_i_i;
     u1 v_10_not_i_i_i_i_i_i_i_i_i;
@@ -20259,8 +20259,8 @@ static u32 proved_private_key_encode(P v_key, P v_others, u64 v_others_len, P v_
     u1 v_10_not_i14_i_i_i_i_i_i_i_i;
     u64 v_start1_i13_i_i_i_i_i_i_i_i;
     P v_275;
-    P v_12_i_i_i_i13_i_i_i_sroa_4_0_sroa_idx_i;
-    P v_12_i_i_i_i13_i_i_i_sroa_5_0_sroa_idx_i;
+    P v_12_i_i_i_i22_i_i_i_sroa_4_0_sroa_idx_i;
+    P v_12_i_i_i_i22_i_i_i_sroa_5_0_sroa_idx_i;
     u1 v_22_i_i_i_i_i_i_i_i;
     u1 v_4_i30_i_i_i_i_i_i_i_i;
     u1 v_10_not_i33_i_i_i_i_i_i_i_i;
@@ -20298,22 +20298,22 @@ static u32 proved_private_key_encode(P v_key, P v_others, u64 v_others_len, P v_
     P v_25_i_i_i_i_i_i_i_sroa_6_0_sroa_idx_i;
     P v_25_i_i_i_i_i_i_i_sroa_7_0_sroa_idx_i;
     u64 v_writer_sroa_174_14_i;
-    u1 v_4_i_i8_i_i_i_i_i;
-    u1 v_10_not_i_i11_i_i_i_i_i;
-    u64 v_start1_i_i10_i_i_i_i_i;
+    u1 v_4_i_i8_i_i_i_i_i_i;
+    u1 v_10_not_i_i11_i_i_i_i_i_i;
+    u64 v_start1_i_i10_i_i_i_i_i_i;
     P v_280;
-    u64 v_0_sroa_0_0_i_i19_i_i_i_i_i;
-    u8 v_5_i_i18_i_i_i;
-    u1 v_4_i3_i_i_i_i;
-    u1 v_4_i_i_i6_i_i_i_i;
-    u1 v_10_not_i_i_i_i28_i_i_i;
-    u64 v_start1_i_i_i_i27_i_i_i;
+    u64 v_0_sroa_0_0_i_i19_i_i_i_i_i_i;
+    u8 v_5_i_i5_i_i_i_i;
+    u1 v_4_i_i6_i_i_i_i;
+    u1 v_4_i_i_i_i8_i_i_i_i;
+    u1 v_10_not_i_i_i_i11_i_i_i_i;
+    u64 v_start1_i_i_i_i10_i_i_i_i;
     P v_281;
     u64 v_writer_sroa_174_15_i;
     u64 v_5_i_i_i_i_i_i;
-    u32 v_13_i_i_i20_i_i_i;
-    u1 v_4_i_i_i_i21_i_i_i;
-    u1 v_9_i_i_i_i23_i_i_i;
+    u32 v_13_i_i_i29_i_i_i;
+    u1 v_4_i_i_i_i30_i_i_i;
+    u1 v_9_i_i_i_i32_i_i_i;
     u16 v_8_i_i_i_i_i_i_i;
     u1 v_4_i_i_i_i_i_i_i_i;
     u1 v_10_not_i_i_i_i_i_i_i_i;
@@ -20327,8 +20327,8 @@ static u32 proved_private_key_encode(P v_key, P v_others, u64 v_others_len, P v_
     u1 v_10_not_i14_i_i_i_i_i_i_i;
     u64 v_start1_i13_i_i_i_i_i_i_i;
     P v_283;
-    P v_12_i_i_i_i13_i_i_sroa_4_0_sroa_idx_i;
-    P v_12_i_i_i_i13_i_i_sroa_5_0_sroa_idx_i;
+    P v_12_i_i_i_i22_i_i_sroa_4_0_sroa_idx_i;
+    P v_12_i_i_i_i22_i_i_sroa_5_0_sroa_idx_i;
     u1 v_22_i_i_i_i_i_i_i;
     u1 v_4_i30_i_i_i_i_i_i_i;
     u1 v_10_not_i33_i_i_i_i_i_i_i;
@@ -20366,22 +20366,22 @@ static u32 proved_private_key_encode(P v_key, P v_others, u64 v_others_len, P v_
     P v_25_i_i_i_i_i_i_sroa_6_0_sroa_idx_i;
     P v_25_i_i_i_i_i_i_sroa_7_0_sroa_idx_i;
     u64 v_writer_sroa_174_16_i;
-    u1 v_4_i_i8_i_i_i_i;
-    u1 v_10_not_i_i11_i_i_i_i;
-    u64 v_start1_i_i10_i_i_i_i;
+    u1 v_4_i_i8_i_i_i_i_i;
+    u1 v_10_not_i_i11_i_i_i_i_i;
+    u64 v_start1_i_i10_i_i_i_i_i;
     P v_288;
-    u64 v_0_sroa_0_0_i_i19_i_i_i_i;
-    u8 v_5_i_i18_i_i;
-    u1 v_4_i3_i_i_i;
-    u1 v_4_i_i_i6_i_i_i;
-    u1 v_10_not_i_i_i_i28_i_i;
-    u64 v_start1_i_i_i_i27_i_i;
+    u64 v_0_sroa_0_0_i_i19_i_i_i_i_i;
+    u8 v_5_i_i5_i_i_i;
+    u1 v_4_i_i6_i_i_i;
+    u1 v_4_i_i_i_i8_i_i_i;
+    u1 v_10_not_i_i_i_i11_i_i_i;
+    u64 v_start1_i_i_i_i10_i_i_i;
     P v_289;
     u64 v_writer_sroa_174_17_i;
     u64 v_5_i_i_i_i_i;
-    u32 v_13_i_i_i20_i_i;
-    u1 v_4_i_i_i_i21_i_i;
-    u1 v_9_i_i_i_i23_i_i;
+    u32 v_13_i_i_i29_i_i;
+    u1 v_4_i_i_i_i30_i_i;
+    u1 v_9_i_i_i_i32_i_i;
     u16 v_8_i_i_i_i_i_i;
     u1 v_4_i_i_i_i_i_i_i;
     u1 v_10_not_i_i_i_i_i_i_i;
@@ -20395,8 +20395,8 @@ static u32 proved_private_key_encode(P v_key, P v_others, u64 v_others_len, P v_
     u1 v_10_not_i14_i_i_i_i_i_i;
     u64 v_start1_i13_i_i_i_i_i_i;
     P v_291;
-    P v_12_i_i_i_i13_i_sroa_4_0_sroa_idx_i;
-    P v_12_i_i_i_i13_i_sroa_5_0_sroa_idx_i;
+    P v_12_i_i_i_i22_i_sroa_4_0_sroa_idx_i;
+    P v_12_i_i_i_i22_i_sroa_5_0_sroa_idx_i;
     u1 v_22_i_i_i_i_i_i;
     u1 v_4_i30_i_i_i_i_i_i;
     u1 v_10_not_i33_i_i_i_i_i_i;
@@ -20434,22 +20434,22 @@ static u32 proved_private_key_encode(P v_key, P v_others, u64 v_others_len, P v_
     P v_25_i_i_i_i_i_sroa_6_0_sroa_idx_i;
     P v_25_i_i_i_i_i_sroa_7_0_sroa_idx_i;
     u64 v_writer_sroa_174_18_i;
-    u1 v_4_i_i8_i_i_i;
-    u1 v_10_not_i_i11_i_i_i;
-    u64 v_start1_i_i10_i_i_i;
+    u1 v_4_i_i8_i_i_i_i;
+    u1 v_10_not_i_i11_i_i_i_i;
+    u64 v_start1_i_i10_i_i_i_i;
     P v_296;
-    u64 v_0_sroa_0_0_i_i19_i_i_i;
-    u8 v_5_i_i15_i;
-    u1 v_4_i3_i_i;
-    u1 v_4_i_i_i6_i_i;
-    u1 v_10_not_i_i_i_i26_i;
-    u64 v_start1_i_i_i_i25_i;
+    u64 v_0_sroa_0_0_i_i19_i_i_i_i;
+    u8 v_5_i_i5_i_i;
+    u1 v_4_i_i6_i_i;
+    u1 v_4_i_i_i_i8_i_i;
+    u1 v_10_not_i_i_i_i11_i_i;
+    u64 v_start1_i_i_i_i10_i_i;
     P v_297;
     u64 v_writer_sroa_174_19_i;
     u64 v_5_i_i_i_i;
-    u32 v_13_i_i_i17_i;
-    u1 v_4_i_i_i_i18_i;
-    u1 v_9_i_i_i_i20_i;
+    u32 v_13_i_i_i24_i;
+    u1 v_4_i_i_i_i25_i;
+    u1 v_9_i_i_i_i27_i;
     u16 v_8_i_i_i_i_i;
     u1 v_4_i_i_i_i_i_i;
     u1 v_10_not_i_i_i_i_i_i;
@@ -20463,8 +20463,8 @@ static u32 proved_private_key_encode(P v_key, P v_others, u64 v_others_len, P v_
     u1 v_10_not_i14_i_i_i_i_i;
     u64 v_start1_i13_i_i_i_i_i;
     P v_299;
-    P v_12_i_i_i_i11_sroa_4_0_sroa_idx_i;
-    P v_12_i_i_i_i11_sroa_5_0_sroa_idx_i;
+    P v_12_i_i_i_i18_sroa_4_0_sroa_idx_i;
+    P v_12_i_i_i_i18_sroa_5_0_sroa_idx_i;
     u1 v_22_i_i_i_i_i;
     u1 v_4_i30_i_i_i_i_i;
     u1 v_10_not_i33_i_i_i_i_i;
@@ -20502,16 +20502,16 @@ static u32 proved_private_key_encode(P v_key, P v_others, u64 v_others_len, P v_
     P v_25_i_i_i_i_sroa_6_0_sroa_idx_i;
     P v_25_i_i_i_i_sroa_7_0_sroa_idx_i;
     u64 v_writer_sroa_174_20_i;
-    u1 v_4_i_i13_i_i;
-    u1 v_10_not_i_i16_i_i;
-    u64 v_start1_i_i15_i_i;
+    u1 v_4_i_i8_i_i;
+    u1 v_10_not_i_i11_i_i;
+    u64 v_start1_i_i10_i_i;
     P v_304;
-    u64 v_writer_sroa_174_202600_i;
-    u64 v_0_sroa_0_0_i_i24_i_i;
+    u64 v_writer_sroa_174_202617_i;
+    u64 v_0_sroa_0_0_i_i19_i_i;
     u64 v_5_i_i_i;
-    u32 v_13_i29_i_i;
-    u1 v_4_i_i30_i_i;
-    u1 v_9_i_i32_i_i;
+    u32 v_13_i4_i_i;
+    u1 v_4_i_i_i_i;
+    u1 v_9_i_i_i_i;
     u16 v_8_i_i_i_i;
     u1 v_4_i_i_i_i_i;
     u1 v_10_not_i_i_i_i_i;
@@ -20525,8 +20525,8 @@ static u32 proved_private_key_encode(P v_key, P v_others, u64 v_others_len, P v_
     u1 v_10_not_i14_i_i_i_i;
     u64 v_start1_i13_i_i_i_i;
     P v_306;
-    P v_12_i_i28_i_sroa_4_0_sroa_idx_i;
-    P v_12_i_i28_i_sroa_5_0_sroa_idx_i;
+    P v_12_i_i_i_sroa_4_0_sroa_idx_i;
+    P v_12_i_i_i_sroa_5_0_sroa_idx_i;
     u1 v_22_i_i_i_i;
     u1 v_4_i30_i_i_i_i;
     u1 v_10_not_i33_i_i_i_i;
@@ -20564,61 +20564,61 @@ static u32 proved_private_key_encode(P v_key, P v_others, u64 v_others_len, P v_
     P v_25_i_i_i_sroa_6_0_sroa_idx_i;
     P v_25_i_i_i_sroa_7_0_sroa_idx_i;
     u64 v_writer_sroa_174_22_i;
-    u64 v_5_i63_i_i;
-    u32 v_13_i64_i_i;
-    u1 v_4_i_i66_i_i;
-    u1 v_9_i_i68_i_i;
-    u16 v_8_i_i166_i_i;
-    u1 v_4_i_i_i170_i_i;
-    u1 v_10_not_i_i_i173_i_i;
+    u64 v_5_i32_i_i;
+    u32 v_13_i33_i_i;
+    u1 v_4_i_i35_i_i;
+    u1 v_9_i_i37_i_i;
+    u16 v_8_i_i135_i_i;
+    u1 v_4_i_i_i139_i_i;
+    u1 v_10_not_i_i_i142_i_i;
     P v_311;
     P v_312;
-    u16 v_7_i_i60_i_sroa_0_sroa_4_0_insert_shift_i;
-    u16 v_7_i_i60_i_sroa_0_sroa_0_0_insert_insert_i;
-    u1 v_14_i_i70_i_i;
-    u8 v_13_i_i146_i_i;
-    u1 v_4_i11_i_i150_i_i;
-    u1 v_10_not_i14_i_i153_i_i;
+    u16 v_7_i_i29_i_sroa_0_sroa_4_0_insert_shift_i;
+    u16 v_7_i_i29_i_sroa_0_sroa_0_0_insert_insert_i;
+    u1 v_14_i_i39_i_i;
+    u8 v_13_i_i115_i_i;
+    u1 v_4_i11_i_i119_i_i;
+    u1 v_10_not_i14_i_i122_i_i;
     P v_313;
     P v_314;
-    P v_12_i_i59_i_sroa_4_0_sroa_idx_i;
-    P v_12_i_i59_i_sroa_5_0_sroa_idx_i;
-    u1 v_22_i_i72_i_i;
-    u1 v_4_i30_i_i130_i_i;
-    u1 v_10_not_i33_i_i133_i_i;
+    P v_12_i_i28_i_sroa_4_0_sroa_idx_i;
+    P v_12_i_i28_i_sroa_5_0_sroa_idx_i;
+    u1 v_22_i_i41_i_i;
+    u1 v_4_i30_i_i99_i_i;
+    u1 v_10_not_i33_i_i102_i_i;
     P v_315;
     P v_316;
     u32 v_317;
-    u32 v_17_i_i58_i_sroa_0_sroa_0_0_insert_insert_i;
-    u64 v_371_i_i74_i_i;
-    u8 v_36_i_i75_i_i;
-    u64 v_402_i_i76_i_i;
-    u8 v_38_i_i77_i_i;
-    u64 v_433_i_i78_i_i;
-    u8 v_41_i_i79_i_i;
-    u8 v_44_i_i80_i_i;
-    u1 v_4_i68_i_i84_i_i;
-    u1 v_10_not_i71_i_i87_i_i;
+    u32 v_17_i_i27_i_sroa_0_sroa_0_0_insert_insert_i;
+    u64 v_371_i_i43_i_i;
+    u8 v_36_i_i44_i_i;
+    u64 v_402_i_i45_i_i;
+    u8 v_38_i_i46_i_i;
+    u64 v_433_i_i47_i_i;
+    u8 v_41_i_i48_i_i;
+    u8 v_44_i_i49_i_i;
+    u1 v_4_i68_i_i53_i_i;
+    u1 v_10_not_i71_i_i56_i_i;
     P v_318;
     P v_319;
-    P v_35_i_i56_i_sroa_4_0_sroa_idx_i;
-    P v_35_i_i56_i_sroa_5_0_sroa_idx_i;
-    P v_35_i_i56_i_sroa_6_0_sroa_idx_i;
-    P v_35_i_i56_i_sroa_7_0_sroa_idx_i;
-    P v_35_i_i56_i_sroa_8_0_sroa_idx_i;
-    u64 v_274_i_i100_i_i;
-    u8 v_26_i_i101_i_i;
-    u64 v_305_i_i102_i_i;
-    u8 v_28_i_i103_i_i;
-    u8 v_31_i_i104_i_i;
-    u1 v_4_i49_i_i108_i_i;
-    u1 v_10_not_i52_i_i111_i_i;
+    P v_35_i_i25_i_sroa_4_0_sroa_idx_i;
+    P v_35_i_i25_i_sroa_5_0_sroa_idx_i;
+    P v_35_i_i25_i_sroa_6_0_sroa_idx_i;
+    P v_35_i_i25_i_sroa_7_0_sroa_idx_i;
+    P v_35_i_i25_i_sroa_8_0_sroa_idx_i;
+    u64 v_274_i_i69_i_i;
+    u8 v_26_i_i70_i_i;
+    u64 v_305_i_i71_i_i;
+    u8 v_28_i_i72_i_i;
+    u8 v_31_i_i73_i_i;
+    u1 v_4_i49_i_i77_i_i;
+    u1 v_10_not_i52_i_i80_i_i;
     P v_320;
     P v_321;
-    P v_25_i_i57_i_sroa_4_0_sroa_idx_i;
-    P v_25_i_i57_i_sroa_5_0_sroa_idx_i;
-    P v_25_i_i57_i_sroa_6_0_sroa_idx_i;
-    P v_25_i_i57_i_sroa_7_0_sroa_idx_i;
+    P v_25_i_i26_i_sroa_4_0_sroa_idx_i;
+    P v_25_i_i26_i_sroa_5_0_sroa_idx_i;
+    P v_25_i_i26_i_sroa_6_0_sroa_idx_i;
+    P v_25_i_i26_i_sroa_7_0_sroa_idx_i;
     u32 v_0_sroa_0_1;
     v_0 = v_key + 128;
     v_10 = get_u64(v_0);
@@ -21016,246 +21016,246 @@ L_bb2_i_i:;
     v_left_sroa_0_011_i_i = p_v_left_sroa_0_011_i_i;
     v_0_i_i810_i_i = p_v_0_i_i810_i_i;
     v_68 = (u64)((u64)(v_left_sroa_0_011_i_i) + (u64)(18446744073709551615ull));
-    v_7_i959_i = v_others + (int64_t)(v_68 * 48);
-    v_15_0_i_i_i_i = get_P(v_7_i959_i);
-    v_69 = v_7_i959_i + 8;
+    v_7_i970_i = v_others + (int64_t)(v_68 * 48);
+    v_15_0_i_i_i_i = get_P(v_7_i970_i);
+    v_69 = v_7_i970_i + 8;
     v_15_1_i_i_i_i = get_u64(v_69);
-    v_36_i_i_i_i960_i = v_15_1_i_i_i_i > 1u;
-    if (v_36_i_i_i_i960_i) { goto L_bb3_preheader_i_i_i_i_i; } else { goto L_uint_strip_exit_i_i_i_i; }
+    v_36_i_i_i_i971_i = v_15_1_i_i_i_i > 1u;
+    if (v_36_i_i_i_i971_i) { goto L_bb3_preheader_i_i_i_i_i; } else { goto L_uint_strip_exit_i_i_i_i; }
 L_bb3_preheader_i_i_i_i_i:;
     v_70 = (P)((u64)v_15_0_i_i_i_i + (u64)(v_15_1_i_i_i_i));
     v_scevgep_i_i_i_i_i = (P)((u64)v_70 + (u64)(-1));
-    { p_v_rest_sroa_0_08_i_i_i_i_i = v_15_0_i_i_i_i; p_v_rest_sroa_9_07_i_i_i_i_i = v_15_1_i_i_i_i; goto L_bb3_i_i44_i_i_i; }
-L_bb3_i_i44_i_i_i:;
+    { p_v_rest_sroa_0_08_i_i_i_i_i = v_15_0_i_i_i_i; p_v_rest_sroa_9_07_i_i_i_i_i = v_15_1_i_i_i_i; goto L_bb3_i_i39_i_i_i; }
+L_bb3_i_i39_i_i_i:;
     v_rest_sroa_0_08_i_i_i_i_i = p_v_rest_sroa_0_08_i_i_i_i_i;
     v_rest_sroa_9_07_i_i_i_i_i = p_v_rest_sroa_9_07_i_i_i_i_i;
-    v_6_i_i45_i_i_i = get_u8(v_rest_sroa_0_08_i_i_i_i_i);
-    v_71 = v_6_i_i45_i_i_i == 0u;
-    if (v_71) { goto L_bb9_i_i49_i_i_i; } else { p_v_rest_sroa_0_08_i_i_i_i_i_lcssa = v_rest_sroa_0_08_i_i_i_i_i; p_v_rest_sroa_9_07_i_i_i_i_i_lcssa = v_rest_sroa_9_07_i_i_i_i_i; goto L_bb3_i46_i_i_i; }
-L_bb9_i_i49_i_i_i:;
-    v_16_i_i_i_i1002_i = (u64)((u64)(v_rest_sroa_9_07_i_i_i_i_i) + (u64)(18446744073709551615ull));
-    v_17_i_i_i_i1003_i = v_rest_sroa_0_08_i_i_i_i_i + 1;
-    v_3_i_i_i_i1004_i = v_16_i_i_i_i1002_i > 1u;
-    if (v_3_i_i_i_i1004_i) { p_v_rest_sroa_0_08_i_i_i_i_i = v_17_i_i_i_i1003_i; p_v_rest_sroa_9_07_i_i_i_i_i = v_16_i_i_i_i1002_i; goto L_bb3_i_i44_i_i_i; } else { goto L_UintRef_new_exit_i_i_i; }
+    v_6_i_i40_i_i_i = get_u8(v_rest_sroa_0_08_i_i_i_i_i);
+    v_71 = v_6_i_i40_i_i_i == 0u;
+    if (v_71) { goto L_bb9_i_i43_i_i_i; } else { p_v_rest_sroa_0_08_i_i_i_i_i_lcssa = v_rest_sroa_0_08_i_i_i_i_i; p_v_rest_sroa_9_07_i_i_i_i_i_lcssa = v_rest_sroa_9_07_i_i_i_i_i; goto L_bb3_i41_i_i_i; }
+L_bb9_i_i43_i_i_i:;
+    v_16_i_i_i_i1014_i = (u64)((u64)(v_rest_sroa_9_07_i_i_i_i_i) + (u64)(18446744073709551615ull));
+    v_17_i_i_i_i1015_i = v_rest_sroa_0_08_i_i_i_i_i + 1;
+    v_3_i_i_i_i1016_i = v_16_i_i_i_i1014_i > 1u;
+    if (v_3_i_i_i_i1016_i) { p_v_rest_sroa_0_08_i_i_i_i_i = v_17_i_i_i_i1015_i; p_v_rest_sroa_9_07_i_i_i_i_i = v_16_i_i_i_i1014_i; goto L_bb3_i_i39_i_i_i; } else { goto L_UintRef_new_exit_i_i_i; }
 L_uint_strip_exit_i_i_i_i:;
     v_72 = v_15_1_i_i_i_i == 0u;
-    if (v_72) { p_v_counter_i_sroa_0_1_i = v_counter_i_sroa_0_0_i; p_v_0_i_i7_i_i = v_0_i_i810_i_i; goto L_counter_Counter_exit_i_i; } else { p_v_19_i_sroa_0_0115_i_i_i = v_15_0_i_i_i_i; p_v_19_i_sroa_7_0114_i_i_i = 1u; goto L_bb7_i_i_i961_i; }
-L_bb3_i46_i_i_i:;
+    if (v_72) { p_v_counter_i_sroa_0_1_i = v_counter_i_sroa_0_0_i; p_v_0_i_i7_i_i = v_0_i_i810_i_i; goto L_counter_Counter_exit_i_i; } else { p_v_19_i_sroa_0_0109_i_i_i = v_15_0_i_i_i_i; p_v_19_i_sroa_7_0108_i_i_i = 1u; goto L_bb7_i_i_i972_i; }
+L_bb3_i41_i_i_i:;
     v_rest_sroa_0_08_i_i_i_i_i_lcssa = p_v_rest_sroa_0_08_i_i_i_i_i_lcssa;
     v_rest_sroa_9_07_i_i_i_i_i_lcssa = p_v_rest_sroa_9_07_i_i_i_i_i_lcssa;
-    v_5_i47_i_i_i = v_rest_sroa_9_07_i_i_i_i_i_lcssa > 4294967295ull;
-    if (v_5_i47_i_i_i) { p_v_counter_i_sroa_0_1_i = v_counter_i_sroa_0_0_i; p_v_0_i_i7_i_i = v_0_i_i810_i_i; goto L_counter_Counter_exit_i_i; } else { p_v_19_i_sroa_0_0115_i_i_i = v_rest_sroa_0_08_i_i_i_i_i_lcssa; p_v_19_i_sroa_7_0114_i_i_i = v_rest_sroa_9_07_i_i_i_i_i_lcssa; goto L_bb7_i_i_i961_i; }
+    v_5_i_i_i1013_i = v_rest_sroa_9_07_i_i_i_i_i_lcssa > 4294967295ull;
+    if (v_5_i_i_i1013_i) { p_v_counter_i_sroa_0_1_i = v_counter_i_sroa_0_0_i; p_v_0_i_i7_i_i = v_0_i_i810_i_i; goto L_counter_Counter_exit_i_i; } else { p_v_19_i_sroa_0_0109_i_i_i = v_rest_sroa_0_08_i_i_i_i_i_lcssa; p_v_19_i_sroa_7_0108_i_i_i = v_rest_sroa_9_07_i_i_i_i_i_lcssa; goto L_bb7_i_i_i972_i; }
 L_UintRef_new_exit_i_i_i:;
     v_73 = v_scevgep_i_i_i_i_i == (P)0;
-    if (v_73) { p_v_counter_i_sroa_0_1_i = v_counter_i_sroa_0_0_i; p_v_0_i_i7_i_i = v_0_i_i810_i_i; goto L_counter_Counter_exit_i_i; } else { p_v_19_i_sroa_0_0115_i_i_i = v_scevgep_i_i_i_i_i; p_v_19_i_sroa_7_0114_i_i_i = 1u; goto L_bb7_i_i_i961_i; }
-L_bb7_i_i_i961_i:;
-    v_19_i_sroa_0_0115_i_i_i = p_v_19_i_sroa_0_0115_i_i_i;
-    v_19_i_sroa_7_0114_i_i_i = p_v_19_i_sroa_7_0114_i_i_i;
-    v_74 = v_7_i959_i + 16;
+    if (v_73) { p_v_counter_i_sroa_0_1_i = v_counter_i_sroa_0_0_i; p_v_0_i_i7_i_i = v_0_i_i810_i_i; goto L_counter_Counter_exit_i_i; } else { p_v_19_i_sroa_0_0109_i_i_i = v_scevgep_i_i_i_i_i; p_v_19_i_sroa_7_0108_i_i_i = 1u; goto L_bb7_i_i_i972_i; }
+L_bb7_i_i_i972_i:;
+    v_19_i_sroa_0_0109_i_i_i = p_v_19_i_sroa_0_0109_i_i_i;
+    v_19_i_sroa_7_0108_i_i_i = p_v_19_i_sroa_7_0108_i_i_i;
+    v_74 = v_7_i970_i + 16;
     v_16_0_i_i_i_i = get_P(v_74);
-    v_75 = v_7_i959_i + 24;
+    v_75 = v_7_i970_i + 24;
     v_16_1_i_i_i_i = get_u64(v_75);
-    v_36_i_i50_i_i_i = v_16_1_i_i_i_i > 1u;
-    if (v_36_i_i50_i_i_i) { goto L_bb3_preheader_i_i58_i_i_i; } else { goto L_uint_strip_exit_i51_i_i_i; }
-L_bb3_preheader_i_i58_i_i_i:;
+    v_36_i_i44_i_i_i = v_16_1_i_i_i_i > 1u;
+    if (v_36_i_i44_i_i_i) { goto L_bb3_preheader_i_i52_i_i_i; } else { goto L_uint_strip_exit_i45_i_i_i; }
+L_bb3_preheader_i_i52_i_i_i:;
     v_76 = (P)((u64)v_16_0_i_i_i_i + (u64)(v_16_1_i_i_i_i));
-    v_scevgep_i_i59_i_i_i = (P)((u64)v_76 + (u64)(-1));
-    { p_v_rest_sroa_0_08_i_i61_i_i_i = v_16_0_i_i_i_i; p_v_rest_sroa_9_07_i_i62_i_i_i = v_16_1_i_i_i_i; goto L_bb3_i_i60_i_i_i; }
-L_bb3_i_i60_i_i_i:;
-    v_rest_sroa_0_08_i_i61_i_i_i = p_v_rest_sroa_0_08_i_i61_i_i_i;
-    v_rest_sroa_9_07_i_i62_i_i_i = p_v_rest_sroa_9_07_i_i62_i_i_i;
-    v_6_i_i63_i_i_i = get_u8(v_rest_sroa_0_08_i_i61_i_i_i);
-    v_77 = v_6_i_i63_i_i_i == 0u;
-    if (v_77) { goto L_bb9_i_i67_i_i_i; } else { p_v_rest_sroa_0_08_i_i61_i_i_i_lcssa = v_rest_sroa_0_08_i_i61_i_i_i; p_v_rest_sroa_9_07_i_i62_i_i_i_lcssa = v_rest_sroa_9_07_i_i62_i_i_i; goto L_bb3_i64_i_i_i; }
-L_bb9_i_i67_i_i_i:;
-    v_16_i_i68_i_i_i = (u64)((u64)(v_rest_sroa_9_07_i_i62_i_i_i) + (u64)(18446744073709551615ull));
-    v_17_i_i69_i_i_i = v_rest_sroa_0_08_i_i61_i_i_i + 1;
-    v_3_i_i70_i_i_i = v_16_i_i68_i_i_i > 1u;
-    if (v_3_i_i70_i_i_i) { p_v_rest_sroa_0_08_i_i61_i_i_i = v_17_i_i69_i_i_i; p_v_rest_sroa_9_07_i_i62_i_i_i = v_16_i_i68_i_i_i; goto L_bb3_i_i60_i_i_i; } else { goto L_UintRef_new_exit71_i_i_i; }
-L_uint_strip_exit_i51_i_i_i:;
+    v_scevgep_i_i53_i_i_i = (P)((u64)v_76 + (u64)(-1));
+    { p_v_rest_sroa_0_08_i_i55_i_i_i = v_16_0_i_i_i_i; p_v_rest_sroa_9_07_i_i56_i_i_i = v_16_1_i_i_i_i; goto L_bb3_i_i54_i_i_i; }
+L_bb3_i_i54_i_i_i:;
+    v_rest_sroa_0_08_i_i55_i_i_i = p_v_rest_sroa_0_08_i_i55_i_i_i;
+    v_rest_sroa_9_07_i_i56_i_i_i = p_v_rest_sroa_9_07_i_i56_i_i_i;
+    v_6_i_i57_i_i_i = get_u8(v_rest_sroa_0_08_i_i55_i_i_i);
+    v_77 = v_6_i_i57_i_i_i == 0u;
+    if (v_77) { goto L_bb9_i_i61_i_i_i; } else { p_v_rest_sroa_0_08_i_i55_i_i_i_lcssa = v_rest_sroa_0_08_i_i55_i_i_i; p_v_rest_sroa_9_07_i_i56_i_i_i_lcssa = v_rest_sroa_9_07_i_i56_i_i_i; goto L_bb3_i58_i_i_i; }
+L_bb9_i_i61_i_i_i:;
+    v_16_i_i62_i_i_i = (u64)((u64)(v_rest_sroa_9_07_i_i56_i_i_i) + (u64)(18446744073709551615ull));
+    v_17_i_i63_i_i_i = v_rest_sroa_0_08_i_i55_i_i_i + 1;
+    v_3_i_i64_i_i_i = v_16_i_i62_i_i_i > 1u;
+    if (v_3_i_i64_i_i_i) { p_v_rest_sroa_0_08_i_i55_i_i_i = v_17_i_i63_i_i_i; p_v_rest_sroa_9_07_i_i56_i_i_i = v_16_i_i62_i_i_i; goto L_bb3_i_i54_i_i_i; } else { goto L_UintRef_new_exit65_i_i_i; }
+L_uint_strip_exit_i45_i_i_i:;
     v_78 = v_16_1_i_i_i_i == 0u;
-    if (v_78) { p_v_counter_i_sroa_0_1_i = v_counter_i_sroa_0_0_i; p_v_0_i_i7_i_i = v_0_i_i810_i_i; goto L_counter_Counter_exit_i_i; } else { p_v_32_i_sroa_7_0125_i_i_i = 1u; p_v_32_i_sroa_0_0124_i_i_i = v_16_0_i_i_i_i; goto L_bb10_i_i_i962_i; }
-L_bb3_i64_i_i_i:;
-    v_rest_sroa_0_08_i_i61_i_i_i_lcssa = p_v_rest_sroa_0_08_i_i61_i_i_i_lcssa;
-    v_rest_sroa_9_07_i_i62_i_i_i_lcssa = p_v_rest_sroa_9_07_i_i62_i_i_i_lcssa;
-    v_5_i65_i_i_i = v_rest_sroa_9_07_i_i62_i_i_i_lcssa > 4294967295ull;
-    if (v_5_i65_i_i_i) { p_v_counter_i_sroa_0_1_i = v_counter_i_sroa_0_0_i; p_v_0_i_i7_i_i = v_0_i_i810_i_i; goto L_counter_Counter_exit_i_i; } else { p_v_32_i_sroa_7_0125_i_i_i = v_rest_sroa_9_07_i_i62_i_i_i_lcssa; p_v_32_i_sroa_0_0124_i_i_i = v_rest_sroa_0_08_i_i61_i_i_i_lcssa; goto L_bb10_i_i_i962_i; }
-L_UintRef_new_exit71_i_i_i:;
-    v_79 = v_scevgep_i_i59_i_i_i == (P)0;
-    if (v_79) { p_v_counter_i_sroa_0_1_i = v_counter_i_sroa_0_0_i; p_v_0_i_i7_i_i = v_0_i_i810_i_i; goto L_counter_Counter_exit_i_i; } else { p_v_32_i_sroa_7_0125_i_i_i = 1u; p_v_32_i_sroa_0_0124_i_i_i = v_scevgep_i_i59_i_i_i; goto L_bb10_i_i_i962_i; }
-L_bb10_i_i_i962_i:;
-    v_32_i_sroa_7_0125_i_i_i = p_v_32_i_sroa_7_0125_i_i_i;
-    v_32_i_sroa_0_0124_i_i_i = p_v_32_i_sroa_0_0124_i_i_i;
-    v_80 = v_7_i959_i + 32;
+    if (v_78) { p_v_counter_i_sroa_0_1_i = v_counter_i_sroa_0_0_i; p_v_0_i_i7_i_i = v_0_i_i810_i_i; goto L_counter_Counter_exit_i_i; } else { p_v_32_i_sroa_7_0119_i_i_i = 1u; p_v_32_i_sroa_0_0118_i_i_i = v_16_0_i_i_i_i; goto L_bb10_i_i_i973_i; }
+L_bb3_i58_i_i_i:;
+    v_rest_sroa_0_08_i_i55_i_i_i_lcssa = p_v_rest_sroa_0_08_i_i55_i_i_i_lcssa;
+    v_rest_sroa_9_07_i_i56_i_i_i_lcssa = p_v_rest_sroa_9_07_i_i56_i_i_i_lcssa;
+    v_5_i59_i_i_i = v_rest_sroa_9_07_i_i56_i_i_i_lcssa > 4294967295ull;
+    if (v_5_i59_i_i_i) { p_v_counter_i_sroa_0_1_i = v_counter_i_sroa_0_0_i; p_v_0_i_i7_i_i = v_0_i_i810_i_i; goto L_counter_Counter_exit_i_i; } else { p_v_32_i_sroa_7_0119_i_i_i = v_rest_sroa_9_07_i_i56_i_i_i_lcssa; p_v_32_i_sroa_0_0118_i_i_i = v_rest_sroa_0_08_i_i55_i_i_i_lcssa; goto L_bb10_i_i_i973_i; }
+L_UintRef_new_exit65_i_i_i:;
+    v_79 = v_scevgep_i_i53_i_i_i == (P)0;
+    if (v_79) { p_v_counter_i_sroa_0_1_i = v_counter_i_sroa_0_0_i; p_v_0_i_i7_i_i = v_0_i_i810_i_i; goto L_counter_Counter_exit_i_i; } else { p_v_32_i_sroa_7_0119_i_i_i = 1u; p_v_32_i_sroa_0_0118_i_i_i = v_scevgep_i_i53_i_i_i; goto L_bb10_i_i_i973_i; }
+L_bb10_i_i_i973_i:;
+    v_32_i_sroa_7_0119_i_i_i = p_v_32_i_sroa_7_0119_i_i_i;
+    v_32_i_sroa_0_0118_i_i_i = p_v_32_i_sroa_0_0118_i_i_i;
+    v_80 = v_7_i970_i + 32;
     v_17_0_i_i_i_i = get_P(v_80);
-    v_81 = v_7_i959_i + 40;
+    v_81 = v_7_i970_i + 40;
     v_17_1_i_i_i_i = get_u64(v_81);
-    v_36_i_i72_i_i_i = v_17_1_i_i_i_i > 1u;
-    if (v_36_i_i72_i_i_i) { goto L_bb3_preheader_i_i80_i_i_i; } else { goto L_uint_strip_exit_i73_i_i_i; }
-L_bb3_preheader_i_i80_i_i_i:;
+    v_36_i_i66_i_i_i = v_17_1_i_i_i_i > 1u;
+    if (v_36_i_i66_i_i_i) { goto L_bb3_preheader_i_i74_i_i_i; } else { goto L_uint_strip_exit_i67_i_i_i; }
+L_bb3_preheader_i_i74_i_i_i:;
     v_82 = (P)((u64)v_17_0_i_i_i_i + (u64)(v_17_1_i_i_i_i));
-    v_scevgep_i_i81_i_i_i = (P)((u64)v_82 + (u64)(-1));
-    { p_v_rest_sroa_0_08_i_i83_i_i_i = v_17_0_i_i_i_i; p_v_rest_sroa_9_07_i_i84_i_i_i = v_17_1_i_i_i_i; goto L_bb3_i_i82_i_i_i; }
-L_bb3_i_i82_i_i_i:;
-    v_rest_sroa_0_08_i_i83_i_i_i = p_v_rest_sroa_0_08_i_i83_i_i_i;
-    v_rest_sroa_9_07_i_i84_i_i_i = p_v_rest_sroa_9_07_i_i84_i_i_i;
-    v_6_i_i85_i_i_i = get_u8(v_rest_sroa_0_08_i_i83_i_i_i);
-    v_83 = v_6_i_i85_i_i_i == 0u;
-    if (v_83) { goto L_bb9_i_i89_i_i_i; } else { p_v_rest_sroa_0_08_i_i83_i_i_i_lcssa = v_rest_sroa_0_08_i_i83_i_i_i; p_v_rest_sroa_9_07_i_i84_i_i_i_lcssa = v_rest_sroa_9_07_i_i84_i_i_i; goto L_bb3_i86_i_i_i; }
-L_bb9_i_i89_i_i_i:;
-    v_16_i_i90_i_i_i = (u64)((u64)(v_rest_sroa_9_07_i_i84_i_i_i) + (u64)(18446744073709551615ull));
-    v_17_i_i91_i_i_i = v_rest_sroa_0_08_i_i83_i_i_i + 1;
-    v_3_i_i92_i_i_i = v_16_i_i90_i_i_i > 1u;
-    if (v_3_i_i92_i_i_i) { p_v_rest_sroa_0_08_i_i83_i_i_i = v_17_i_i91_i_i_i; p_v_rest_sroa_9_07_i_i84_i_i_i = v_16_i_i90_i_i_i; goto L_bb3_i_i82_i_i_i; } else { goto L_UintRef_new_exit93_i_i_i; }
-L_uint_strip_exit_i73_i_i_i:;
+    v_scevgep_i_i75_i_i_i = (P)((u64)v_82 + (u64)(-1));
+    { p_v_rest_sroa_0_08_i_i77_i_i_i = v_17_0_i_i_i_i; p_v_rest_sroa_9_07_i_i78_i_i_i = v_17_1_i_i_i_i; goto L_bb3_i_i76_i_i_i; }
+L_bb3_i_i76_i_i_i:;
+    v_rest_sroa_0_08_i_i77_i_i_i = p_v_rest_sroa_0_08_i_i77_i_i_i;
+    v_rest_sroa_9_07_i_i78_i_i_i = p_v_rest_sroa_9_07_i_i78_i_i_i;
+    v_6_i_i79_i_i_i = get_u8(v_rest_sroa_0_08_i_i77_i_i_i);
+    v_83 = v_6_i_i79_i_i_i == 0u;
+    if (v_83) { goto L_bb9_i_i83_i_i_i; } else { p_v_rest_sroa_0_08_i_i77_i_i_i_lcssa = v_rest_sroa_0_08_i_i77_i_i_i; p_v_rest_sroa_9_07_i_i78_i_i_i_lcssa = v_rest_sroa_9_07_i_i78_i_i_i; goto L_bb3_i80_i_i_i; }
+L_bb9_i_i83_i_i_i:;
+    v_16_i_i84_i_i_i = (u64)((u64)(v_rest_sroa_9_07_i_i78_i_i_i) + (u64)(18446744073709551615ull));
+    v_17_i_i85_i_i_i = v_rest_sroa_0_08_i_i77_i_i_i + 1;
+    v_3_i_i86_i_i_i = v_16_i_i84_i_i_i > 1u;
+    if (v_3_i_i86_i_i_i) { p_v_rest_sroa_0_08_i_i77_i_i_i = v_17_i_i85_i_i_i; p_v_rest_sroa_9_07_i_i78_i_i_i = v_16_i_i84_i_i_i; goto L_bb3_i_i76_i_i_i; } else { goto L_UintRef_new_exit87_i_i_i; }
+L_uint_strip_exit_i67_i_i_i:;
     v_84 = v_17_1_i_i_i_i == 0u;
-    if (v_84) { p_v_counter_i_sroa_0_1_i = v_counter_i_sroa_0_0_i; p_v_0_i_i7_i_i = v_0_i_i810_i_i; goto L_counter_Counter_exit_i_i; } else { p_v_46_i_sroa_7_0135_i_i_i = 1u; p_v_46_i_sroa_0_0134_i_i_i = v_17_0_i_i_i_i; goto L_bb2_i_i19_i_i_i; }
-L_bb3_i86_i_i_i:;
-    v_rest_sroa_0_08_i_i83_i_i_i_lcssa = p_v_rest_sroa_0_08_i_i83_i_i_i_lcssa;
-    v_rest_sroa_9_07_i_i84_i_i_i_lcssa = p_v_rest_sroa_9_07_i_i84_i_i_i_lcssa;
-    v_5_i87_i_i_i = v_rest_sroa_9_07_i_i84_i_i_i_lcssa > 4294967295ull;
-    if (v_5_i87_i_i_i) { p_v_counter_i_sroa_0_1_i = v_counter_i_sroa_0_0_i; p_v_0_i_i7_i_i = v_0_i_i810_i_i; goto L_counter_Counter_exit_i_i; } else { p_v_46_i_sroa_7_0135_i_i_i = v_rest_sroa_9_07_i_i84_i_i_i_lcssa; p_v_46_i_sroa_0_0134_i_i_i = v_rest_sroa_0_08_i_i83_i_i_i_lcssa; goto L_bb2_i_i19_i_i_i; }
-L_UintRef_new_exit93_i_i_i:;
-    v_85 = v_scevgep_i_i81_i_i_i == (P)0;
-    if (v_85) { p_v_counter_i_sroa_0_1_i = v_counter_i_sroa_0_0_i; p_v_0_i_i7_i_i = v_0_i_i810_i_i; goto L_counter_Counter_exit_i_i; } else { p_v_46_i_sroa_7_0135_i_i_i = 1u; p_v_46_i_sroa_0_0134_i_i_i = v_scevgep_i_i81_i_i_i; goto L_bb2_i_i19_i_i_i; }
-L_bb2_i_i19_i_i_i:;
-    v_46_i_sroa_7_0135_i_i_i = p_v_46_i_sroa_7_0135_i_i_i;
-    v_46_i_sroa_0_0134_i_i_i = p_v_46_i_sroa_0_0134_i_i_i;
-    v_86 = v_0_i_i810_i_i + (v_46_i_sroa_7_0135_i_i_i < ~v_0_i_i810_i_i ? v_46_i_sroa_7_0135_i_i_i : ~v_0_i_i810_i_i);
-    v_5_i_i21_i_i_i = get_u8(v_46_i_sroa_0_0134_i_i_i);
-    v_4_i1_i22_i_i_i = (u8)(v_5_i_i21_i_i_i ^ ((u8)1 << 7)) < (u8)(0u ^ ((u8)1 << 7));
+    if (v_84) { p_v_counter_i_sroa_0_1_i = v_counter_i_sroa_0_0_i; p_v_0_i_i7_i_i = v_0_i_i810_i_i; goto L_counter_Counter_exit_i_i; } else { p_v_46_i_sroa_7_0129_i_i_i = 1u; p_v_46_i_sroa_0_0128_i_i_i = v_17_0_i_i_i_i; goto L_bb2_i_i_i16_i_i_i; }
+L_bb3_i80_i_i_i:;
+    v_rest_sroa_0_08_i_i77_i_i_i_lcssa = p_v_rest_sroa_0_08_i_i77_i_i_i_lcssa;
+    v_rest_sroa_9_07_i_i78_i_i_i_lcssa = p_v_rest_sroa_9_07_i_i78_i_i_i_lcssa;
+    v_5_i81_i_i_i = v_rest_sroa_9_07_i_i78_i_i_i_lcssa > 4294967295ull;
+    if (v_5_i81_i_i_i) { p_v_counter_i_sroa_0_1_i = v_counter_i_sroa_0_0_i; p_v_0_i_i7_i_i = v_0_i_i810_i_i; goto L_counter_Counter_exit_i_i; } else { p_v_46_i_sroa_7_0129_i_i_i = v_rest_sroa_9_07_i_i78_i_i_i_lcssa; p_v_46_i_sroa_0_0128_i_i_i = v_rest_sroa_0_08_i_i77_i_i_i_lcssa; goto L_bb2_i_i_i16_i_i_i; }
+L_UintRef_new_exit87_i_i_i:;
+    v_85 = v_scevgep_i_i75_i_i_i == (P)0;
+    if (v_85) { p_v_counter_i_sroa_0_1_i = v_counter_i_sroa_0_0_i; p_v_0_i_i7_i_i = v_0_i_i810_i_i; goto L_counter_Counter_exit_i_i; } else { p_v_46_i_sroa_7_0129_i_i_i = 1u; p_v_46_i_sroa_0_0128_i_i_i = v_scevgep_i_i75_i_i_i; goto L_bb2_i_i_i16_i_i_i; }
+L_bb2_i_i_i16_i_i_i:;
+    v_46_i_sroa_7_0129_i_i_i = p_v_46_i_sroa_7_0129_i_i_i;
+    v_46_i_sroa_0_0128_i_i_i = p_v_46_i_sroa_0_0128_i_i_i;
+    v_86 = v_0_i_i810_i_i + (v_46_i_sroa_7_0129_i_i_i < ~v_0_i_i810_i_i ? v_46_i_sroa_7_0129_i_i_i : ~v_0_i_i810_i_i);
+    v_5_i_i_i17_i_i_i = get_u8(v_46_i_sroa_0_0128_i_i_i);
+    v_4_i_i_i18_i_i_i = (u8)(v_5_i_i_i17_i_i_i ^ ((u8)1 << 7)) < (u8)(0u ^ ((u8)1 << 7));
     v_87 = v_86 + (1u < ~v_86 ? 1u : ~v_86);
-    v_6_i_i_i24_i_i_i = v_4_i1_i22_i_i_i ? v_87 : v_86;
-    v_88 = v_6_i_i_i24_i_i_i > v_0_i_i810_i_i ? v_6_i_i_i24_i_i_i - v_0_i_i810_i_i : 0u;
-    v_9_i_i_i25_i_i_i = v_88 < 128u;
-    if (v_9_i_i_i25_i_i_i) { goto L_bb3_i_i_i37_i_i_i; } else { goto L_bb4_i_i_i26_i_i_i; }
-L_bb4_i_i_i26_i_i_i:;
-    v_10_i_i_i27_i_i_i = v_88 < 256u;
-    if (v_10_i_i_i27_i_i_i) { goto L_bb5_i_i_i36_i_i_i; } else { goto L_bb6_i_i_i28_i_i_i; }
-L_bb3_i_i_i37_i_i_i:;
+    v_6_i_i_i20_i_i_i = v_4_i_i_i18_i_i_i ? v_87 : v_86;
+    v_88 = v_6_i_i_i20_i_i_i > v_0_i_i810_i_i ? v_6_i_i_i20_i_i_i - v_0_i_i810_i_i : 0u;
+    v_9_i_i_i21_i_i_i = v_88 < 128u;
+    if (v_9_i_i_i21_i_i_i) { goto L_bb3_i_i_i33_i_i_i; } else { goto L_bb4_i_i_i22_i_i_i; }
+L_bb4_i_i_i22_i_i_i:;
+    v_10_i_i_i23_i_i_i = v_88 < 256u;
+    if (v_10_i_i_i23_i_i_i) { goto L_bb5_i_i_i32_i_i_i; } else { goto L_bb6_i_i_i24_i_i_i; }
+L_bb3_i_i_i33_i_i_i:;
     v_89 = (u64)((u64)(v_88) + (u64)(2u));
-    { p_v_encoding_sroa_0_0_i_i_i33_i_i_i = v_89; goto L_counter_Counter_exit_i_i_i; }
-L_bb6_i_i_i28_i_i_i:;
-    v_11_i_i_i29_i_i_i = v_88 < 65536u;
-    if (v_11_i_i_i29_i_i_i) { goto L_bb7_i_i_i35_i_i_i; } else { goto L_bb8_i_i_i30_i_i_i; }
-L_bb5_i_i_i36_i_i_i:;
+    { p_v_encoding_sroa_0_0_i_i_i29_i_i_i = v_89; goto L_counter_Counter_exit_i_i_i; }
+L_bb6_i_i_i24_i_i_i:;
+    v_11_i_i_i25_i_i_i = v_88 < 65536u;
+    if (v_11_i_i_i25_i_i_i) { goto L_bb7_i_i_i31_i_i_i; } else { goto L_bb8_i_i_i26_i_i_i; }
+L_bb5_i_i_i32_i_i_i:;
     v_90 = (u64)((u64)(v_88) + (u64)(3u));
-    { p_v_encoding_sroa_0_0_i_i_i33_i_i_i = v_90; goto L_counter_Counter_exit_i_i_i; }
-L_bb8_i_i_i30_i_i_i:;
-    v_12_i_i_i31_i_i_i = v_88 < 16777216u;
-    if (v_12_i_i_i31_i_i_i) { goto L_bb9_i_i_i34_i_i_i; } else { goto L_bb10_i_i_i32_i_i_i; }
-L_bb7_i_i_i35_i_i_i:;
+    { p_v_encoding_sroa_0_0_i_i_i29_i_i_i = v_90; goto L_counter_Counter_exit_i_i_i; }
+L_bb8_i_i_i26_i_i_i:;
+    v_12_i_i_i27_i_i_i = v_88 < 16777216u;
+    if (v_12_i_i_i27_i_i_i) { goto L_bb9_i_i_i30_i_i_i; } else { goto L_bb10_i_i_i28_i_i_i; }
+L_bb7_i_i_i31_i_i_i:;
     v_91 = (u64)((u64)(v_88) + (u64)(4u));
-    { p_v_encoding_sroa_0_0_i_i_i33_i_i_i = v_91; goto L_counter_Counter_exit_i_i_i; }
-L_bb10_i_i_i32_i_i_i:;
+    { p_v_encoding_sroa_0_0_i_i_i29_i_i_i = v_91; goto L_counter_Counter_exit_i_i_i; }
+L_bb10_i_i_i28_i_i_i:;
     v_92 = v_88 + (6u < ~v_88 ? 6u : ~v_88);
-    { p_v_encoding_sroa_0_0_i_i_i33_i_i_i = v_92; goto L_counter_Counter_exit_i_i_i; }
-L_bb9_i_i_i34_i_i_i:;
+    { p_v_encoding_sroa_0_0_i_i_i29_i_i_i = v_92; goto L_counter_Counter_exit_i_i_i; }
+L_bb9_i_i_i30_i_i_i:;
     v_93 = (u64)((u64)(v_88) + (u64)(5u));
-    { p_v_encoding_sroa_0_0_i_i_i33_i_i_i = v_93; goto L_counter_Counter_exit_i_i_i; }
+    { p_v_encoding_sroa_0_0_i_i_i29_i_i_i = v_93; goto L_counter_Counter_exit_i_i_i; }
 L_counter_Counter_exit_i_i_i:;
-    v_encoding_sroa_0_0_i_i_i33_i_i_i = p_v_encoding_sroa_0_0_i_i_i33_i_i_i;
-    v_94 = v_0_i_i810_i_i + (v_encoding_sroa_0_0_i_i_i33_i_i_i < ~v_0_i_i810_i_i ? v_encoding_sroa_0_0_i_i_i33_i_i_i : ~v_0_i_i810_i_i);
-    v_95 = v_94 + (v_32_i_sroa_7_0125_i_i_i < ~v_94 ? v_32_i_sroa_7_0125_i_i_i : ~v_94);
-    v_5_i_i_i_i963_i = get_u8(v_32_i_sroa_0_0124_i_i_i);
-    v_4_i1_i10_i_i_i = (u8)(v_5_i_i_i_i963_i ^ ((u8)1 << 7)) < (u8)(0u ^ ((u8)1 << 7));
+    v_encoding_sroa_0_0_i_i_i29_i_i_i = p_v_encoding_sroa_0_0_i_i_i29_i_i_i;
+    v_94 = v_0_i_i810_i_i + (v_encoding_sroa_0_0_i_i_i29_i_i_i < ~v_0_i_i810_i_i ? v_encoding_sroa_0_0_i_i_i29_i_i_i : ~v_0_i_i810_i_i);
+    v_95 = v_94 + (v_32_i_sroa_7_0119_i_i_i < ~v_94 ? v_32_i_sroa_7_0119_i_i_i : ~v_94);
+    v_5_i_i_i_i_i974_i = get_u8(v_32_i_sroa_0_0118_i_i_i);
+    v_4_i_i_i8_i_i_i = (u8)(v_5_i_i_i_i_i974_i ^ ((u8)1 << 7)) < (u8)(0u ^ ((u8)1 << 7));
     v_96 = v_95 + (1u < ~v_95 ? 1u : ~v_95);
-    v_6_i_i_i_i_i964_i = v_4_i1_i10_i_i_i ? v_96 : v_95;
-    v_97 = v_6_i_i_i_i_i964_i > v_94 ? v_6_i_i_i_i_i964_i - v_94 : 0u;
-    v_9_i_i_i_i_i965_i = v_97 < 128u;
-    if (v_9_i_i_i_i_i965_i) { goto L_bb3_i_i_i_i_i1001_i; } else { goto L_bb4_i_i_i_i_i966_i; }
-L_bb4_i_i_i_i_i966_i:;
-    v_10_i_i_i_i_i967_i = v_97 < 256u;
-    if (v_10_i_i_i_i_i967_i) { goto L_bb5_i_i_i_i_i1000_i; } else { goto L_bb6_i_i_i_i_i968_i; }
-L_bb3_i_i_i_i_i1001_i:;
+    v_6_i_i_i_i_i975_i = v_4_i_i_i8_i_i_i ? v_96 : v_95;
+    v_97 = v_6_i_i_i_i_i975_i > v_94 ? v_6_i_i_i_i_i975_i - v_94 : 0u;
+    v_9_i_i_i_i_i976_i = v_97 < 128u;
+    if (v_9_i_i_i_i_i976_i) { goto L_bb3_i_i_i_i_i1012_i; } else { goto L_bb4_i_i_i_i_i977_i; }
+L_bb4_i_i_i_i_i977_i:;
+    v_10_i_i_i_i_i978_i = v_97 < 256u;
+    if (v_10_i_i_i_i_i978_i) { goto L_bb5_i_i_i_i_i1011_i; } else { goto L_bb6_i_i_i_i_i979_i; }
+L_bb3_i_i_i_i_i1012_i:;
     v_98 = (u64)((u64)(v_97) + (u64)(2u));
-    { p_v_encoding_sroa_0_0_i_i_i_i_i973_i = v_98; goto L_counter_Counter_exit_i_i_i__2; }
-L_bb6_i_i_i_i_i968_i:;
-    v_11_i_i_i_i_i969_i = v_97 < 65536u;
-    if (v_11_i_i_i_i_i969_i) { goto L_bb7_i_i_i_i_i999_i; } else { goto L_bb8_i_i_i_i_i970_i; }
-L_bb5_i_i_i_i_i1000_i:;
+    { p_v_encoding_sroa_0_0_i_i_i_i_i984_i = v_98; goto L_counter_Counter_exit_i_i_i__2; }
+L_bb6_i_i_i_i_i979_i:;
+    v_11_i_i_i_i_i980_i = v_97 < 65536u;
+    if (v_11_i_i_i_i_i980_i) { goto L_bb7_i_i_i_i_i1010_i; } else { goto L_bb8_i_i_i_i_i981_i; }
+L_bb5_i_i_i_i_i1011_i:;
     v_99 = (u64)((u64)(v_97) + (u64)(3u));
-    { p_v_encoding_sroa_0_0_i_i_i_i_i973_i = v_99; goto L_counter_Counter_exit_i_i_i__2; }
-L_bb8_i_i_i_i_i970_i:;
-    v_12_i_i_i_i_i971_i = v_97 < 16777216u;
-    if (v_12_i_i_i_i_i971_i) { goto L_bb9_i_i_i_i_i998_i; } else { goto L_bb10_i_i_i_i_i972_i; }
-L_bb7_i_i_i_i_i999_i:;
+    { p_v_encoding_sroa_0_0_i_i_i_i_i984_i = v_99; goto L_counter_Counter_exit_i_i_i__2; }
+L_bb8_i_i_i_i_i981_i:;
+    v_12_i_i_i_i_i982_i = v_97 < 16777216u;
+    if (v_12_i_i_i_i_i982_i) { goto L_bb9_i_i_i_i_i1009_i; } else { goto L_bb10_i_i_i_i_i983_i; }
+L_bb7_i_i_i_i_i1010_i:;
     v_100 = (u64)((u64)(v_97) + (u64)(4u));
-    { p_v_encoding_sroa_0_0_i_i_i_i_i973_i = v_100; goto L_counter_Counter_exit_i_i_i__2; }
-L_bb10_i_i_i_i_i972_i:;
+    { p_v_encoding_sroa_0_0_i_i_i_i_i984_i = v_100; goto L_counter_Counter_exit_i_i_i__2; }
+L_bb10_i_i_i_i_i983_i:;
     v_101 = v_97 + (6u < ~v_97 ? 6u : ~v_97);
-    { p_v_encoding_sroa_0_0_i_i_i_i_i973_i = v_101; goto L_counter_Counter_exit_i_i_i__2; }
-L_bb9_i_i_i_i_i998_i:;
+    { p_v_encoding_sroa_0_0_i_i_i_i_i984_i = v_101; goto L_counter_Counter_exit_i_i_i__2; }
+L_bb9_i_i_i_i_i1009_i:;
     v_102 = (u64)((u64)(v_97) + (u64)(5u));
-    { p_v_encoding_sroa_0_0_i_i_i_i_i973_i = v_102; goto L_counter_Counter_exit_i_i_i__2; }
+    { p_v_encoding_sroa_0_0_i_i_i_i_i984_i = v_102; goto L_counter_Counter_exit_i_i_i__2; }
 L_counter_Counter_exit_i_i_i__2:;
-    v_encoding_sroa_0_0_i_i_i_i_i973_i = p_v_encoding_sroa_0_0_i_i_i_i_i973_i;
-    v_103 = v_94 + (v_encoding_sroa_0_0_i_i_i_i_i973_i < ~v_94 ? v_encoding_sroa_0_0_i_i_i_i_i973_i : ~v_94);
-    v_104 = v_103 + (v_19_i_sroa_7_0114_i_i_i < ~v_103 ? v_19_i_sroa_7_0114_i_i_i : ~v_103);
-    v_5_i_i_i974_i = get_u8(v_19_i_sroa_0_0115_i_i_i);
-    v_4_i_i_i975_i = (u8)(v_5_i_i_i974_i ^ ((u8)1 << 7)) < (u8)(0u ^ ((u8)1 << 7));
+    v_encoding_sroa_0_0_i_i_i_i_i984_i = p_v_encoding_sroa_0_0_i_i_i_i_i984_i;
+    v_103 = v_94 + (v_encoding_sroa_0_0_i_i_i_i_i984_i < ~v_94 ? v_encoding_sroa_0_0_i_i_i_i_i984_i : ~v_94);
+    v_104 = v_103 + (v_19_i_sroa_7_0108_i_i_i < ~v_103 ? v_19_i_sroa_7_0108_i_i_i : ~v_103);
+    v_5_i_i_i_i985_i = get_u8(v_19_i_sroa_0_0109_i_i_i);
+    v_4_i_i_i_i986_i = (u8)(v_5_i_i_i_i985_i ^ ((u8)1 << 7)) < (u8)(0u ^ ((u8)1 << 7));
     v_105 = v_104 + (1u < ~v_104 ? 1u : ~v_104);
-    v_6_i_i_i_i976_i = v_4_i_i_i975_i ? v_105 : v_104;
-    v_106 = v_6_i_i_i_i976_i > v_103 ? v_6_i_i_i_i976_i - v_103 : 0u;
-    v_9_i_i_i_i977_i = v_106 < 128u;
-    if (v_9_i_i_i_i977_i) { goto L_bb3_i_i_i_i997_i; } else { goto L_bb4_i_i_i_i978_i; }
-L_bb4_i_i_i_i978_i:;
-    v_10_i_i_i_i979_i = v_106 < 256u;
-    if (v_10_i_i_i_i979_i) { goto L_bb5_i_i_i_i996_i; } else { goto L_bb6_i_i_i_i980_i; }
-L_bb3_i_i_i_i997_i:;
+    v_6_i_i_i_i987_i = v_4_i_i_i_i986_i ? v_105 : v_104;
+    v_106 = v_6_i_i_i_i987_i > v_103 ? v_6_i_i_i_i987_i - v_103 : 0u;
+    v_9_i_i_i_i988_i = v_106 < 128u;
+    if (v_9_i_i_i_i988_i) { goto L_bb3_i_i_i_i1008_i; } else { goto L_bb4_i_i_i_i989_i; }
+L_bb4_i_i_i_i989_i:;
+    v_10_i_i_i_i990_i = v_106 < 256u;
+    if (v_10_i_i_i_i990_i) { goto L_bb5_i_i_i_i1007_i; } else { goto L_bb6_i_i_i_i991_i; }
+L_bb3_i_i_i_i1008_i:;
     v_107 = (u64)((u64)(v_106) + (u64)(2u));
-    { p_v_encoding_sroa_0_0_i_i_i_i985_i = v_107; goto L_counter_Counter_exit_i_i_i__3; }
-L_bb6_i_i_i_i980_i:;
-    v_11_i_i_i_i981_i = v_106 < 65536u;
-    if (v_11_i_i_i_i981_i) { goto L_bb7_i_i_i_i995_i; } else { goto L_bb8_i_i_i_i982_i; }
-L_bb5_i_i_i_i996_i:;
+    { p_v_encoding_sroa_0_0_i_i_i_i996_i = v_107; goto L_counter_Counter_exit_i_i_i__3; }
+L_bb6_i_i_i_i991_i:;
+    v_11_i_i_i_i992_i = v_106 < 65536u;
+    if (v_11_i_i_i_i992_i) { goto L_bb7_i_i_i_i1006_i; } else { goto L_bb8_i_i_i_i993_i; }
+L_bb5_i_i_i_i1007_i:;
     v_108 = (u64)((u64)(v_106) + (u64)(3u));
-    { p_v_encoding_sroa_0_0_i_i_i_i985_i = v_108; goto L_counter_Counter_exit_i_i_i__3; }
-L_bb8_i_i_i_i982_i:;
-    v_12_i_i_i_i983_i = v_106 < 16777216u;
-    if (v_12_i_i_i_i983_i) { goto L_bb9_i_i_i_i994_i; } else { goto L_bb10_i_i_i_i984_i; }
-L_bb7_i_i_i_i995_i:;
+    { p_v_encoding_sroa_0_0_i_i_i_i996_i = v_108; goto L_counter_Counter_exit_i_i_i__3; }
+L_bb8_i_i_i_i993_i:;
+    v_12_i_i_i_i994_i = v_106 < 16777216u;
+    if (v_12_i_i_i_i994_i) { goto L_bb9_i_i_i_i1005_i; } else { goto L_bb10_i_i_i_i995_i; }
+L_bb7_i_i_i_i1006_i:;
     v_109 = (u64)((u64)(v_106) + (u64)(4u));
-    { p_v_encoding_sroa_0_0_i_i_i_i985_i = v_109; goto L_counter_Counter_exit_i_i_i__3; }
-L_bb10_i_i_i_i984_i:;
+    { p_v_encoding_sroa_0_0_i_i_i_i996_i = v_109; goto L_counter_Counter_exit_i_i_i__3; }
+L_bb10_i_i_i_i995_i:;
     v_110 = v_106 + (6u < ~v_106 ? 6u : ~v_106);
-    { p_v_encoding_sroa_0_0_i_i_i_i985_i = v_110; goto L_counter_Counter_exit_i_i_i__3; }
-L_bb9_i_i_i_i994_i:;
+    { p_v_encoding_sroa_0_0_i_i_i_i996_i = v_110; goto L_counter_Counter_exit_i_i_i__3; }
+L_bb9_i_i_i_i1005_i:;
     v_111 = (u64)((u64)(v_106) + (u64)(5u));
-    { p_v_encoding_sroa_0_0_i_i_i_i985_i = v_111; goto L_counter_Counter_exit_i_i_i__3; }
+    { p_v_encoding_sroa_0_0_i_i_i_i996_i = v_111; goto L_counter_Counter_exit_i_i_i__3; }
 L_counter_Counter_exit_i_i_i__3:;
-    v_encoding_sroa_0_0_i_i_i_i985_i = p_v_encoding_sroa_0_0_i_i_i_i985_i;
-    v_112 = v_103 + (v_encoding_sroa_0_0_i_i_i_i985_i < ~v_103 ? v_encoding_sroa_0_0_i_i_i_i985_i : ~v_103);
+    v_encoding_sroa_0_0_i_i_i_i996_i = p_v_encoding_sroa_0_0_i_i_i_i996_i;
+    v_112 = v_103 + (v_encoding_sroa_0_0_i_i_i_i996_i < ~v_103 ? v_encoding_sroa_0_0_i_i_i_i996_i : ~v_103);
     v_113 = v_112 > v_0_i_i810_i_i ? v_112 - v_0_i_i810_i_i : 0u;
-    v_9_i_i_i986_i = v_113 < 128u;
-    if (v_9_i_i_i986_i) { goto L_bb3_i5_i_i_i; } else { goto L_bb4_i_i_i987_i; }
-L_bb4_i_i_i987_i:;
-    v_10_i_i_i988_i = v_113 < 256u;
-    if (v_10_i_i_i988_i) { goto L_bb5_i_i_i993_i; } else { goto L_bb6_i1_i_i_i; }
+    v_9_i_i_i997_i = v_113 < 128u;
+    if (v_9_i_i_i997_i) { goto L_bb3_i5_i_i_i; } else { goto L_bb4_i_i_i998_i; }
+L_bb4_i_i_i998_i:;
+    v_10_i_i_i999_i = v_113 < 256u;
+    if (v_10_i_i_i999_i) { goto L_bb5_i_i_i1004_i; } else { goto L_bb6_i1_i_i_i; }
 L_bb3_i5_i_i_i:;
     v_114 = (u64)((u64)(v_113) + (u64)(2u));
-    { p_v_encoding_sroa_0_0_i_i_i992_i = v_114; goto L_Prepend_prepend_header_exit_i_i_i; }
+    { p_v_encoding_sroa_0_0_i_i_i1003_i = v_114; goto L_Prepend_prepend_header_exit_i_i_i; }
 L_bb6_i1_i_i_i:;
-    v_11_i_i_i989_i = v_113 < 65536u;
-    if (v_11_i_i_i989_i) { goto L_bb7_i4_i_i_i; } else { goto L_bb8_i_i_i990_i; }
-L_bb5_i_i_i993_i:;
+    v_11_i_i_i1000_i = v_113 < 65536u;
+    if (v_11_i_i_i1000_i) { goto L_bb7_i4_i_i_i; } else { goto L_bb8_i_i_i1001_i; }
+L_bb5_i_i_i1004_i:;
     v_115 = (u64)((u64)(v_113) + (u64)(3u));
-    { p_v_encoding_sroa_0_0_i_i_i992_i = v_115; goto L_Prepend_prepend_header_exit_i_i_i; }
-L_bb8_i_i_i990_i:;
-    v_12_i_i_i991_i = v_113 < 16777216u;
-    if (v_12_i_i_i991_i) { goto L_bb9_i3_i_i_i; } else { goto L_bb10_i2_i_i_i; }
+    { p_v_encoding_sroa_0_0_i_i_i1003_i = v_115; goto L_Prepend_prepend_header_exit_i_i_i; }
+L_bb8_i_i_i1001_i:;
+    v_12_i_i_i1002_i = v_113 < 16777216u;
+    if (v_12_i_i_i1002_i) { goto L_bb9_i3_i_i_i; } else { goto L_bb10_i2_i_i_i; }
 L_bb7_i4_i_i_i:;
     v_116 = (u64)((u64)(v_113) + (u64)(4u));
-    { p_v_encoding_sroa_0_0_i_i_i992_i = v_116; goto L_Prepend_prepend_header_exit_i_i_i; }
+    { p_v_encoding_sroa_0_0_i_i_i1003_i = v_116; goto L_Prepend_prepend_header_exit_i_i_i; }
 L_bb10_i2_i_i_i:;
     v_117 = v_113 + (6u < ~v_113 ? 6u : ~v_113);
-    { p_v_encoding_sroa_0_0_i_i_i992_i = v_117; goto L_Prepend_prepend_header_exit_i_i_i; }
+    { p_v_encoding_sroa_0_0_i_i_i1003_i = v_117; goto L_Prepend_prepend_header_exit_i_i_i; }
 L_bb9_i3_i_i_i:;
     v_118 = (u64)((u64)(v_113) + (u64)(5u));
-    { p_v_encoding_sroa_0_0_i_i_i992_i = v_118; goto L_Prepend_prepend_header_exit_i_i_i; }
+    { p_v_encoding_sroa_0_0_i_i_i1003_i = v_118; goto L_Prepend_prepend_header_exit_i_i_i; }
 L_Prepend_prepend_header_exit_i_i_i:;
-    v_encoding_sroa_0_0_i_i_i992_i = p_v_encoding_sroa_0_0_i_i_i992_i;
-    v_119 = v_0_i_i810_i_i + (v_encoding_sroa_0_0_i_i_i992_i < ~v_0_i_i810_i_i ? v_encoding_sroa_0_0_i_i_i992_i : ~v_0_i_i810_i_i);
+    v_encoding_sroa_0_0_i_i_i1003_i = p_v_encoding_sroa_0_0_i_i_i1003_i;
+    v_119 = v_0_i_i810_i_i + (v_encoding_sroa_0_0_i_i_i1003_i < ~v_0_i_i810_i_i ? v_encoding_sroa_0_0_i_i_i1003_i : ~v_0_i_i810_i_i);
     { p_v_counter_i_sroa_0_1_i = v_119; p_v_0_i_i7_i_i = v_119; goto L_counter_Counter_exit_i_i; }
 L_counter_Counter_exit_i_i:;
     v_counter_i_sroa_0_1_i = p_v_counter_i_sroa_0_1_i;
@@ -21264,30 +21264,30 @@ L_counter_Counter_exit_i_i:;
     if (v_4_not_i_i) { p_v_counter_i_sroa_0_1_i_lcssa = v_counter_i_sroa_0_1_i; goto L_counter_Counter_exit_i; } else { p_v_counter_i_sroa_0_0_i = v_counter_i_sroa_0_1_i; p_v_left_sroa_0_011_i_i = v_68; p_v_0_i_i810_i_i = v_0_i_i7_i_i; goto L_bb2_i_i; }
 L_counter_Counter_exit_i:;
     v_counter_i_sroa_0_1_i_lcssa = p_v_counter_i_sroa_0_1_i_lcssa;
-    v_9_i_i_i_i_i_i850_i = v_counter_i_sroa_0_1_i_lcssa < 128u;
-    if (v_9_i_i_i_i_i_i850_i) { goto L_bb3_i_i_i_i_i_i942_i; } else { goto L_bb4_i_i_i_i_i_i851_i; }
-L_bb4_i_i_i_i_i_i851_i:;
-    v_10_i_i_i_i_i_i852_i = v_counter_i_sroa_0_1_i_lcssa < 256u;
-    if (v_10_i_i_i_i_i_i852_i) { goto L_bb5_i_i_i_i_i_i941_i; } else { goto L_bb6_i_i_i_i_i_i853_i; }
-L_bb3_i_i_i_i_i_i942_i:;
+    v_9_i_i_i_i_i_i865_i = v_counter_i_sroa_0_1_i_lcssa < 128u;
+    if (v_9_i_i_i_i_i_i865_i) { goto L_bb3_i_i_i_i_i_i953_i; } else { goto L_bb4_i_i_i_i_i_i866_i; }
+L_bb4_i_i_i_i_i_i866_i:;
+    v_10_i_i_i_i_i_i867_i = v_counter_i_sroa_0_1_i_lcssa < 256u;
+    if (v_10_i_i_i_i_i_i867_i) { goto L_bb5_i_i_i_i_i_i952_i; } else { goto L_bb6_i_i_i_i_i_i868_i; }
+L_bb3_i_i_i_i_i_i953_i:;
     v_120 = (u64)((u64)(v_counter_i_sroa_0_1_i_lcssa) + (u64)(2u));
     { p_v_15_i_i568_shrunk = 1u; p_v_11_sroa_54_0527 = v_others; p_v_counter_i_sroa_0_3_i = v_120; goto L_counter_Counter_exit_i_i_i_i; }
-L_bb6_i_i_i_i_i_i853_i:;
-    v_11_i_i_i_i_i_i854_i = v_counter_i_sroa_0_1_i_lcssa < 65536u;
-    if (v_11_i_i_i_i_i_i854_i) { goto L_bb7_i_i_i_i_i_i940_i; } else { goto L_bb8_i_i_i_i_i_i855_i; }
-L_bb5_i_i_i_i_i_i941_i:;
+L_bb6_i_i_i_i_i_i868_i:;
+    v_11_i_i_i_i_i_i869_i = v_counter_i_sroa_0_1_i_lcssa < 65536u;
+    if (v_11_i_i_i_i_i_i869_i) { goto L_bb7_i_i_i_i_i_i951_i; } else { goto L_bb8_i_i_i_i_i_i870_i; }
+L_bb5_i_i_i_i_i_i952_i:;
     v_121 = (u64)((u64)(v_counter_i_sroa_0_1_i_lcssa) + (u64)(3u));
     { p_v_15_i_i568_shrunk = 1u; p_v_11_sroa_54_0527 = v_others; p_v_counter_i_sroa_0_3_i = v_121; goto L_counter_Counter_exit_i_i_i_i; }
-L_bb8_i_i_i_i_i_i855_i:;
-    v_12_i_i_i_i_i_i856_i = v_counter_i_sroa_0_1_i_lcssa < 16777216u;
-    if (v_12_i_i_i_i_i_i856_i) { goto L_bb9_i_i_i_i_i_i939_i; } else { goto L_bb10_i_i_i_i_i_i857_i; }
-L_bb7_i_i_i_i_i_i940_i:;
+L_bb8_i_i_i_i_i_i870_i:;
+    v_12_i_i_i_i_i_i871_i = v_counter_i_sroa_0_1_i_lcssa < 16777216u;
+    if (v_12_i_i_i_i_i_i871_i) { goto L_bb9_i_i_i_i_i_i950_i; } else { goto L_bb10_i_i_i_i_i_i872_i; }
+L_bb7_i_i_i_i_i_i951_i:;
     v_122 = (u64)((u64)(v_counter_i_sroa_0_1_i_lcssa) + (u64)(4u));
     { p_v_15_i_i568_shrunk = 1u; p_v_11_sroa_54_0527 = v_others; p_v_counter_i_sroa_0_3_i = v_122; goto L_counter_Counter_exit_i_i_i_i; }
-L_bb10_i_i_i_i_i_i857_i:;
+L_bb10_i_i_i_i_i_i872_i:;
     v_123 = v_counter_i_sroa_0_1_i_lcssa + (6u < ~v_counter_i_sroa_0_1_i_lcssa ? 6u : ~v_counter_i_sroa_0_1_i_lcssa);
     { p_v_15_i_i568_shrunk = 1u; p_v_11_sroa_54_0527 = v_others; p_v_counter_i_sroa_0_3_i = v_123; goto L_counter_Counter_exit_i_i_i_i; }
-L_bb9_i_i_i_i_i_i939_i:;
+L_bb9_i_i_i_i_i_i950_i:;
     v_124 = (u64)((u64)(v_counter_i_sroa_0_1_i_lcssa) + (u64)(5u));
     { p_v_15_i_i568_shrunk = 1u; p_v_11_sroa_54_0527 = v_others; p_v_counter_i_sroa_0_3_i = v_124; goto L_counter_Counter_exit_i_i_i_i; }
 L_counter_Counter_exit_i_i_i_i:;
@@ -21295,1643 +21295,1643 @@ L_counter_Counter_exit_i_i_i_i:;
     v_11_sroa_54_0527 = p_v_11_sroa_54_0527;
     v_counter_i_sroa_0_3_i = p_v_counter_i_sroa_0_3_i;
     v_125 = v_counter_i_sroa_0_3_i + (v_34_sroa_6_0_i_ph < ~v_counter_i_sroa_0_3_i ? v_34_sroa_6_0_i_ph : ~v_counter_i_sroa_0_3_i);
-    v_5_i_i_i_i867_i = get_u8(v_34_sroa_0_0_i_ph);
-    v_4_i1_i4_i_i868_i = (u8)(v_5_i_i_i_i867_i ^ ((u8)1 << 7)) < (u8)(0u ^ ((u8)1 << 7));
+    v_5_i_i_i_i_i880_i = get_u8(v_34_sroa_0_0_i_ph);
+    v_4_i_i_i5_i_i_i = (u8)(v_5_i_i_i_i_i880_i ^ ((u8)1 << 7)) < (u8)(0u ^ ((u8)1 << 7));
     v_126 = v_125 + (1u < ~v_125 ? 1u : ~v_125);
-    v_counter_i_sroa_0_4_i = v_4_i1_i4_i_i868_i ? v_126 : v_125;
+    v_counter_i_sroa_0_4_i = v_4_i_i_i5_i_i_i ? v_126 : v_125;
     v_127 = v_counter_i_sroa_0_4_i > v_counter_i_sroa_0_3_i ? v_counter_i_sroa_0_4_i - v_counter_i_sroa_0_3_i : 0u;
-    v_9_i_i_i_i_i871_i = v_127 < 128u;
-    if (v_9_i_i_i_i_i871_i) { goto L_bb3_i_i_i_i_i935_i; } else { goto L_bb4_i_i_i_i_i872_i; }
-L_bb4_i_i_i_i_i872_i:;
-    v_10_i_i_i_i_i873_i = v_127 < 256u;
-    if (v_10_i_i_i_i_i873_i) { goto L_bb5_i_i_i_i_i934_i; } else { goto L_bb6_i_i_i_i_i874_i; }
-L_bb3_i_i_i_i_i935_i:;
+    v_9_i_i_i_i_i883_i = v_127 < 128u;
+    if (v_9_i_i_i_i_i883_i) { goto L_bb3_i_i_i_i_i946_i; } else { goto L_bb4_i_i_i_i_i884_i; }
+L_bb4_i_i_i_i_i884_i:;
+    v_10_i_i_i_i_i885_i = v_127 < 256u;
+    if (v_10_i_i_i_i_i885_i) { goto L_bb5_i_i_i_i_i945_i; } else { goto L_bb6_i_i_i_i_i886_i; }
+L_bb3_i_i_i_i_i946_i:;
     v_128 = (u64)((u64)(v_127) + (u64)(2u));
-    { p_v_encoding_sroa_0_0_i_i_i_i_i879_i = v_128; goto L_counter_Counter_exit_i_i_i__4; }
-L_bb6_i_i_i_i_i874_i:;
-    v_11_i_i_i_i_i875_i = v_127 < 65536u;
-    if (v_11_i_i_i_i_i875_i) { goto L_bb7_i_i_i_i_i933_i; } else { goto L_bb8_i_i_i_i_i876_i; }
-L_bb5_i_i_i_i_i934_i:;
+    { p_v_encoding_sroa_0_0_i_i_i_i_i891_i = v_128; goto L_counter_Counter_exit_i_i_i__4; }
+L_bb6_i_i_i_i_i886_i:;
+    v_11_i_i_i_i_i887_i = v_127 < 65536u;
+    if (v_11_i_i_i_i_i887_i) { goto L_bb7_i_i_i_i_i944_i; } else { goto L_bb8_i_i_i_i_i888_i; }
+L_bb5_i_i_i_i_i945_i:;
     v_129 = (u64)((u64)(v_127) + (u64)(3u));
-    { p_v_encoding_sroa_0_0_i_i_i_i_i879_i = v_129; goto L_counter_Counter_exit_i_i_i__4; }
-L_bb8_i_i_i_i_i876_i:;
-    v_12_i_i_i_i_i877_i = v_127 < 16777216u;
-    if (v_12_i_i_i_i_i877_i) { goto L_bb9_i_i_i_i_i932_i; } else { goto L_bb10_i_i_i_i_i878_i; }
-L_bb7_i_i_i_i_i933_i:;
+    { p_v_encoding_sroa_0_0_i_i_i_i_i891_i = v_129; goto L_counter_Counter_exit_i_i_i__4; }
+L_bb8_i_i_i_i_i888_i:;
+    v_12_i_i_i_i_i889_i = v_127 < 16777216u;
+    if (v_12_i_i_i_i_i889_i) { goto L_bb9_i_i_i_i_i943_i; } else { goto L_bb10_i_i_i_i_i890_i; }
+L_bb7_i_i_i_i_i944_i:;
     v_130 = (u64)((u64)(v_127) + (u64)(4u));
-    { p_v_encoding_sroa_0_0_i_i_i_i_i879_i = v_130; goto L_counter_Counter_exit_i_i_i__4; }
-L_bb10_i_i_i_i_i878_i:;
+    { p_v_encoding_sroa_0_0_i_i_i_i_i891_i = v_130; goto L_counter_Counter_exit_i_i_i__4; }
+L_bb10_i_i_i_i_i890_i:;
     v_131 = v_127 + (6u < ~v_127 ? 6u : ~v_127);
-    { p_v_encoding_sroa_0_0_i_i_i_i_i879_i = v_131; goto L_counter_Counter_exit_i_i_i__4; }
-L_bb9_i_i_i_i_i932_i:;
+    { p_v_encoding_sroa_0_0_i_i_i_i_i891_i = v_131; goto L_counter_Counter_exit_i_i_i__4; }
+L_bb9_i_i_i_i_i943_i:;
     v_132 = (u64)((u64)(v_127) + (u64)(5u));
-    { p_v_encoding_sroa_0_0_i_i_i_i_i879_i = v_132; goto L_counter_Counter_exit_i_i_i__4; }
+    { p_v_encoding_sroa_0_0_i_i_i_i_i891_i = v_132; goto L_counter_Counter_exit_i_i_i__4; }
 L_counter_Counter_exit_i_i_i__4:;
-    v_encoding_sroa_0_0_i_i_i_i_i879_i = p_v_encoding_sroa_0_0_i_i_i_i_i879_i;
-    v_133 = v_counter_i_sroa_0_3_i + (v_encoding_sroa_0_0_i_i_i_i_i879_i < ~v_counter_i_sroa_0_3_i ? v_encoding_sroa_0_0_i_i_i_i_i879_i : ~v_counter_i_sroa_0_3_i);
+    v_encoding_sroa_0_0_i_i_i_i_i891_i = p_v_encoding_sroa_0_0_i_i_i_i_i891_i;
+    v_133 = v_counter_i_sroa_0_3_i + (v_encoding_sroa_0_0_i_i_i_i_i891_i < ~v_counter_i_sroa_0_3_i ? v_encoding_sroa_0_0_i_i_i_i_i891_i : ~v_counter_i_sroa_0_3_i);
     v_134 = v_133 + (v_30_sroa_7_0_i_ph < ~v_133 ? v_30_sroa_7_0_i_ph : ~v_133);
-    v_5_i_i_i887_i = get_u8(v_30_sroa_0_0_i_ph);
-    v_4_i1_i3_i_i = (u8)(v_5_i_i_i887_i ^ ((u8)1 << 7)) < (u8)(0u ^ ((u8)1 << 7));
+    v_5_i_i_i_i898_i = get_u8(v_30_sroa_0_0_i_ph);
+    v_4_i_i_i3_i_i = (u8)(v_5_i_i_i_i898_i ^ ((u8)1 << 7)) < (u8)(0u ^ ((u8)1 << 7));
     v_135 = v_134 + (1u < ~v_134 ? 1u : ~v_134);
-    v_counter_i_sroa_0_5_i = v_4_i1_i3_i_i ? v_135 : v_134;
+    v_counter_i_sroa_0_5_i = v_4_i_i_i3_i_i ? v_135 : v_134;
     v_136 = v_counter_i_sroa_0_5_i > v_133 ? v_counter_i_sroa_0_5_i - v_133 : 0u;
-    v_9_i_i_i_i890_i = v_136 < 128u;
-    if (v_9_i_i_i_i890_i) { goto L_bb3_i_i_i_i929_i; } else { goto L_bb4_i_i_i_i891_i; }
-L_bb4_i_i_i_i891_i:;
-    v_10_i_i_i_i892_i = v_136 < 256u;
-    if (v_10_i_i_i_i892_i) { goto L_bb5_i_i_i_i928_i; } else { goto L_bb6_i_i_i_i893_i; }
-L_bb3_i_i_i_i929_i:;
+    v_9_i_i_i_i901_i = v_136 < 128u;
+    if (v_9_i_i_i_i901_i) { goto L_bb3_i_i_i_i939_i; } else { goto L_bb4_i_i_i_i902_i; }
+L_bb4_i_i_i_i902_i:;
+    v_10_i_i_i_i903_i = v_136 < 256u;
+    if (v_10_i_i_i_i903_i) { goto L_bb5_i_i_i_i938_i; } else { goto L_bb6_i_i_i_i904_i; }
+L_bb3_i_i_i_i939_i:;
     v_137 = (u64)((u64)(v_136) + (u64)(2u));
-    { p_v_encoding_sroa_0_0_i_i_i_i898_i = v_137; goto L_counter_Counter_exit_i_i__2; }
-L_bb6_i_i_i_i893_i:;
-    v_11_i_i_i_i894_i = v_136 < 65536u;
-    if (v_11_i_i_i_i894_i) { goto L_bb7_i_i_i_i927_i; } else { goto L_bb8_i_i_i_i895_i; }
-L_bb5_i_i_i_i928_i:;
+    { p_v_encoding_sroa_0_0_i_i_i_i909_i = v_137; goto L_counter_Counter_exit_i_i__2; }
+L_bb6_i_i_i_i904_i:;
+    v_11_i_i_i_i905_i = v_136 < 65536u;
+    if (v_11_i_i_i_i905_i) { goto L_bb7_i_i_i_i937_i; } else { goto L_bb8_i_i_i_i906_i; }
+L_bb5_i_i_i_i938_i:;
     v_138 = (u64)((u64)(v_136) + (u64)(3u));
-    { p_v_encoding_sroa_0_0_i_i_i_i898_i = v_138; goto L_counter_Counter_exit_i_i__2; }
-L_bb8_i_i_i_i895_i:;
-    v_12_i_i_i_i896_i = v_136 < 16777216u;
-    if (v_12_i_i_i_i896_i) { goto L_bb9_i_i_i_i926_i; } else { goto L_bb10_i_i_i_i897_i; }
-L_bb7_i_i_i_i927_i:;
+    { p_v_encoding_sroa_0_0_i_i_i_i909_i = v_138; goto L_counter_Counter_exit_i_i__2; }
+L_bb8_i_i_i_i906_i:;
+    v_12_i_i_i_i907_i = v_136 < 16777216u;
+    if (v_12_i_i_i_i907_i) { goto L_bb9_i_i_i_i936_i; } else { goto L_bb10_i_i_i_i908_i; }
+L_bb7_i_i_i_i937_i:;
     v_139 = (u64)((u64)(v_136) + (u64)(4u));
-    { p_v_encoding_sroa_0_0_i_i_i_i898_i = v_139; goto L_counter_Counter_exit_i_i__2; }
-L_bb10_i_i_i_i897_i:;
+    { p_v_encoding_sroa_0_0_i_i_i_i909_i = v_139; goto L_counter_Counter_exit_i_i__2; }
+L_bb10_i_i_i_i908_i:;
     v_140 = v_136 + (6u < ~v_136 ? 6u : ~v_136);
-    { p_v_encoding_sroa_0_0_i_i_i_i898_i = v_140; goto L_counter_Counter_exit_i_i__2; }
-L_bb9_i_i_i_i926_i:;
+    { p_v_encoding_sroa_0_0_i_i_i_i909_i = v_140; goto L_counter_Counter_exit_i_i__2; }
+L_bb9_i_i_i_i936_i:;
     v_141 = (u64)((u64)(v_136) + (u64)(5u));
-    { p_v_encoding_sroa_0_0_i_i_i_i898_i = v_141; goto L_counter_Counter_exit_i_i__2; }
+    { p_v_encoding_sroa_0_0_i_i_i_i909_i = v_141; goto L_counter_Counter_exit_i_i__2; }
 L_counter_Counter_exit_i_i__2:;
-    v_encoding_sroa_0_0_i_i_i_i898_i = p_v_encoding_sroa_0_0_i_i_i_i898_i;
-    v_142 = v_133 + (v_encoding_sroa_0_0_i_i_i_i898_i < ~v_133 ? v_encoding_sroa_0_0_i_i_i_i898_i : ~v_133);
+    v_encoding_sroa_0_0_i_i_i_i909_i = p_v_encoding_sroa_0_0_i_i_i_i909_i;
+    v_142 = v_133 + (v_encoding_sroa_0_0_i_i_i_i909_i < ~v_133 ? v_encoding_sroa_0_0_i_i_i_i909_i : ~v_133);
     v_143 = v_142 + (v_26_sroa_7_0_i_ph < ~v_142 ? v_26_sroa_7_0_i_ph : ~v_142);
-    v_5_i_i906_i = get_u8(v_26_sroa_0_0_i_ph);
-    v_4_i_i907_i = (u8)(v_5_i_i906_i ^ ((u8)1 << 7)) < (u8)(0u ^ ((u8)1 << 7));
+    v_5_i_i_i916_i = get_u8(v_26_sroa_0_0_i_ph);
+    v_4_i_i_i917_i = (u8)(v_5_i_i_i916_i ^ ((u8)1 << 7)) < (u8)(0u ^ ((u8)1 << 7));
     v_144 = v_143 + (1u < ~v_143 ? 1u : ~v_143);
-    v_counter_i_sroa_0_6_i = v_4_i_i907_i ? v_144 : v_143;
+    v_counter_i_sroa_0_6_i = v_4_i_i_i917_i ? v_144 : v_143;
     v_145 = v_counter_i_sroa_0_6_i > v_142 ? v_counter_i_sroa_0_6_i - v_142 : 0u;
-    v_9_i_i_i910_i = v_145 < 128u;
-    if (v_9_i_i_i910_i) { goto L_bb3_i_i_i922_i; } else { goto L_bb4_i_i_i911_i; }
-L_bb4_i_i_i911_i:;
-    v_10_i_i_i912_i = v_145 < 256u;
-    if (v_10_i_i_i912_i) { goto L_bb5_i_i_i921_i; } else { goto L_bb6_i_i_i913_i; }
-L_bb3_i_i_i922_i:;
+    v_9_i_i_i920_i = v_145 < 128u;
+    if (v_9_i_i_i920_i) { goto L_bb3_i_i_i932_i; } else { goto L_bb4_i_i_i921_i; }
+L_bb4_i_i_i921_i:;
+    v_10_i_i_i922_i = v_145 < 256u;
+    if (v_10_i_i_i922_i) { goto L_bb5_i_i_i931_i; } else { goto L_bb6_i_i_i923_i; }
+L_bb3_i_i_i932_i:;
     v_146 = (u64)((u64)(v_145) + (u64)(2u));
-    { p_v_encoding_sroa_0_0_i_i_i918_i = v_146; goto L_counter_Counter_exit_i__2; }
-L_bb6_i_i_i913_i:;
-    v_11_i_i_i914_i = v_145 < 65536u;
-    if (v_11_i_i_i914_i) { goto L_bb7_i_i_i920_i; } else { goto L_bb8_i_i_i915_i; }
-L_bb5_i_i_i921_i:;
+    { p_v_encoding_sroa_0_0_i_i_i928_i = v_146; goto L_counter_Counter_exit_i__2; }
+L_bb6_i_i_i923_i:;
+    v_11_i_i_i924_i = v_145 < 65536u;
+    if (v_11_i_i_i924_i) { goto L_bb7_i_i_i930_i; } else { goto L_bb8_i_i_i925_i; }
+L_bb5_i_i_i931_i:;
     v_147 = (u64)((u64)(v_145) + (u64)(3u));
-    { p_v_encoding_sroa_0_0_i_i_i918_i = v_147; goto L_counter_Counter_exit_i__2; }
-L_bb8_i_i_i915_i:;
-    v_12_i_i_i916_i = v_145 < 16777216u;
-    if (v_12_i_i_i916_i) { goto L_bb9_i_i_i919_i; } else { goto L_bb10_i_i_i917_i; }
-L_bb7_i_i_i920_i:;
+    { p_v_encoding_sroa_0_0_i_i_i928_i = v_147; goto L_counter_Counter_exit_i__2; }
+L_bb8_i_i_i925_i:;
+    v_12_i_i_i926_i = v_145 < 16777216u;
+    if (v_12_i_i_i926_i) { goto L_bb9_i_i_i929_i; } else { goto L_bb10_i_i_i927_i; }
+L_bb7_i_i_i930_i:;
     v_148 = (u64)((u64)(v_145) + (u64)(4u));
-    { p_v_encoding_sroa_0_0_i_i_i918_i = v_148; goto L_counter_Counter_exit_i__2; }
-L_bb10_i_i_i917_i:;
+    { p_v_encoding_sroa_0_0_i_i_i928_i = v_148; goto L_counter_Counter_exit_i__2; }
+L_bb10_i_i_i927_i:;
     v_149 = v_145 + (6u < ~v_145 ? 6u : ~v_145);
-    { p_v_encoding_sroa_0_0_i_i_i918_i = v_149; goto L_counter_Counter_exit_i__2; }
-L_bb9_i_i_i919_i:;
+    { p_v_encoding_sroa_0_0_i_i_i928_i = v_149; goto L_counter_Counter_exit_i__2; }
+L_bb9_i_i_i929_i:;
     v_150 = (u64)((u64)(v_145) + (u64)(5u));
-    { p_v_encoding_sroa_0_0_i_i_i918_i = v_150; goto L_counter_Counter_exit_i__2; }
+    { p_v_encoding_sroa_0_0_i_i_i928_i = v_150; goto L_counter_Counter_exit_i__2; }
 L_counter_Counter_exit_i__2:;
-    v_encoding_sroa_0_0_i_i_i918_i = p_v_encoding_sroa_0_0_i_i_i918_i;
-    v_151 = v_142 + (v_encoding_sroa_0_0_i_i_i918_i < ~v_142 ? v_encoding_sroa_0_0_i_i_i918_i : ~v_142);
+    v_encoding_sroa_0_0_i_i_i928_i = p_v_encoding_sroa_0_0_i_i_i928_i;
+    v_151 = v_142 + (v_encoding_sroa_0_0_i_i_i928_i < ~v_142 ? v_encoding_sroa_0_0_i_i_i928_i : ~v_142);
     v_152 = v_151 + (v_22_sroa_7_0_i_ph < ~v_151 ? v_22_sroa_7_0_i_ph : ~v_151);
-    v_5_i_i_i_i_i_i42_i = get_u8(v_22_sroa_0_0_i_ph);
-    v_4_i1_i4_i_i_i_i_i = (u8)(v_5_i_i_i_i_i_i42_i ^ ((u8)1 << 7)) < (u8)(0u ^ ((u8)1 << 7));
+    v_5_i_i_i_i_i_i_i38_i = get_u8(v_22_sroa_0_0_i_ph);
+    v_4_i_i_i4_i_i_i_i_i = (u8)(v_5_i_i_i_i_i_i_i38_i ^ ((u8)1 << 7)) < (u8)(0u ^ ((u8)1 << 7));
     v_153 = v_152 + (1u < ~v_152 ? 1u : ~v_152);
-    v_counter_i_sroa_0_7_i = v_4_i1_i4_i_i_i_i_i ? v_153 : v_152;
+    v_counter_i_sroa_0_7_i = v_4_i_i_i4_i_i_i_i_i ? v_153 : v_152;
     v_154 = v_counter_i_sroa_0_7_i > v_151 ? v_counter_i_sroa_0_7_i - v_151 : 0u;
-    v_9_i_i_i_i_i_i_i43_i = v_154 < 128u;
-    if (v_9_i_i_i_i_i_i_i43_i) { p_v_sink_i = 2u; goto L_counter_Counter_exit_i_i_i_i_i; } else { goto L_bb4_i_i_i_i_i_i_i44_i; }
-L_bb4_i_i_i_i_i_i_i44_i:;
+    v_9_i_i_i_i_i_i_i39_i = v_154 < 128u;
+    if (v_9_i_i_i_i_i_i_i39_i) { p_v_sink_i = 2u; goto L_counter_Counter_exit_i_i_i_i_i; } else { goto L_bb4_i_i_i_i_i_i_i40_i; }
+L_bb4_i_i_i_i_i_i_i40_i:;
     v_10_i_i_i_i_i_i_i_i = v_154 < 256u;
-    if (v_10_i_i_i_i_i_i_i_i) { p_v_sink_i = 3u; goto L_counter_Counter_exit_i_i_i_i_i; } else { goto L_bb6_i_i_i_i_i_i_i45_i; }
-L_bb6_i_i_i_i_i_i_i45_i:;
+    if (v_10_i_i_i_i_i_i_i_i) { p_v_sink_i = 3u; goto L_counter_Counter_exit_i_i_i_i_i; } else { goto L_bb6_i_i_i_i_i_i_i41_i; }
+L_bb6_i_i_i_i_i_i_i41_i:;
     v_11_i_i_i_i_i_i_i_i = v_154 < 65536u;
-    if (v_11_i_i_i_i_i_i_i_i) { p_v_sink_i = 4u; goto L_counter_Counter_exit_i_i_i_i_i; } else { goto L_bb8_i_i_i_i_i_i_i46_i; }
-L_bb8_i_i_i_i_i_i_i46_i:;
-    v_12_i_i_i_i_i_i_i47_i = v_154 < 16777216u;
-    v_i = v_12_i_i_i_i_i_i_i47_i ? 5u : 6u;
+    if (v_11_i_i_i_i_i_i_i_i) { p_v_sink_i = 4u; goto L_counter_Counter_exit_i_i_i_i_i; } else { goto L_bb8_i_i_i_i_i_i_i42_i; }
+L_bb8_i_i_i_i_i_i_i42_i:;
+    v_12_i_i_i_i_i_i_i43_i = v_154 < 16777216u;
+    v_i = v_12_i_i_i_i_i_i_i43_i ? 5u : 6u;
     { p_v_sink_i = v_i; goto L_counter_Counter_exit_i_i_i_i_i; }
 L_counter_Counter_exit_i_i_i_i_i:;
     v_sink_i = p_v_sink_i;
     v_155 = (u64)((u64)(v_sink_i) + (u64)(v_154));
     v_156 = v_151 + (v_155 < ~v_151 ? v_155 : ~v_151);
     v_157 = v_156 + (v_18_sroa_7_0_i_ph < ~v_156 ? v_18_sroa_7_0_i_ph : ~v_156);
-    v_5_i_i_i_i_i54_i = get_u8(v_18_sroa_0_0_i_ph);
-    v_4_i1_i4_i_i_i_i = (u8)(v_5_i_i_i_i_i54_i ^ ((u8)1 << 7)) < (u8)(0u ^ ((u8)1 << 7));
+    v_5_i_i_i_i_i_i49_i = get_u8(v_18_sroa_0_0_i_ph);
+    v_4_i_i_i4_i_i_i_i = (u8)(v_5_i_i_i_i_i_i49_i ^ ((u8)1 << 7)) < (u8)(0u ^ ((u8)1 << 7));
     v_158 = v_157 + (1u < ~v_157 ? 1u : ~v_157);
-    v_counter_i_sroa_0_8_i = v_4_i1_i4_i_i_i_i ? v_158 : v_157;
+    v_counter_i_sroa_0_8_i = v_4_i_i_i4_i_i_i_i ? v_158 : v_157;
     v_159 = v_counter_i_sroa_0_8_i > v_156 ? v_counter_i_sroa_0_8_i - v_156 : 0u;
-    v_9_i_i_i_i_i_i55_i = v_159 < 128u;
-    if (v_9_i_i_i_i_i_i55_i) { p_v_sink2613_i = 2u; goto L_counter_Counter_exit_i_i_i_i__2; } else { goto L_bb4_i_i_i_i_i_i56_i; }
-L_bb4_i_i_i_i_i_i56_i:;
+    v_9_i_i_i_i_i_i50_i = v_159 < 128u;
+    if (v_9_i_i_i_i_i_i50_i) { p_v_sink2630_i = 2u; goto L_counter_Counter_exit_i_i_i_i__2; } else { goto L_bb4_i_i_i_i_i_i51_i; }
+L_bb4_i_i_i_i_i_i51_i:;
     v_10_i_i_i_i_i_i_i = v_159 < 256u;
-    if (v_10_i_i_i_i_i_i_i) { p_v_sink2613_i = 3u; goto L_counter_Counter_exit_i_i_i_i__2; } else { goto L_bb6_i_i_i_i_i_i57_i; }
-L_bb6_i_i_i_i_i_i57_i:;
+    if (v_10_i_i_i_i_i_i_i) { p_v_sink2630_i = 3u; goto L_counter_Counter_exit_i_i_i_i__2; } else { goto L_bb6_i_i_i_i_i_i52_i; }
+L_bb6_i_i_i_i_i_i52_i:;
     v_11_i_i_i_i_i_i_i = v_159 < 65536u;
-    if (v_11_i_i_i_i_i_i_i) { p_v_sink2613_i = 4u; goto L_counter_Counter_exit_i_i_i_i__2; } else { goto L_bb8_i_i_i_i_i_i58_i; }
-L_bb8_i_i_i_i_i_i58_i:;
-    v_12_i_i_i_i_i_i59_i = v_159 < 16777216u;
-    v_2635_i = v_12_i_i_i_i_i_i59_i ? 5u : 6u;
-    { p_v_sink2613_i = v_2635_i; goto L_counter_Counter_exit_i_i_i_i__2; }
+    if (v_11_i_i_i_i_i_i_i) { p_v_sink2630_i = 4u; goto L_counter_Counter_exit_i_i_i_i__2; } else { goto L_bb8_i_i_i_i_i_i53_i; }
+L_bb8_i_i_i_i_i_i53_i:;
+    v_12_i_i_i_i_i_i54_i = v_159 < 16777216u;
+    v_2652_i = v_12_i_i_i_i_i_i54_i ? 5u : 6u;
+    { p_v_sink2630_i = v_2652_i; goto L_counter_Counter_exit_i_i_i_i__2; }
 L_counter_Counter_exit_i_i_i_i__2:;
-    v_sink2613_i = p_v_sink2613_i;
-    v_160 = (u64)((u64)(v_sink2613_i) + (u64)(v_159));
+    v_sink2630_i = p_v_sink2630_i;
+    v_160 = (u64)((u64)(v_sink2630_i) + (u64)(v_159));
     v_161 = v_156 + (v_160 < ~v_156 ? v_160 : ~v_156);
     v_162 = v_161 + (v_14_sroa_7_0_i_ph < ~v_161 ? v_14_sroa_7_0_i_ph : ~v_161);
-    v_5_i_i_i_i66_i = get_u8(v_14_sroa_0_0_i_ph);
-    v_4_i1_i4_i_i_i = (u8)(v_5_i_i_i_i66_i ^ ((u8)1 << 7)) < (u8)(0u ^ ((u8)1 << 7));
+    v_5_i_i_i_i_i60_i = get_u8(v_14_sroa_0_0_i_ph);
+    v_4_i_i_i4_i_i_i = (u8)(v_5_i_i_i_i_i60_i ^ ((u8)1 << 7)) < (u8)(0u ^ ((u8)1 << 7));
     v_163 = v_162 + (1u < ~v_162 ? 1u : ~v_162);
-    v_counter_i_sroa_0_9_i = v_4_i1_i4_i_i_i ? v_163 : v_162;
+    v_counter_i_sroa_0_9_i = v_4_i_i_i4_i_i_i ? v_163 : v_162;
     v_164 = v_counter_i_sroa_0_9_i > v_161 ? v_counter_i_sroa_0_9_i - v_161 : 0u;
-    v_9_i_i_i_i_i67_i = v_164 < 128u;
-    if (v_9_i_i_i_i_i67_i) { p_v_sink2614_i = 2u; goto L_counter_Counter_exit_i_i_i__5; } else { goto L_bb4_i_i_i_i_i68_i; }
-L_bb4_i_i_i_i_i68_i:;
+    v_9_i_i_i_i_i61_i = v_164 < 128u;
+    if (v_9_i_i_i_i_i61_i) { p_v_sink2631_i = 2u; goto L_counter_Counter_exit_i_i_i__5; } else { goto L_bb4_i_i_i_i_i62_i; }
+L_bb4_i_i_i_i_i62_i:;
     v_10_i_i_i_i_i_i = v_164 < 256u;
-    if (v_10_i_i_i_i_i_i) { p_v_sink2614_i = 3u; goto L_counter_Counter_exit_i_i_i__5; } else { goto L_bb6_i_i_i_i_i69_i; }
-L_bb6_i_i_i_i_i69_i:;
+    if (v_10_i_i_i_i_i_i) { p_v_sink2631_i = 3u; goto L_counter_Counter_exit_i_i_i__5; } else { goto L_bb6_i_i_i_i_i63_i; }
+L_bb6_i_i_i_i_i63_i:;
     v_11_i_i_i_i_i_i = v_164 < 65536u;
-    if (v_11_i_i_i_i_i_i) { p_v_sink2614_i = 4u; goto L_counter_Counter_exit_i_i_i__5; } else { goto L_bb8_i_i_i_i_i70_i; }
-L_bb8_i_i_i_i_i70_i:;
-    v_12_i_i_i_i_i71_i = v_164 < 16777216u;
-    v_2636_i = v_12_i_i_i_i_i71_i ? 5u : 6u;
-    { p_v_sink2614_i = v_2636_i; goto L_counter_Counter_exit_i_i_i__5; }
+    if (v_11_i_i_i_i_i_i) { p_v_sink2631_i = 4u; goto L_counter_Counter_exit_i_i_i__5; } else { goto L_bb8_i_i_i_i_i64_i; }
+L_bb8_i_i_i_i_i64_i:;
+    v_12_i_i_i_i_i65_i = v_164 < 16777216u;
+    v_2653_i = v_12_i_i_i_i_i65_i ? 5u : 6u;
+    { p_v_sink2631_i = v_2653_i; goto L_counter_Counter_exit_i_i_i__5; }
 L_counter_Counter_exit_i_i_i__5:;
-    v_sink2614_i = p_v_sink2614_i;
-    v_165 = (u64)((u64)(v_sink2614_i) + (u64)(v_164));
+    v_sink2631_i = p_v_sink2631_i;
+    v_165 = (u64)((u64)(v_sink2631_i) + (u64)(v_164));
     v_166 = v_161 + (v_165 < ~v_161 ? v_165 : ~v_161);
     v_167 = v_166 + (v_10_sroa_7_0_i_ph < ~v_166 ? v_10_sroa_7_0_i_ph : ~v_166);
-    v_5_i_i_i78_i = get_u8(v_10_sroa_0_0_i_ph);
-    v_4_i1_i4_i_i = (u8)(v_5_i_i_i78_i ^ ((u8)1 << 7)) < (u8)(0u ^ ((u8)1 << 7));
+    v_5_i_i_i_i71_i = get_u8(v_10_sroa_0_0_i_ph);
+    v_4_i_i_i4_i_i = (u8)(v_5_i_i_i_i71_i ^ ((u8)1 << 7)) < (u8)(0u ^ ((u8)1 << 7));
     v_168 = v_167 + (1u < ~v_167 ? 1u : ~v_167);
-    v_counter_i_sroa_0_10_i = v_4_i1_i4_i_i ? v_168 : v_167;
+    v_counter_i_sroa_0_10_i = v_4_i_i_i4_i_i ? v_168 : v_167;
     v_169 = v_counter_i_sroa_0_10_i > v_166 ? v_counter_i_sroa_0_10_i - v_166 : 0u;
-    v_9_i_i_i_i79_i = v_169 < 128u;
-    if (v_9_i_i_i_i79_i) { p_v_sink2615_i = 2u; goto L_counter_Counter_exit_i_i__3; } else { goto L_bb4_i_i_i_i80_i; }
-L_bb4_i_i_i_i80_i:;
+    v_9_i_i_i_i72_i = v_169 < 128u;
+    if (v_9_i_i_i_i72_i) { p_v_sink2632_i = 2u; goto L_counter_Counter_exit_i_i__3; } else { goto L_bb4_i_i_i_i73_i; }
+L_bb4_i_i_i_i73_i:;
     v_10_i_i_i_i_i = v_169 < 256u;
-    if (v_10_i_i_i_i_i) { p_v_sink2615_i = 3u; goto L_counter_Counter_exit_i_i__3; } else { goto L_bb6_i_i_i_i81_i; }
-L_bb6_i_i_i_i81_i:;
+    if (v_10_i_i_i_i_i) { p_v_sink2632_i = 3u; goto L_counter_Counter_exit_i_i__3; } else { goto L_bb6_i_i_i_i74_i; }
+L_bb6_i_i_i_i74_i:;
     v_11_i_i_i_i_i = v_169 < 65536u;
-    if (v_11_i_i_i_i_i) { p_v_sink2615_i = 4u; goto L_counter_Counter_exit_i_i__3; } else { goto L_bb8_i_i_i_i82_i; }
-L_bb8_i_i_i_i82_i:;
-    v_12_i_i_i_i83_i = v_169 < 16777216u;
-    v_2637_i = v_12_i_i_i_i83_i ? 5u : 6u;
-    { p_v_sink2615_i = v_2637_i; goto L_counter_Counter_exit_i_i__3; }
+    if (v_11_i_i_i_i_i) { p_v_sink2632_i = 4u; goto L_counter_Counter_exit_i_i__3; } else { goto L_bb8_i_i_i_i75_i; }
+L_bb8_i_i_i_i75_i:;
+    v_12_i_i_i_i76_i = v_169 < 16777216u;
+    v_2654_i = v_12_i_i_i_i76_i ? 5u : 6u;
+    { p_v_sink2632_i = v_2654_i; goto L_counter_Counter_exit_i_i__3; }
 L_counter_Counter_exit_i_i__3:;
-    v_sink2615_i = p_v_sink2615_i;
-    v_170 = (u64)((u64)(v_sink2615_i) + (u64)(v_169));
+    v_sink2632_i = p_v_sink2632_i;
+    v_170 = (u64)((u64)(v_sink2632_i) + (u64)(v_169));
     v_171 = v_166 + (v_170 < ~v_166 ? v_170 : ~v_166);
     v_172 = v_171 + (v_6_sroa_7_0_i_ph < ~v_171 ? v_6_sroa_7_0_i_ph : ~v_171);
-    v_5_i_i91_i = get_u8(v_6_sroa_0_0_i_ph);
-    v_4_i1_i_i = (u8)(v_5_i_i91_i ^ ((u8)1 << 7)) < (u8)(0u ^ ((u8)1 << 7));
+    v_5_i_i_i83_i = get_u8(v_6_sroa_0_0_i_ph);
+    v_4_i_i_i84_i = (u8)(v_5_i_i_i83_i ^ ((u8)1 << 7)) < (u8)(0u ^ ((u8)1 << 7));
     v_173 = v_172 + (1u < ~v_172 ? 1u : ~v_172);
-    v_counter_i_sroa_0_11_i = v_4_i1_i_i ? v_173 : v_172;
+    v_counter_i_sroa_0_11_i = v_4_i_i_i84_i ? v_173 : v_172;
     v_174 = v_counter_i_sroa_0_11_i > v_171 ? v_counter_i_sroa_0_11_i - v_171 : 0u;
-    v_9_i_i_i92_i = v_174 < 128u;
-    if (v_9_i_i_i92_i) { p_v_sink2616_i = 2u; goto L_counter_Counter_exit_i_i__4; } else { goto L_bb4_i_i_i93_i; }
-L_bb4_i_i_i93_i:;
+    v_9_i_i_i85_i = v_174 < 128u;
+    if (v_9_i_i_i85_i) { p_v_sink2633_i = 2u; goto L_counter_Counter_exit_i__3; } else { goto L_bb4_i_i_i86_i; }
+L_bb4_i_i_i86_i:;
     v_10_i_i_i_i = v_174 < 256u;
-    if (v_10_i_i_i_i) { p_v_sink2616_i = 3u; goto L_counter_Counter_exit_i_i__4; } else { goto L_bb6_i_i_i94_i; }
-L_bb6_i_i_i94_i:;
+    if (v_10_i_i_i_i) { p_v_sink2633_i = 3u; goto L_counter_Counter_exit_i__3; } else { goto L_bb6_i_i_i87_i; }
+L_bb6_i_i_i87_i:;
     v_11_i_i_i_i = v_174 < 65536u;
-    if (v_11_i_i_i_i) { p_v_sink2616_i = 4u; goto L_counter_Counter_exit_i_i__4; } else { goto L_bb8_i_i_i95_i; }
-L_bb8_i_i_i95_i:;
-    v_12_i_i_i96_i = v_174 < 16777216u;
-    v_2638_i = v_12_i_i_i96_i ? 5u : 6u;
-    { p_v_sink2616_i = v_2638_i; goto L_counter_Counter_exit_i_i__4; }
-L_counter_Counter_exit_i_i__4:;
-    v_sink2616_i = p_v_sink2616_i;
-    v_175 = (u64)((u64)(v_sink2616_i) + (u64)(v_174));
+    if (v_11_i_i_i_i) { p_v_sink2633_i = 4u; goto L_counter_Counter_exit_i__3; } else { goto L_bb8_i_i_i88_i; }
+L_bb8_i_i_i88_i:;
+    v_12_i_i_i89_i = v_174 < 16777216u;
+    v_2655_i = v_12_i_i_i89_i ? 5u : 6u;
+    { p_v_sink2633_i = v_2655_i; goto L_counter_Counter_exit_i__3; }
+L_counter_Counter_exit_i__3:;
+    v_sink2633_i = p_v_sink2633_i;
+    v_175 = (u64)((u64)(v_sink2633_i) + (u64)(v_174));
     v_176 = v_171 + (v_175 < ~v_171 ? v_175 : ~v_171);
     v_177 = v_176 + (1u < ~v_176 ? 1u : ~v_176);
     v_178 = v_177 > v_176 ? v_177 - v_176 : 0u;
     v_9_i_i_i = v_178 < 128u;
-    if (v_9_i_i_i) { p_v_sink2617_i = 2u; goto L_Prepend_prepend_header_exit_i_i; } else { goto L_bb4_i_i_i; }
+    if (v_9_i_i_i) { p_v_sink2634_i = 2u; goto L_Prepend_prepend_header_exit_i_i; } else { goto L_bb4_i_i_i; }
 L_bb4_i_i_i:;
     v_10_i_i_i = v_178 < 256u;
-    if (v_10_i_i_i) { p_v_sink2617_i = 3u; goto L_Prepend_prepend_header_exit_i_i; } else { goto L_bb6_i4_i_i; }
-L_bb6_i4_i_i:;
+    if (v_10_i_i_i) { p_v_sink2634_i = 3u; goto L_Prepend_prepend_header_exit_i_i; } else { goto L_bb6_i_i_i; }
+L_bb6_i_i_i:;
     v_11_i_i_i = v_178 < 65536u;
-    if (v_11_i_i_i) { p_v_sink2617_i = 4u; goto L_Prepend_prepend_header_exit_i_i; } else { goto L_bb8_i_i_i; }
+    if (v_11_i_i_i) { p_v_sink2634_i = 4u; goto L_Prepend_prepend_header_exit_i_i; } else { goto L_bb8_i_i_i; }
 L_bb8_i_i_i:;
     v_12_i_i_i = v_178 < 16777216u;
-    v_2639_i = v_12_i_i_i ? 5u : 6u;
-    { p_v_sink2617_i = v_2639_i; goto L_Prepend_prepend_header_exit_i_i; }
+    v_2656_i = v_12_i_i_i ? 5u : 6u;
+    { p_v_sink2634_i = v_2656_i; goto L_Prepend_prepend_header_exit_i_i; }
 L_Prepend_prepend_header_exit_i_i:;
-    v_sink2617_i = p_v_sink2617_i;
-    v_179 = (u64)((u64)(v_sink2617_i) + (u64)(v_178));
+    v_sink2634_i = p_v_sink2634_i;
+    v_179 = (u64)((u64)(v_sink2634_i) + (u64)(v_178));
     v_180 = v_176 + (v_179 < ~v_176 ? v_179 : ~v_176);
-    v_9_i6_i_i = v_180 < 128u;
-    if (v_9_i6_i_i) { goto L_bb3_i18_i_i; } else { goto L_bb4_i7_i_i; }
-L_bb4_i7_i_i:;
-    v_10_i8_i_i = v_180 < 256u;
-    if (v_10_i8_i_i) { goto L_bb5_i17_i_i; } else { goto L_bb6_i9_i_i; }
-L_bb3_i18_i_i:;
+    v_9_i4_i_i = v_180 < 128u;
+    if (v_9_i4_i_i) { goto L_bb3_i16_i_i; } else { goto L_bb4_i5_i_i; }
+L_bb4_i5_i_i:;
+    v_10_i6_i_i = v_180 < 256u;
+    if (v_10_i6_i_i) { goto L_bb5_i15_i_i; } else { goto L_bb6_i7_i_i; }
+L_bb3_i16_i_i:;
     v_181 = (u64)((u64)(v_180) + (u64)(2u));
-    { p_v_encoding_sroa_0_0_i14_i2020_i = v_181; goto L_bb4_i232; }
-L_bb6_i9_i_i:;
-    v_11_i10_i_i = v_180 < 65536u;
-    if (v_11_i10_i_i) { goto L_bb7_i16_i_i; } else { goto L_bb8_i11_i_i; }
-L_bb5_i17_i_i:;
+    { p_v_encoding_sroa_0_0_i12_i2037_i = v_181; goto L_bb4_i232; }
+L_bb6_i7_i_i:;
+    v_11_i8_i_i = v_180 < 65536u;
+    if (v_11_i8_i_i) { goto L_bb7_i14_i_i; } else { goto L_bb8_i9_i_i; }
+L_bb5_i15_i_i:;
     v_182 = (u64)((u64)(v_180) + (u64)(3u));
-    { p_v_encoding_sroa_0_0_i14_i2020_i = v_182; goto L_bb4_i232; }
-L_bb8_i11_i_i:;
-    v_12_i12_i_i = v_180 < 16777216u;
-    if (v_12_i12_i_i) { goto L_bb9_i15_i_i; } else { goto L_counter_Counter_exit_i__3; }
-L_bb7_i16_i_i:;
+    { p_v_encoding_sroa_0_0_i12_i2037_i = v_182; goto L_bb4_i232; }
+L_bb8_i9_i_i:;
+    v_12_i10_i_i = v_180 < 16777216u;
+    if (v_12_i10_i_i) { goto L_bb9_i13_i_i; } else { goto L_counter_Counter_exit_i__4; }
+L_bb7_i14_i_i:;
     v_183 = (u64)((u64)(v_180) + (u64)(4u));
-    { p_v_encoding_sroa_0_0_i14_i2020_i = v_183; goto L_bb4_i232; }
-L_bb9_i15_i_i:;
+    { p_v_encoding_sroa_0_0_i12_i2037_i = v_183; goto L_bb4_i232; }
+L_bb9_i13_i_i:;
     v_184 = (u64)((u64)(v_180) + (u64)(5u));
-    { p_v_encoding_sroa_0_0_i14_i2020_i = v_184; goto L_bb4_i232; }
-L_counter_Counter_exit_i__3:;
+    { p_v_encoding_sroa_0_0_i12_i2037_i = v_184; goto L_bb4_i232; }
+L_counter_Counter_exit_i__4:;
     v_185 = v_180 + (6u < ~v_180 ? 6u : ~v_180);
     v_13_i_i = v_185 > 4294967295ull;
-    if (v_13_i_i) { p_v_0_sroa_0_1 = 8u; goto L_bb8; } else { p_v_encoding_sroa_0_0_i14_i2020_i = v_185; goto L_bb4_i232; }
+    if (v_13_i_i) { p_v_0_sroa_0_1 = 8u; goto L_bb8; } else { p_v_encoding_sroa_0_0_i12_i2037_i = v_185; goto L_bb4_i232; }
 L_bb4_i232:;
-    v_encoding_sroa_0_0_i14_i2020_i = p_v_encoding_sroa_0_0_i14_i2020_i;
-    put_u64(v_len, v_encoding_sroa_0_0_i14_i2020_i);
-    v_9_i233 = v_encoding_sroa_0_0_i14_i2020_i > v_out_len;
+    v_encoding_sroa_0_0_i12_i2037_i = p_v_encoding_sroa_0_0_i12_i2037_i;
+    put_u64(v_len, v_encoding_sroa_0_0_i12_i2037_i);
+    v_9_i233 = v_encoding_sroa_0_0_i12_i2037_i > v_out_len;
     if (v_9_i233) { p_v_0_sroa_0_1 = 15u; goto L_bb8; } else { goto L_bb10_i234; }
 L_bb10_i234:;
-    if (v_48) { p_v_writer_sroa_174_4_i = v_encoding_sroa_0_0_i14_i2020_i; goto L_back_writer_BackWriter_exit_i_i_i_i; } else { p_v_writer_sroa_174_0_i = v_encoding_sroa_0_0_i14_i2020_i; p_v_0_sroa_0_0_i_i_i_i263_i36_i_i = v_encoding_sroa_0_0_i14_i2020_i; p_v_left_sroa_0_034_i_i = v_others_len; goto L_bb2_i1027_i; }
-L_bb2_i1027_i:;
+    if (v_48) { p_v_writer_sroa_174_4_i = v_encoding_sroa_0_0_i12_i2037_i; goto L_back_writer_BackWriter_exit_i_i_i_i; } else { p_v_writer_sroa_174_0_i = v_encoding_sroa_0_0_i12_i2037_i; p_v_0_sroa_0_0_i_i_i_i19_i250_i36_i_i = v_encoding_sroa_0_0_i12_i2037_i; p_v_left_sroa_0_034_i_i = v_others_len; goto L_bb2_i1040_i; }
+L_bb2_i1040_i:;
     v_writer_sroa_174_0_i = p_v_writer_sroa_174_0_i;
-    v_0_sroa_0_0_i_i_i_i263_i36_i_i = p_v_0_sroa_0_0_i_i_i_i263_i36_i_i;
+    v_0_sroa_0_0_i_i_i_i19_i250_i36_i_i = p_v_0_sroa_0_0_i_i_i_i19_i250_i36_i_i;
     v_left_sroa_0_034_i_i = p_v_left_sroa_0_034_i_i;
     v_186 = (u64)((u64)(v_left_sroa_0_034_i_i) + (u64)(18446744073709551615ull));
-    v_7_i1028_i = v_11_sroa_54_0527 + (int64_t)(v_186 * 48);
-    v_15_0_i_i_i1029_i = get_P(v_7_i1028_i);
-    v_187 = v_7_i1028_i + 8;
-    v_15_1_i_i_i1030_i = get_u64(v_187);
-    v_36_i_i269_i_i_i = v_15_1_i_i_i1030_i > 1u;
-    if (v_36_i_i269_i_i_i) { goto L_bb3_preheader_i_i_i_i1208_i; } else { goto L_uint_strip_exit_i_i_i1031_i; }
-L_bb3_preheader_i_i_i_i1208_i:;
-    v_188 = (P)((u64)v_15_0_i_i_i1029_i + (u64)(v_15_1_i_i_i1030_i));
-    v_scevgep_i_i_i_i1209_i = (P)((u64)v_188 + (u64)(-1));
-    { p_v_rest_sroa_0_08_i_i_i_i1210_i = v_15_0_i_i_i1029_i; p_v_rest_sroa_9_07_i_i_i_i1211_i = v_15_1_i_i_i1030_i; goto L_bb3_i_i272_i_i_i; }
+    v_7_i1041_i = v_11_sroa_54_0527 + (int64_t)(v_186 * 48);
+    v_15_0_i_i_i1042_i = get_P(v_7_i1041_i);
+    v_187 = v_7_i1041_i + 8;
+    v_15_1_i_i_i1043_i = get_u64(v_187);
+    v_36_i_i256_i_i_i = v_15_1_i_i_i1043_i > 1u;
+    if (v_36_i_i256_i_i_i) { goto L_bb3_preheader_i_i_i_i1225_i; } else { goto L_uint_strip_exit_i_i_i1044_i; }
+L_bb3_preheader_i_i_i_i1225_i:;
+    v_188 = (P)((u64)v_15_0_i_i_i1042_i + (u64)(v_15_1_i_i_i1043_i));
+    v_scevgep_i_i_i_i1226_i = (P)((u64)v_188 + (u64)(-1));
+    { p_v_rest_sroa_0_08_i_i_i_i1227_i = v_15_0_i_i_i1042_i; p_v_rest_sroa_9_07_i_i_i_i1228_i = v_15_1_i_i_i1043_i; goto L_bb3_i_i258_i_i_i; }
+L_bb3_i_i258_i_i_i:;
+    v_rest_sroa_0_08_i_i_i_i1227_i = p_v_rest_sroa_0_08_i_i_i_i1227_i;
+    v_rest_sroa_9_07_i_i_i_i1228_i = p_v_rest_sroa_9_07_i_i_i_i1228_i;
+    v_6_i_i_i_i1229_i = get_u8(v_rest_sroa_0_08_i_i_i_i1227_i);
+    v_189 = v_6_i_i_i_i1229_i == 0u;
+    if (v_189) { goto L_bb9_i_i_i_i1230_i; } else { p_v_rest_sroa_0_08_i_i_i_i1227_i_lcssa = v_rest_sroa_0_08_i_i_i_i1227_i; p_v_rest_sroa_9_07_i_i_i_i1228_i_lcssa = v_rest_sroa_9_07_i_i_i_i1228_i; goto L_bb3_i259_i_i_i; }
+L_bb9_i_i_i_i1230_i:;
+    v_16_i_i_i_i1231_i = (u64)((u64)(v_rest_sroa_9_07_i_i_i_i1228_i) + (u64)(18446744073709551615ull));
+    v_17_i_i261_i_i_i = v_rest_sroa_0_08_i_i_i_i1227_i + 1;
+    v_3_i_i_i_i1232_i = v_16_i_i_i_i1231_i > 1u;
+    if (v_3_i_i_i_i1232_i) { p_v_rest_sroa_0_08_i_i_i_i1227_i = v_17_i_i261_i_i_i; p_v_rest_sroa_9_07_i_i_i_i1228_i = v_16_i_i_i_i1231_i; goto L_bb3_i_i258_i_i_i; } else { goto L_UintRef_new_exit_i_i1233_i; }
+L_uint_strip_exit_i_i_i1044_i:;
+    v_190 = v_15_1_i_i_i1043_i == 0u;
+    if (v_190) { p_v_writer_sroa_174_1_i = v_writer_sroa_174_0_i; p_v_0_sroa_0_0_i_i_i_i19_i250_i35_i_i = v_0_sroa_0_0_i_i_i_i19_i250_i36_i_i; goto L_back_writer_BackWriter_exit_i_i; } else { p_v_19_i_sroa_0_0444_i_i_i = v_15_0_i_i_i1042_i; p_v_19_i_sroa_7_0443_i_i_i = 1u; goto L_bb7_i_i_i1045_i; }
+L_bb3_i259_i_i_i:;
+    v_rest_sroa_0_08_i_i_i_i1227_i_lcssa = p_v_rest_sroa_0_08_i_i_i_i1227_i_lcssa;
+    v_rest_sroa_9_07_i_i_i_i1228_i_lcssa = p_v_rest_sroa_9_07_i_i_i_i1228_i_lcssa;
+    v_5_i260_i_i_i = v_rest_sroa_9_07_i_i_i_i1228_i_lcssa > 4294967295ull;
+    if (v_5_i260_i_i_i) { p_v_writer_sroa_174_1_i = v_writer_sroa_174_0_i; p_v_0_sroa_0_0_i_i_i_i19_i250_i35_i_i = v_0_sroa_0_0_i_i_i_i19_i250_i36_i_i; goto L_back_writer_BackWriter_exit_i_i; } else { p_v_19_i_sroa_0_0444_i_i_i = v_rest_sroa_0_08_i_i_i_i1227_i_lcssa; p_v_19_i_sroa_7_0443_i_i_i = v_rest_sroa_9_07_i_i_i_i1228_i_lcssa; goto L_bb7_i_i_i1045_i; }
+L_UintRef_new_exit_i_i1233_i:;
+    v_191 = v_scevgep_i_i_i_i1226_i == (P)0;
+    if (v_191) { p_v_writer_sroa_174_1_i = v_writer_sroa_174_0_i; p_v_0_sroa_0_0_i_i_i_i19_i250_i35_i_i = v_0_sroa_0_0_i_i_i_i19_i250_i36_i_i; goto L_back_writer_BackWriter_exit_i_i; } else { p_v_19_i_sroa_0_0444_i_i_i = v_scevgep_i_i_i_i1226_i; p_v_19_i_sroa_7_0443_i_i_i = 1u; goto L_bb7_i_i_i1045_i; }
+L_bb7_i_i_i1045_i:;
+    v_19_i_sroa_0_0444_i_i_i = p_v_19_i_sroa_0_0444_i_i_i;
+    v_19_i_sroa_7_0443_i_i_i = p_v_19_i_sroa_7_0443_i_i_i;
+    v_192 = v_7_i1041_i + 16;
+    v_16_0_i_i_i1046_i = get_P(v_192);
+    v_193 = v_7_i1041_i + 24;
+    v_16_1_i_i_i1047_i = get_u64(v_193);
+    v_36_i_i262_i_i_i = v_16_1_i_i_i1047_i > 1u;
+    if (v_36_i_i262_i_i_i) { goto L_bb3_preheader_i_i270_i_i_i; } else { goto L_uint_strip_exit_i263_i_i_i; }
+L_bb3_preheader_i_i270_i_i_i:;
+    v_194 = (P)((u64)v_16_0_i_i_i1046_i + (u64)(v_16_1_i_i_i1047_i));
+    v_scevgep_i_i271_i_i_i = (P)((u64)v_194 + (u64)(-1));
+    { p_v_rest_sroa_0_08_i_i273_i_i_i = v_16_0_i_i_i1046_i; p_v_rest_sroa_9_07_i_i274_i_i_i = v_16_1_i_i_i1047_i; goto L_bb3_i_i272_i_i_i; }
 L_bb3_i_i272_i_i_i:;
-    v_rest_sroa_0_08_i_i_i_i1210_i = p_v_rest_sroa_0_08_i_i_i_i1210_i;
-    v_rest_sroa_9_07_i_i_i_i1211_i = p_v_rest_sroa_9_07_i_i_i_i1211_i;
-    v_6_i_i_i_i1212_i = get_u8(v_rest_sroa_0_08_i_i_i_i1210_i);
-    v_189 = v_6_i_i_i_i1212_i == 0u;
-    if (v_189) { goto L_bb9_i_i_i_i1213_i; } else { p_v_rest_sroa_0_08_i_i_i_i1210_i_lcssa = v_rest_sroa_0_08_i_i_i_i1210_i; p_v_rest_sroa_9_07_i_i_i_i1211_i_lcssa = v_rest_sroa_9_07_i_i_i_i1211_i; goto L_bb3_i273_i_i_i; }
-L_bb9_i_i_i_i1213_i:;
-    v_16_i_i_i_i1214_i = (u64)((u64)(v_rest_sroa_9_07_i_i_i_i1211_i) + (u64)(18446744073709551615ull));
-    v_17_i_i275_i_i_i = v_rest_sroa_0_08_i_i_i_i1210_i + 1;
-    v_3_i_i_i_i1215_i = v_16_i_i_i_i1214_i > 1u;
-    if (v_3_i_i_i_i1215_i) { p_v_rest_sroa_0_08_i_i_i_i1210_i = v_17_i_i275_i_i_i; p_v_rest_sroa_9_07_i_i_i_i1211_i = v_16_i_i_i_i1214_i; goto L_bb3_i_i272_i_i_i; } else { goto L_UintRef_new_exit_i_i1216_i; }
-L_uint_strip_exit_i_i_i1031_i:;
-    v_190 = v_15_1_i_i_i1030_i == 0u;
-    if (v_190) { p_v_writer_sroa_174_1_i = v_writer_sroa_174_0_i; p_v_0_sroa_0_0_i_i_i_i263_i35_i_i = v_0_sroa_0_0_i_i_i_i263_i36_i_i; goto L_back_writer_BackWriter_exit_i_i; } else { p_v_19_i_sroa_0_0458_i_i_i = v_15_0_i_i_i1029_i; p_v_19_i_sroa_7_0457_i_i_i = 1u; goto L_bb7_i_i_i1032_i; }
-L_bb3_i273_i_i_i:;
-    v_rest_sroa_0_08_i_i_i_i1210_i_lcssa = p_v_rest_sroa_0_08_i_i_i_i1210_i_lcssa;
-    v_rest_sroa_9_07_i_i_i_i1211_i_lcssa = p_v_rest_sroa_9_07_i_i_i_i1211_i_lcssa;
-    v_5_i274_i_i_i = v_rest_sroa_9_07_i_i_i_i1211_i_lcssa > 4294967295ull;
-    if (v_5_i274_i_i_i) { p_v_writer_sroa_174_1_i = v_writer_sroa_174_0_i; p_v_0_sroa_0_0_i_i_i_i263_i35_i_i = v_0_sroa_0_0_i_i_i_i263_i36_i_i; goto L_back_writer_BackWriter_exit_i_i; } else { p_v_19_i_sroa_0_0458_i_i_i = v_rest_sroa_0_08_i_i_i_i1210_i_lcssa; p_v_19_i_sroa_7_0457_i_i_i = v_rest_sroa_9_07_i_i_i_i1211_i_lcssa; goto L_bb7_i_i_i1032_i; }
-L_UintRef_new_exit_i_i1216_i:;
-    v_191 = v_scevgep_i_i_i_i1209_i == (P)0;
-    if (v_191) { p_v_writer_sroa_174_1_i = v_writer_sroa_174_0_i; p_v_0_sroa_0_0_i_i_i_i263_i35_i_i = v_0_sroa_0_0_i_i_i_i263_i36_i_i; goto L_back_writer_BackWriter_exit_i_i; } else { p_v_19_i_sroa_0_0458_i_i_i = v_scevgep_i_i_i_i1209_i; p_v_19_i_sroa_7_0457_i_i_i = 1u; goto L_bb7_i_i_i1032_i; }
-L_bb7_i_i_i1032_i:;
-    v_19_i_sroa_0_0458_i_i_i = p_v_19_i_sroa_0_0458_i_i_i;
-    v_19_i_sroa_7_0457_i_i_i = p_v_19_i_sroa_7_0457_i_i_i;
-    v_192 = v_7_i1028_i + 16;
-    v_16_0_i_i_i1033_i = get_P(v_192);
-    v_193 = v_7_i1028_i + 24;
-    v_16_1_i_i_i1034_i = get_u64(v_193);
-    v_36_i_i276_i_i_i = v_16_1_i_i_i1034_i > 1u;
-    if (v_36_i_i276_i_i_i) { goto L_bb3_preheader_i_i284_i_i_i; } else { goto L_uint_strip_exit_i277_i_i_i; }
-L_bb3_preheader_i_i284_i_i_i:;
-    v_194 = (P)((u64)v_16_0_i_i_i1033_i + (u64)(v_16_1_i_i_i1034_i));
-    v_scevgep_i_i285_i_i_i = (P)((u64)v_194 + (u64)(-1));
-    { p_v_rest_sroa_0_08_i_i287_i_i_i = v_16_0_i_i_i1033_i; p_v_rest_sroa_9_07_i_i288_i_i_i = v_16_1_i_i_i1034_i; goto L_bb3_i_i286_i_i_i; }
-L_bb3_i_i286_i_i_i:;
-    v_rest_sroa_0_08_i_i287_i_i_i = p_v_rest_sroa_0_08_i_i287_i_i_i;
-    v_rest_sroa_9_07_i_i288_i_i_i = p_v_rest_sroa_9_07_i_i288_i_i_i;
-    v_6_i_i289_i_i_i = get_u8(v_rest_sroa_0_08_i_i287_i_i_i);
-    v_195 = v_6_i_i289_i_i_i == 0u;
-    if (v_195) { goto L_bb9_i_i293_i_i_i; } else { p_v_rest_sroa_0_08_i_i287_i_i_i_lcssa = v_rest_sroa_0_08_i_i287_i_i_i; p_v_rest_sroa_9_07_i_i288_i_i_i_lcssa = v_rest_sroa_9_07_i_i288_i_i_i; goto L_bb3_i290_i_i_i; }
-L_bb9_i_i293_i_i_i:;
-    v_16_i_i294_i_i_i = (u64)((u64)(v_rest_sroa_9_07_i_i288_i_i_i) + (u64)(18446744073709551615ull));
-    v_17_i_i295_i_i_i = v_rest_sroa_0_08_i_i287_i_i_i + 1;
-    v_3_i_i296_i_i_i = v_16_i_i294_i_i_i > 1u;
-    if (v_3_i_i296_i_i_i) { p_v_rest_sroa_0_08_i_i287_i_i_i = v_17_i_i295_i_i_i; p_v_rest_sroa_9_07_i_i288_i_i_i = v_16_i_i294_i_i_i; goto L_bb3_i_i286_i_i_i; } else { goto L_UintRef_new_exit297_i_i_i; }
-L_uint_strip_exit_i277_i_i_i:;
-    v_196 = v_16_1_i_i_i1034_i == 0u;
-    if (v_196) { p_v_writer_sroa_174_1_i = v_writer_sroa_174_0_i; p_v_0_sroa_0_0_i_i_i_i263_i35_i_i = v_0_sroa_0_0_i_i_i_i263_i36_i_i; goto L_back_writer_BackWriter_exit_i_i; } else { p_v_32_i_sroa_7_0468_i_i_i = 1u; p_v_32_i_sroa_0_0467_i_i_i = v_16_0_i_i_i1033_i; goto L_bb10_i_i_i1035_i; }
-L_bb3_i290_i_i_i:;
-    v_rest_sroa_0_08_i_i287_i_i_i_lcssa = p_v_rest_sroa_0_08_i_i287_i_i_i_lcssa;
-    v_rest_sroa_9_07_i_i288_i_i_i_lcssa = p_v_rest_sroa_9_07_i_i288_i_i_i_lcssa;
-    v_5_i291_i_i_i = v_rest_sroa_9_07_i_i288_i_i_i_lcssa > 4294967295ull;
-    if (v_5_i291_i_i_i) { p_v_writer_sroa_174_1_i = v_writer_sroa_174_0_i; p_v_0_sroa_0_0_i_i_i_i263_i35_i_i = v_0_sroa_0_0_i_i_i_i263_i36_i_i; goto L_back_writer_BackWriter_exit_i_i; } else { p_v_32_i_sroa_7_0468_i_i_i = v_rest_sroa_9_07_i_i288_i_i_i_lcssa; p_v_32_i_sroa_0_0467_i_i_i = v_rest_sroa_0_08_i_i287_i_i_i_lcssa; goto L_bb10_i_i_i1035_i; }
-L_UintRef_new_exit297_i_i_i:;
-    v_197 = v_scevgep_i_i285_i_i_i == (P)0;
-    if (v_197) { p_v_writer_sroa_174_1_i = v_writer_sroa_174_0_i; p_v_0_sroa_0_0_i_i_i_i263_i35_i_i = v_0_sroa_0_0_i_i_i_i263_i36_i_i; goto L_back_writer_BackWriter_exit_i_i; } else { p_v_32_i_sroa_7_0468_i_i_i = 1u; p_v_32_i_sroa_0_0467_i_i_i = v_scevgep_i_i285_i_i_i; goto L_bb10_i_i_i1035_i; }
-L_bb10_i_i_i1035_i:;
-    v_32_i_sroa_7_0468_i_i_i = p_v_32_i_sroa_7_0468_i_i_i;
-    v_32_i_sroa_0_0467_i_i_i = p_v_32_i_sroa_0_0467_i_i_i;
-    v_198 = v_7_i1028_i + 32;
-    v_17_0_i_i_i1036_i = get_P(v_198);
-    v_199 = v_7_i1028_i + 40;
-    v_17_1_i_i_i1037_i = get_u64(v_199);
-    v_36_i_i298_i_i_i = v_17_1_i_i_i1037_i > 1u;
-    if (v_36_i_i298_i_i_i) { goto L_bb3_preheader_i_i306_i_i_i; } else { goto L_uint_strip_exit_i299_i_i_i; }
-L_bb3_preheader_i_i306_i_i_i:;
-    v_200 = (P)((u64)v_17_0_i_i_i1036_i + (u64)(v_17_1_i_i_i1037_i));
-    v_scevgep_i_i307_i_i_i = (P)((u64)v_200 + (u64)(-1));
-    { p_v_rest_sroa_0_08_i_i309_i_i_i = v_17_0_i_i_i1036_i; p_v_rest_sroa_9_07_i_i310_i_i_i = v_17_1_i_i_i1037_i; goto L_bb3_i_i308_i_i_i; }
-L_bb3_i_i308_i_i_i:;
-    v_rest_sroa_0_08_i_i309_i_i_i = p_v_rest_sroa_0_08_i_i309_i_i_i;
-    v_rest_sroa_9_07_i_i310_i_i_i = p_v_rest_sroa_9_07_i_i310_i_i_i;
-    v_6_i_i311_i_i_i = get_u8(v_rest_sroa_0_08_i_i309_i_i_i);
-    v_201 = v_6_i_i311_i_i_i == 0u;
-    if (v_201) { goto L_bb9_i_i315_i_i_i; } else { p_v_rest_sroa_0_08_i_i309_i_i_i_lcssa = v_rest_sroa_0_08_i_i309_i_i_i; p_v_rest_sroa_9_07_i_i310_i_i_i_lcssa = v_rest_sroa_9_07_i_i310_i_i_i; goto L_bb3_i312_i_i_i; }
-L_bb9_i_i315_i_i_i:;
-    v_16_i_i316_i_i_i = (u64)((u64)(v_rest_sroa_9_07_i_i310_i_i_i) + (u64)(18446744073709551615ull));
-    v_17_i_i317_i_i_i = v_rest_sroa_0_08_i_i309_i_i_i + 1;
-    v_3_i_i318_i_i_i = v_16_i_i316_i_i_i > 1u;
-    if (v_3_i_i318_i_i_i) { p_v_rest_sroa_0_08_i_i309_i_i_i = v_17_i_i317_i_i_i; p_v_rest_sroa_9_07_i_i310_i_i_i = v_16_i_i316_i_i_i; goto L_bb3_i_i308_i_i_i; } else { goto L_UintRef_new_exit319_i_i_i; }
-L_uint_strip_exit_i299_i_i_i:;
-    v_202 = v_17_1_i_i_i1037_i == 0u;
-    if (v_202) { p_v_writer_sroa_174_1_i = v_writer_sroa_174_0_i; p_v_0_sroa_0_0_i_i_i_i263_i35_i_i = v_0_sroa_0_0_i_i_i_i263_i36_i_i; goto L_back_writer_BackWriter_exit_i_i; } else { p_v_46_i_sroa_7_0478_i_i_i = 1u; p_v_46_i_sroa_0_0477_i_i_i = v_17_0_i_i_i1036_i; goto L_bb3_i_i1038_i; }
-L_bb3_i312_i_i_i:;
-    v_rest_sroa_0_08_i_i309_i_i_i_lcssa = p_v_rest_sroa_0_08_i_i309_i_i_i_lcssa;
-    v_rest_sroa_9_07_i_i310_i_i_i_lcssa = p_v_rest_sroa_9_07_i_i310_i_i_i_lcssa;
-    v_5_i313_i_i_i = v_rest_sroa_9_07_i_i310_i_i_i_lcssa > 4294967295ull;
-    if (v_5_i313_i_i_i) { p_v_writer_sroa_174_1_i = v_writer_sroa_174_0_i; p_v_0_sroa_0_0_i_i_i_i263_i35_i_i = v_0_sroa_0_0_i_i_i_i263_i36_i_i; goto L_back_writer_BackWriter_exit_i_i; } else { p_v_46_i_sroa_7_0478_i_i_i = v_rest_sroa_9_07_i_i310_i_i_i_lcssa; p_v_46_i_sroa_0_0477_i_i_i = v_rest_sroa_0_08_i_i309_i_i_i_lcssa; goto L_bb3_i_i1038_i; }
-L_UintRef_new_exit319_i_i_i:;
-    v_203 = v_scevgep_i_i307_i_i_i == (P)0;
-    if (v_203) { p_v_writer_sroa_174_1_i = v_writer_sroa_174_0_i; p_v_0_sroa_0_0_i_i_i_i263_i35_i_i = v_0_sroa_0_0_i_i_i_i263_i36_i_i; goto L_back_writer_BackWriter_exit_i_i; } else { p_v_46_i_sroa_7_0478_i_i_i = 1u; p_v_46_i_sroa_0_0477_i_i_i = v_scevgep_i_i307_i_i_i; goto L_bb3_i_i1038_i; }
-L_bb3_i_i1038_i:;
-    v_46_i_sroa_7_0478_i_i_i = p_v_46_i_sroa_7_0478_i_i_i;
-    v_46_i_sroa_0_0477_i_i_i = p_v_46_i_sroa_0_0477_i_i_i;
-    v_4_i_i8_i_i104_i_i_i = v_46_i_sroa_7_0478_i_i_i > v_0_sroa_0_0_i_i_i_i263_i36_i_i;
-    if (v_4_i_i8_i_i104_i_i_i) { p_v_0_sroa_0_0_i_i19_i_i116_i_i_i = v_0_sroa_0_0_i_i_i_i263_i36_i_i; goto L_bb2_i_i118_i_i_i; } else { goto L_bb2_i_i9_i_i105_i_i_i; }
-L_bb2_i_i9_i_i105_i_i_i:;
-    v_10_not_i_i11_i_i107_i_i_i = v_0_sroa_0_0_i_i_i_i263_i36_i_i > v_encoding_sroa_0_0_i14_i2020_i;
-    if (v_10_not_i_i11_i_i107_i_i_i) { goto L_bb7_i_i21_i_i268_i_i_i; } else { goto L_copy_from_slice_pkcs1_c_exit_i_i_i; }
-L_bb7_i_i21_i_i268_i_i_i:;
+    v_rest_sroa_0_08_i_i273_i_i_i = p_v_rest_sroa_0_08_i_i273_i_i_i;
+    v_rest_sroa_9_07_i_i274_i_i_i = p_v_rest_sroa_9_07_i_i274_i_i_i;
+    v_6_i_i275_i_i_i = get_u8(v_rest_sroa_0_08_i_i273_i_i_i);
+    v_195 = v_6_i_i275_i_i_i == 0u;
+    if (v_195) { goto L_bb9_i_i279_i_i_i; } else { p_v_rest_sroa_0_08_i_i273_i_i_i_lcssa = v_rest_sroa_0_08_i_i273_i_i_i; p_v_rest_sroa_9_07_i_i274_i_i_i_lcssa = v_rest_sroa_9_07_i_i274_i_i_i; goto L_bb3_i276_i_i_i; }
+L_bb9_i_i279_i_i_i:;
+    v_16_i_i280_i_i_i = (u64)((u64)(v_rest_sroa_9_07_i_i274_i_i_i) + (u64)(18446744073709551615ull));
+    v_17_i_i281_i_i_i = v_rest_sroa_0_08_i_i273_i_i_i + 1;
+    v_3_i_i282_i_i_i = v_16_i_i280_i_i_i > 1u;
+    if (v_3_i_i282_i_i_i) { p_v_rest_sroa_0_08_i_i273_i_i_i = v_17_i_i281_i_i_i; p_v_rest_sroa_9_07_i_i274_i_i_i = v_16_i_i280_i_i_i; goto L_bb3_i_i272_i_i_i; } else { goto L_UintRef_new_exit283_i_i_i; }
+L_uint_strip_exit_i263_i_i_i:;
+    v_196 = v_16_1_i_i_i1047_i == 0u;
+    if (v_196) { p_v_writer_sroa_174_1_i = v_writer_sroa_174_0_i; p_v_0_sroa_0_0_i_i_i_i19_i250_i35_i_i = v_0_sroa_0_0_i_i_i_i19_i250_i36_i_i; goto L_back_writer_BackWriter_exit_i_i; } else { p_v_32_i_sroa_7_0454_i_i_i = 1u; p_v_32_i_sroa_0_0453_i_i_i = v_16_0_i_i_i1046_i; goto L_bb10_i_i_i1048_i; }
+L_bb3_i276_i_i_i:;
+    v_rest_sroa_0_08_i_i273_i_i_i_lcssa = p_v_rest_sroa_0_08_i_i273_i_i_i_lcssa;
+    v_rest_sroa_9_07_i_i274_i_i_i_lcssa = p_v_rest_sroa_9_07_i_i274_i_i_i_lcssa;
+    v_5_i277_i_i_i = v_rest_sroa_9_07_i_i274_i_i_i_lcssa > 4294967295ull;
+    if (v_5_i277_i_i_i) { p_v_writer_sroa_174_1_i = v_writer_sroa_174_0_i; p_v_0_sroa_0_0_i_i_i_i19_i250_i35_i_i = v_0_sroa_0_0_i_i_i_i19_i250_i36_i_i; goto L_back_writer_BackWriter_exit_i_i; } else { p_v_32_i_sroa_7_0454_i_i_i = v_rest_sroa_9_07_i_i274_i_i_i_lcssa; p_v_32_i_sroa_0_0453_i_i_i = v_rest_sroa_0_08_i_i273_i_i_i_lcssa; goto L_bb10_i_i_i1048_i; }
+L_UintRef_new_exit283_i_i_i:;
+    v_197 = v_scevgep_i_i271_i_i_i == (P)0;
+    if (v_197) { p_v_writer_sroa_174_1_i = v_writer_sroa_174_0_i; p_v_0_sroa_0_0_i_i_i_i19_i250_i35_i_i = v_0_sroa_0_0_i_i_i_i19_i250_i36_i_i; goto L_back_writer_BackWriter_exit_i_i; } else { p_v_32_i_sroa_7_0454_i_i_i = 1u; p_v_32_i_sroa_0_0453_i_i_i = v_scevgep_i_i271_i_i_i; goto L_bb10_i_i_i1048_i; }
+L_bb10_i_i_i1048_i:;
+    v_32_i_sroa_7_0454_i_i_i = p_v_32_i_sroa_7_0454_i_i_i;
+    v_32_i_sroa_0_0453_i_i_i = p_v_32_i_sroa_0_0453_i_i_i;
+    v_198 = v_7_i1041_i + 32;
+    v_17_0_i_i_i1049_i = get_P(v_198);
+    v_199 = v_7_i1041_i + 40;
+    v_17_1_i_i_i1050_i = get_u64(v_199);
+    v_36_i_i284_i_i_i = v_17_1_i_i_i1050_i > 1u;
+    if (v_36_i_i284_i_i_i) { goto L_bb3_preheader_i_i292_i_i_i; } else { goto L_uint_strip_exit_i285_i_i_i; }
+L_bb3_preheader_i_i292_i_i_i:;
+    v_200 = (P)((u64)v_17_0_i_i_i1049_i + (u64)(v_17_1_i_i_i1050_i));
+    v_scevgep_i_i293_i_i_i = (P)((u64)v_200 + (u64)(-1));
+    { p_v_rest_sroa_0_08_i_i295_i_i_i = v_17_0_i_i_i1049_i; p_v_rest_sroa_9_07_i_i296_i_i_i = v_17_1_i_i_i1050_i; goto L_bb3_i_i294_i_i_i; }
+L_bb3_i_i294_i_i_i:;
+    v_rest_sroa_0_08_i_i295_i_i_i = p_v_rest_sroa_0_08_i_i295_i_i_i;
+    v_rest_sroa_9_07_i_i296_i_i_i = p_v_rest_sroa_9_07_i_i296_i_i_i;
+    v_6_i_i297_i_i_i = get_u8(v_rest_sroa_0_08_i_i295_i_i_i);
+    v_201 = v_6_i_i297_i_i_i == 0u;
+    if (v_201) { goto L_bb9_i_i301_i_i_i; } else { p_v_rest_sroa_0_08_i_i295_i_i_i_lcssa = v_rest_sroa_0_08_i_i295_i_i_i; p_v_rest_sroa_9_07_i_i296_i_i_i_lcssa = v_rest_sroa_9_07_i_i296_i_i_i; goto L_bb3_i298_i_i_i; }
+L_bb9_i_i301_i_i_i:;
+    v_16_i_i302_i_i_i = (u64)((u64)(v_rest_sroa_9_07_i_i296_i_i_i) + (u64)(18446744073709551615ull));
+    v_17_i_i303_i_i_i = v_rest_sroa_0_08_i_i295_i_i_i + 1;
+    v_3_i_i304_i_i_i = v_16_i_i302_i_i_i > 1u;
+    if (v_3_i_i304_i_i_i) { p_v_rest_sroa_0_08_i_i295_i_i_i = v_17_i_i303_i_i_i; p_v_rest_sroa_9_07_i_i296_i_i_i = v_16_i_i302_i_i_i; goto L_bb3_i_i294_i_i_i; } else { goto L_UintRef_new_exit305_i_i_i; }
+L_uint_strip_exit_i285_i_i_i:;
+    v_202 = v_17_1_i_i_i1050_i == 0u;
+    if (v_202) { p_v_writer_sroa_174_1_i = v_writer_sroa_174_0_i; p_v_0_sroa_0_0_i_i_i_i19_i250_i35_i_i = v_0_sroa_0_0_i_i_i_i19_i250_i36_i_i; goto L_back_writer_BackWriter_exit_i_i; } else { p_v_46_i_sroa_7_0464_i_i_i = 1u; p_v_46_i_sroa_0_0463_i_i_i = v_17_0_i_i_i1049_i; goto L_bb3_i_i1051_i; }
+L_bb3_i298_i_i_i:;
+    v_rest_sroa_0_08_i_i295_i_i_i_lcssa = p_v_rest_sroa_0_08_i_i295_i_i_i_lcssa;
+    v_rest_sroa_9_07_i_i296_i_i_i_lcssa = p_v_rest_sroa_9_07_i_i296_i_i_i_lcssa;
+    v_5_i299_i_i_i = v_rest_sroa_9_07_i_i296_i_i_i_lcssa > 4294967295ull;
+    if (v_5_i299_i_i_i) { p_v_writer_sroa_174_1_i = v_writer_sroa_174_0_i; p_v_0_sroa_0_0_i_i_i_i19_i250_i35_i_i = v_0_sroa_0_0_i_i_i_i19_i250_i36_i_i; goto L_back_writer_BackWriter_exit_i_i; } else { p_v_46_i_sroa_7_0464_i_i_i = v_rest_sroa_9_07_i_i296_i_i_i_lcssa; p_v_46_i_sroa_0_0463_i_i_i = v_rest_sroa_0_08_i_i295_i_i_i_lcssa; goto L_bb3_i_i1051_i; }
+L_UintRef_new_exit305_i_i_i:;
+    v_203 = v_scevgep_i_i293_i_i_i == (P)0;
+    if (v_203) { p_v_writer_sroa_174_1_i = v_writer_sroa_174_0_i; p_v_0_sroa_0_0_i_i_i_i19_i250_i35_i_i = v_0_sroa_0_0_i_i_i_i19_i250_i36_i_i; goto L_back_writer_BackWriter_exit_i_i; } else { p_v_46_i_sroa_7_0464_i_i_i = 1u; p_v_46_i_sroa_0_0463_i_i_i = v_scevgep_i_i293_i_i_i; goto L_bb3_i_i1051_i; }
+L_bb3_i_i1051_i:;
+    v_46_i_sroa_7_0464_i_i_i = p_v_46_i_sroa_7_0464_i_i_i;
+    v_46_i_sroa_0_0463_i_i_i = p_v_46_i_sroa_0_0463_i_i_i;
+    v_4_i_i8_i_i_i92_i_i_i = v_46_i_sroa_7_0464_i_i_i > v_0_sroa_0_0_i_i_i_i19_i250_i36_i_i;
+    if (v_4_i_i8_i_i_i92_i_i_i) { p_v_0_sroa_0_0_i_i19_i_i_i104_i_i_i = v_0_sroa_0_0_i_i_i_i19_i250_i36_i_i; goto L_bb2_i_i_i106_i_i_i; } else { goto L_bb2_i_i9_i_i_i93_i_i_i; }
+L_bb2_i_i9_i_i_i93_i_i_i:;
+    v_10_not_i_i11_i_i_i95_i_i_i = v_0_sroa_0_0_i_i_i_i19_i250_i36_i_i > v_encoding_sroa_0_0_i12_i2037_i;
+    if (v_10_not_i_i11_i_i_i95_i_i_i) { goto L_bb7_i_i21_i_i_i255_i_i_i; } else { goto L_copy_from_slice_pkcs1_c_exit_i_i_i; }
+L_bb7_i_i21_i_i_i255_i_i_i:;
     TRAP();
     TRAP();
 L_copy_from_slice_pkcs1_c_exit_i_i_i:;
-    v_start1_i_i10_i_i106_i_i_i = (u64)((u64)(v_0_sroa_0_0_i_i_i_i263_i36_i_i) - (u64)(v_46_i_sroa_7_0478_i_i_i));
-    v_204 = v_out + (int64_t)(v_start1_i_i10_i_i106_i_i_i);
-    copy(v_204, v_46_i_sroa_0_0477_i_i_i, v_46_i_sroa_7_0478_i_i_i);
-    { p_v_0_sroa_0_0_i_i19_i_i116_i_i_i = v_start1_i_i10_i_i106_i_i_i; goto L_bb2_i_i118_i_i_i; }
-L_bb2_i_i118_i_i_i:;
-    v_0_sroa_0_0_i_i19_i_i116_i_i_i = p_v_0_sroa_0_0_i_i19_i_i116_i_i_i;
-    v_5_i_i120_i_i_i = get_u8(v_46_i_sroa_0_0477_i_i_i);
-    v_4_i3_i121_i_i_i = (u8)(v_5_i_i120_i_i_i ^ ((u8)1 << 7)) < (u8)(0u ^ ((u8)1 << 7));
-    if (v_4_i3_i121_i_i_i) { goto L_bb3_i_i247_i_i_i; } else { p_v_8_i_i_i124_i_i_i = v_0_sroa_0_0_i_i19_i_i116_i_i_i; goto L_back_writer_BackWriter_exit_i122_i_i_i; }
-L_bb3_i_i247_i_i_i:;
-    v_4_i_i_i6_i251_i_i_i = v_0_sroa_0_0_i_i19_i_i116_i_i_i == 0u;
-    if (v_4_i_i_i6_i251_i_i_i) { p_v_0_sroa_0_0_i_i_i_i_i244_sink_i_i_i = 0u; goto L_back_writer_BackWriter_exit_i_i_i; } else { goto L_bb2_i_i_i7_i252_i_i_i; }
-L_bb2_i_i_i7_i252_i_i_i:;
-    v_10_not_i_i_i_i254_i_i_i = v_0_sroa_0_0_i_i19_i_i116_i_i_i > v_encoding_sroa_0_0_i14_i2020_i;
-    if (v_10_not_i_i_i_i254_i_i_i) { goto L_bb7_i_i_i10_i265_i_i_i; } else { goto L_copy_from_slice_pkcs1_c_exit324_i_i_i; }
-L_bb7_i_i_i10_i265_i_i_i:;
+    v_start1_i_i10_i_i_i94_i_i_i = (u64)((u64)(v_0_sroa_0_0_i_i_i_i19_i250_i36_i_i) - (u64)(v_46_i_sroa_7_0464_i_i_i));
+    v_204 = v_out + (int64_t)(v_start1_i_i10_i_i_i94_i_i_i);
+    copy(v_204, v_46_i_sroa_0_0463_i_i_i, v_46_i_sroa_7_0464_i_i_i);
+    { p_v_0_sroa_0_0_i_i19_i_i_i104_i_i_i = v_start1_i_i10_i_i_i94_i_i_i; goto L_bb2_i_i_i106_i_i_i; }
+L_bb2_i_i_i106_i_i_i:;
+    v_0_sroa_0_0_i_i19_i_i_i104_i_i_i = p_v_0_sroa_0_0_i_i19_i_i_i104_i_i_i;
+    v_5_i_i5_i107_i_i_i = get_u8(v_46_i_sroa_0_0463_i_i_i);
+    v_4_i_i6_i108_i_i_i = (u8)(v_5_i_i5_i107_i_i_i ^ ((u8)1 << 7)) < (u8)(0u ^ ((u8)1 << 7));
+    if (v_4_i_i6_i108_i_i_i) { goto L_bb3_i_i_i234_i_i_i; } else { p_v_8_i_i_i111_i_i_i = v_0_sroa_0_0_i_i19_i_i_i104_i_i_i; goto L_back_writer_BackWriter_exit_i109_i_i_i; }
+L_bb3_i_i_i234_i_i_i:;
+    v_4_i_i_i_i8_i238_i_i_i = v_0_sroa_0_0_i_i19_i_i_i104_i_i_i == 0u;
+    if (v_4_i_i_i_i8_i238_i_i_i) { p_v_0_sroa_0_0_i_i_i_i_i231_sink_i_i_i = 0u; goto L_back_writer_BackWriter_exit_i_i_i; } else { goto L_bb2_i_i_i_i9_i239_i_i_i; }
+L_bb2_i_i_i_i9_i239_i_i_i:;
+    v_10_not_i_i_i_i11_i241_i_i_i = v_0_sroa_0_0_i_i19_i_i_i104_i_i_i > v_encoding_sroa_0_0_i12_i2037_i;
+    if (v_10_not_i_i_i_i11_i241_i_i_i) { goto L_bb7_i_i_i_i21_i252_i_i_i; } else { goto L_copy_from_slice_pkcs1_c_exit310_i_i_i; }
+L_bb7_i_i_i_i21_i252_i_i_i:;
     TRAP();
     TRAP();
-L_copy_from_slice_pkcs1_c_exit324_i_i_i:;
-    v_start1_i_i_i_i253_i_i_i = (u64)((u64)(v_0_sroa_0_0_i_i19_i_i116_i_i_i) + (u64)(18446744073709551615ull));
-    v_205 = v_out + (int64_t)(v_start1_i_i_i_i253_i_i_i);
+L_copy_from_slice_pkcs1_c_exit310_i_i_i:;
+    v_start1_i_i_i_i10_i240_i_i_i = (u64)((u64)(v_0_sroa_0_0_i_i19_i_i_i104_i_i_i) + (u64)(18446744073709551615ull));
+    v_205 = v_out + (int64_t)(v_start1_i_i_i_i10_i240_i_i_i);
     put_u8(v_205, 0u);
-    { p_v_8_i_i_i124_i_i_i = v_start1_i_i_i_i253_i_i_i; goto L_back_writer_BackWriter_exit_i122_i_i_i; }
-L_back_writer_BackWriter_exit_i122_i_i_i:;
-    v_8_i_i_i124_i_i_i = p_v_8_i_i_i124_i_i_i;
-    v_5_i_i_i125_i_i_i = (u64)((u64)(v_0_sroa_0_0_i_i_i_i263_i36_i_i) - (u64)(v_8_i_i_i124_i_i_i));
-    v_13_i_i_i126_i_i_i = (u32)(v_5_i_i_i125_i_i_i);
-    v_4_i_i_i_i128_i_i_i = v_13_i_i_i126_i_i_i < 128u;
-    if (v_4_i_i_i_i128_i_i_i) { goto L_bb1_i_i_i_i227_i_i_i; } else { goto L_bb2_i_i_i_i129_i_i_i; }
-L_bb2_i_i_i_i129_i_i_i:;
-    v_9_i_i_i_i130_i_i_i = v_13_i_i_i126_i_i_i < 256u;
-    if (v_9_i_i_i_i130_i_i_i) { goto L_bb3_i_i_i_i207_i_i_i; } else { goto L_bb4_i_i_i_i131_i_i_i; }
-L_bb1_i_i_i_i227_i_i_i:;
-    v_8_i_i_i_i228_i_i_i = (u16)(v_5_i_i_i125_i_i_i);
-    v_4_i_i_i_i_i232_i_i_i = v_8_i_i_i124_i_i_i < 2u;
-    if (v_4_i_i_i_i_i232_i_i_i) { p_v_0_sroa_0_0_i_i_i_i_i244_sink_i_i_i = v_8_i_i_i124_i_i_i; goto L_back_writer_BackWriter_exit_i_i_i; } else { goto L_bb2_i_i_i_i_i233_i_i_i; }
-L_bb2_i_i_i_i_i233_i_i_i:;
-    v_10_not_i_i_i_i_i235_i_i_i = v_8_i_i_i124_i_i_i > v_encoding_sroa_0_0_i14_i2020_i;
-    if (v_10_not_i_i_i_i_i235_i_i_i) { goto L_bb7_i_i_i_i_i246_i_i_i; } else { goto L_copy_from_slice_pkcs1_c_exit328_i_i_i; }
-L_bb7_i_i_i_i_i246_i_i_i:;
+    { p_v_8_i_i_i111_i_i_i = v_start1_i_i_i_i10_i240_i_i_i; goto L_back_writer_BackWriter_exit_i109_i_i_i; }
+L_back_writer_BackWriter_exit_i109_i_i_i:;
+    v_8_i_i_i111_i_i_i = p_v_8_i_i_i111_i_i_i;
+    v_5_i_i_i112_i_i_i = (u64)((u64)(v_0_sroa_0_0_i_i_i_i19_i250_i36_i_i) - (u64)(v_8_i_i_i111_i_i_i));
+    v_13_i_i_i113_i_i_i = (u32)(v_5_i_i_i112_i_i_i);
+    v_4_i_i_i_i115_i_i_i = v_13_i_i_i113_i_i_i < 128u;
+    if (v_4_i_i_i_i115_i_i_i) { goto L_bb1_i_i_i_i214_i_i_i; } else { goto L_bb2_i_i_i_i116_i_i_i; }
+L_bb2_i_i_i_i116_i_i_i:;
+    v_9_i_i_i_i117_i_i_i = v_13_i_i_i113_i_i_i < 256u;
+    if (v_9_i_i_i_i117_i_i_i) { goto L_bb3_i_i_i_i194_i_i_i; } else { goto L_bb4_i_i_i_i118_i_i_i; }
+L_bb1_i_i_i_i214_i_i_i:;
+    v_8_i_i_i_i215_i_i_i = (u16)(v_5_i_i_i112_i_i_i);
+    v_4_i_i_i_i_i219_i_i_i = v_8_i_i_i111_i_i_i < 2u;
+    if (v_4_i_i_i_i_i219_i_i_i) { p_v_0_sroa_0_0_i_i_i_i_i231_sink_i_i_i = v_8_i_i_i111_i_i_i; goto L_back_writer_BackWriter_exit_i_i_i; } else { goto L_bb2_i_i_i_i_i220_i_i_i; }
+L_bb2_i_i_i_i_i220_i_i_i:;
+    v_10_not_i_i_i_i_i222_i_i_i = v_8_i_i_i111_i_i_i > v_encoding_sroa_0_0_i12_i2037_i;
+    if (v_10_not_i_i_i_i_i222_i_i_i) { goto L_bb7_i_i_i_i_i233_i_i_i; } else { goto L_copy_from_slice_pkcs1_c_exit314_i_i_i; }
+L_bb7_i_i_i_i_i233_i_i_i:;
     TRAP();
     TRAP();
-L_copy_from_slice_pkcs1_c_exit328_i_i_i:;
-    v_start1_i_i_i_i_i234_i_i_i = (u64)((u64)(v_8_i_i_i124_i_i_i) + (u64)(18446744073709551614ull));
-    v_206 = v_out + (int64_t)(v_start1_i_i_i_i_i234_i_i_i);
-    v_7_i_i_i_i93_sroa_0_sroa_4_0_insert_shift_i_i_i = (u16)((u32)(v_8_i_i_i_i228_i_i_i) << (u32)((8u & 31)));
-    v_7_i_i_i_i93_sroa_0_sroa_0_0_insert_insert_i_i_i = (u16)((u32)(v_7_i_i_i_i93_sroa_0_sroa_4_0_insert_shift_i_i_i) | (u32)(2u));
-    put_u16(v_206, v_7_i_i_i_i93_sroa_0_sroa_0_0_insert_insert_i_i_i);
-    { p_v_0_sroa_0_0_i_i_i_i_i244_sink_i_i_i = v_start1_i_i_i_i_i234_i_i_i; goto L_back_writer_BackWriter_exit_i_i_i; }
-L_bb4_i_i_i_i131_i_i_i:;
-    v_14_i_i_i_i132_i_i_i = v_13_i_i_i126_i_i_i < 65536u;
-    if (v_14_i_i_i_i132_i_i_i) { goto L_bb5_i_i_i_i185_i_i_i; } else { goto L_bb6_i_i_i_i133_i_i_i; }
-L_bb3_i_i_i_i207_i_i_i:;
-    v_13_i_i_i_i208_i_i_i = (u8)(v_5_i_i_i125_i_i_i);
-    v_4_i11_i_i_i_i212_i_i_i = v_8_i_i_i124_i_i_i < 3u;
-    if (v_4_i11_i_i_i_i212_i_i_i) { p_v_0_sroa_0_0_i_i_i_i_i244_sink_i_i_i = v_8_i_i_i124_i_i_i; goto L_back_writer_BackWriter_exit_i_i_i; } else { goto L_bb2_i12_i_i_i_i213_i_i_i; }
-L_bb2_i12_i_i_i_i213_i_i_i:;
-    v_10_not_i14_i_i_i_i215_i_i_i = v_8_i_i_i124_i_i_i > v_encoding_sroa_0_0_i14_i2020_i;
-    if (v_10_not_i14_i_i_i_i215_i_i_i) { goto L_bb7_i24_i_i_i_i226_i_i_i; } else { goto L_copy_from_slice_pkcs1_c_exit332_i_i_i; }
-L_bb7_i24_i_i_i_i226_i_i_i:;
+L_copy_from_slice_pkcs1_c_exit314_i_i_i:;
+    v_start1_i_i_i_i_i221_i_i_i = (u64)((u64)(v_8_i_i_i111_i_i_i) + (u64)(18446744073709551614ull));
+    v_206 = v_out + (int64_t)(v_start1_i_i_i_i_i221_i_i_i);
+    v_7_i_i_i_i81_sroa_0_sroa_4_0_insert_shift_i_i_i = (u16)((u32)(v_8_i_i_i_i215_i_i_i) << (u32)((8u & 31)));
+    v_7_i_i_i_i81_sroa_0_sroa_0_0_insert_insert_i_i_i = (u16)((u32)(v_7_i_i_i_i81_sroa_0_sroa_4_0_insert_shift_i_i_i) | (u32)(2u));
+    put_u16(v_206, v_7_i_i_i_i81_sroa_0_sroa_0_0_insert_insert_i_i_i);
+    { p_v_0_sroa_0_0_i_i_i_i_i231_sink_i_i_i = v_start1_i_i_i_i_i221_i_i_i; goto L_back_writer_BackWriter_exit_i_i_i; }
+L_bb4_i_i_i_i118_i_i_i:;
+    v_14_i_i_i_i119_i_i_i = v_13_i_i_i113_i_i_i < 65536u;
+    if (v_14_i_i_i_i119_i_i_i) { goto L_bb5_i_i_i_i172_i_i_i; } else { goto L_bb6_i_i_i_i120_i_i_i; }
+L_bb3_i_i_i_i194_i_i_i:;
+    v_13_i_i_i_i195_i_i_i = (u8)(v_5_i_i_i112_i_i_i);
+    v_4_i11_i_i_i_i199_i_i_i = v_8_i_i_i111_i_i_i < 3u;
+    if (v_4_i11_i_i_i_i199_i_i_i) { p_v_0_sroa_0_0_i_i_i_i_i231_sink_i_i_i = v_8_i_i_i111_i_i_i; goto L_back_writer_BackWriter_exit_i_i_i; } else { goto L_bb2_i12_i_i_i_i200_i_i_i; }
+L_bb2_i12_i_i_i_i200_i_i_i:;
+    v_10_not_i14_i_i_i_i202_i_i_i = v_8_i_i_i111_i_i_i > v_encoding_sroa_0_0_i12_i2037_i;
+    if (v_10_not_i14_i_i_i_i202_i_i_i) { goto L_bb7_i24_i_i_i_i213_i_i_i; } else { goto L_copy_from_slice_pkcs1_c_exit318_i_i_i; }
+L_bb7_i24_i_i_i_i213_i_i_i:;
     TRAP();
     TRAP();
-L_copy_from_slice_pkcs1_c_exit332_i_i_i:;
-    v_start1_i13_i_i_i_i214_i_i_i = (u64)((u64)(v_8_i_i_i124_i_i_i) + (u64)(18446744073709551613ull));
-    v_207 = v_out + (int64_t)(v_start1_i13_i_i_i_i214_i_i_i);
+L_copy_from_slice_pkcs1_c_exit318_i_i_i:;
+    v_start1_i13_i_i_i_i201_i_i_i = (u64)((u64)(v_8_i_i_i111_i_i_i) + (u64)(18446744073709551613ull));
+    v_207 = v_out + (int64_t)(v_start1_i13_i_i_i_i201_i_i_i);
     put_u8(v_207, 2u);
-    v_12_i_i_i_i92_sroa_4_0_sroa_idx_i_i_i = v_207 + 1;
-    put_u8(v_12_i_i_i_i92_sroa_4_0_sroa_idx_i_i_i, 129u);
-    v_12_i_i_i_i92_sroa_5_0_sroa_idx_i_i_i = v_207 + 2;
-    put_u8(v_12_i_i_i_i92_sroa_5_0_sroa_idx_i_i_i, v_13_i_i_i_i208_i_i_i);
-    { p_v_0_sroa_0_0_i_i_i_i_i244_sink_i_i_i = v_start1_i13_i_i_i_i214_i_i_i; goto L_back_writer_BackWriter_exit_i_i_i; }
-L_bb6_i_i_i_i133_i_i_i:;
-    v_22_i_i_i_i134_i_i_i = v_13_i_i_i126_i_i_i < 16777216u;
-    if (v_22_i_i_i_i134_i_i_i) { goto L_bb7_i_i_i_i161_i_i_i; } else { goto L_bb8_i_i_i_i135_i_i_i; }
-L_bb5_i_i_i_i185_i_i_i:;
-    v_4_i30_i_i_i_i192_i_i_i = v_8_i_i_i124_i_i_i < 4u;
-    if (v_4_i30_i_i_i_i192_i_i_i) { p_v_0_sroa_0_0_i_i_i_i_i244_sink_i_i_i = v_8_i_i_i124_i_i_i; goto L_back_writer_BackWriter_exit_i_i_i; } else { goto L_bb2_i31_i_i_i_i193_i_i_i; }
-L_bb2_i31_i_i_i_i193_i_i_i:;
-    v_10_not_i33_i_i_i_i195_i_i_i = v_8_i_i_i124_i_i_i > v_encoding_sroa_0_0_i14_i2020_i;
-    if (v_10_not_i33_i_i_i_i195_i_i_i) { goto L_bb7_i43_i_i_i_i206_i_i_i; } else { goto L_copy_from_slice_pkcs1_c_exit336_i_i_i; }
-L_bb7_i43_i_i_i_i206_i_i_i:;
+    v_12_i_i_i_i80_sroa_4_0_sroa_idx_i_i_i = v_207 + 1;
+    put_u8(v_12_i_i_i_i80_sroa_4_0_sroa_idx_i_i_i, 129u);
+    v_12_i_i_i_i80_sroa_5_0_sroa_idx_i_i_i = v_207 + 2;
+    put_u8(v_12_i_i_i_i80_sroa_5_0_sroa_idx_i_i_i, v_13_i_i_i_i195_i_i_i);
+    { p_v_0_sroa_0_0_i_i_i_i_i231_sink_i_i_i = v_start1_i13_i_i_i_i201_i_i_i; goto L_back_writer_BackWriter_exit_i_i_i; }
+L_bb6_i_i_i_i120_i_i_i:;
+    v_22_i_i_i_i121_i_i_i = v_13_i_i_i113_i_i_i < 16777216u;
+    if (v_22_i_i_i_i121_i_i_i) { goto L_bb7_i_i_i_i148_i_i_i; } else { goto L_bb8_i_i_i_i122_i_i_i; }
+L_bb5_i_i_i_i172_i_i_i:;
+    v_4_i30_i_i_i_i179_i_i_i = v_8_i_i_i111_i_i_i < 4u;
+    if (v_4_i30_i_i_i_i179_i_i_i) { p_v_0_sroa_0_0_i_i_i_i_i231_sink_i_i_i = v_8_i_i_i111_i_i_i; goto L_back_writer_BackWriter_exit_i_i_i; } else { goto L_bb2_i31_i_i_i_i180_i_i_i; }
+L_bb2_i31_i_i_i_i180_i_i_i:;
+    v_10_not_i33_i_i_i_i182_i_i_i = v_8_i_i_i111_i_i_i > v_encoding_sroa_0_0_i12_i2037_i;
+    if (v_10_not_i33_i_i_i_i182_i_i_i) { goto L_bb7_i43_i_i_i_i193_i_i_i; } else { goto L_copy_from_slice_pkcs1_c_exit322_i_i_i; }
+L_bb7_i43_i_i_i_i193_i_i_i:;
     TRAP();
     TRAP();
-L_copy_from_slice_pkcs1_c_exit336_i_i_i:;
-    v_start1_i32_i_i_i_i194_i_i_i = (u64)((u64)(v_8_i_i_i124_i_i_i) + (u64)(18446744073709551612ull));
-    v_208 = v_out + (int64_t)(v_start1_i32_i_i_i_i194_i_i_i);
-    v_209 = (u32)((u32)(v_13_i_i_i126_i_i_i) | (u32)(42074112u));
-    v_17_i_i_i_i91_sroa_0_sroa_0_0_insert_insert_i_i_i = TURNED(32, v_209);
-    put_u32(v_208, v_17_i_i_i_i91_sroa_0_sroa_0_0_insert_insert_i_i_i);
-    { p_v_0_sroa_0_0_i_i_i_i_i244_sink_i_i_i = v_start1_i32_i_i_i_i194_i_i_i; goto L_back_writer_BackWriter_exit_i_i_i; }
-L_bb8_i_i_i_i135_i_i_i:;
-    v_371_i_i_i_i136_i_i_i = (u64)((u64)(v_5_i_i_i125_i_i_i) >> (u64)((24u & 63)));
-    v_36_i_i_i_i137_i_i_i = (u8)(v_371_i_i_i_i136_i_i_i);
-    v_402_i_i_i_i138_i_i_i = (u64)((u64)(v_5_i_i_i125_i_i_i) >> (u64)((16u & 63)));
-    v_38_i_i_i_i139_i_i_i = (u8)(v_402_i_i_i_i138_i_i_i);
-    v_433_i_i_i_i140_i_i_i = (u64)((u64)(v_5_i_i_i125_i_i_i) >> (u64)((8u & 63)));
-    v_41_i_i_i_i141_i_i_i = (u8)(v_433_i_i_i_i140_i_i_i);
-    v_44_i_i_i_i142_i_i_i = (u8)(v_5_i_i_i125_i_i_i);
-    v_4_i68_i_i_i_i146_i_i_i = v_8_i_i_i124_i_i_i < 6u;
-    if (v_4_i68_i_i_i_i146_i_i_i) { p_v_0_sroa_0_0_i_i_i_i_i244_sink_i_i_i = v_8_i_i_i124_i_i_i; goto L_back_writer_BackWriter_exit_i_i_i; } else { goto L_bb2_i69_i_i_i_i147_i_i_i; }
-L_bb2_i69_i_i_i_i147_i_i_i:;
-    v_10_not_i71_i_i_i_i149_i_i_i = v_8_i_i_i124_i_i_i > v_encoding_sroa_0_0_i14_i2020_i;
-    if (v_10_not_i71_i_i_i_i149_i_i_i) { goto L_bb7_i81_i_i_i_i160_i_i_i; } else { goto L_copy_from_slice_pkcs1_c_exit340_i_i_i; }
-L_bb7_i81_i_i_i_i160_i_i_i:;
+L_copy_from_slice_pkcs1_c_exit322_i_i_i:;
+    v_start1_i32_i_i_i_i181_i_i_i = (u64)((u64)(v_8_i_i_i111_i_i_i) + (u64)(18446744073709551612ull));
+    v_208 = v_out + (int64_t)(v_start1_i32_i_i_i_i181_i_i_i);
+    v_209 = (u32)((u32)(v_13_i_i_i113_i_i_i) | (u32)(42074112u));
+    v_17_i_i_i_i79_sroa_0_sroa_0_0_insert_insert_i_i_i = TURNED(32, v_209);
+    put_u32(v_208, v_17_i_i_i_i79_sroa_0_sroa_0_0_insert_insert_i_i_i);
+    { p_v_0_sroa_0_0_i_i_i_i_i231_sink_i_i_i = v_start1_i32_i_i_i_i181_i_i_i; goto L_back_writer_BackWriter_exit_i_i_i; }
+L_bb8_i_i_i_i122_i_i_i:;
+    v_371_i_i_i_i123_i_i_i = (u64)((u64)(v_5_i_i_i112_i_i_i) >> (u64)((24u & 63)));
+    v_36_i_i_i_i124_i_i_i = (u8)(v_371_i_i_i_i123_i_i_i);
+    v_402_i_i_i_i125_i_i_i = (u64)((u64)(v_5_i_i_i112_i_i_i) >> (u64)((16u & 63)));
+    v_38_i_i_i_i126_i_i_i = (u8)(v_402_i_i_i_i125_i_i_i);
+    v_433_i_i_i_i127_i_i_i = (u64)((u64)(v_5_i_i_i112_i_i_i) >> (u64)((8u & 63)));
+    v_41_i_i_i_i128_i_i_i = (u8)(v_433_i_i_i_i127_i_i_i);
+    v_44_i_i_i_i129_i_i_i = (u8)(v_5_i_i_i112_i_i_i);
+    v_4_i68_i_i_i_i133_i_i_i = v_8_i_i_i111_i_i_i < 6u;
+    if (v_4_i68_i_i_i_i133_i_i_i) { p_v_0_sroa_0_0_i_i_i_i_i231_sink_i_i_i = v_8_i_i_i111_i_i_i; goto L_back_writer_BackWriter_exit_i_i_i; } else { goto L_bb2_i69_i_i_i_i134_i_i_i; }
+L_bb2_i69_i_i_i_i134_i_i_i:;
+    v_10_not_i71_i_i_i_i136_i_i_i = v_8_i_i_i111_i_i_i > v_encoding_sroa_0_0_i12_i2037_i;
+    if (v_10_not_i71_i_i_i_i136_i_i_i) { goto L_bb7_i81_i_i_i_i147_i_i_i; } else { goto L_copy_from_slice_pkcs1_c_exit326_i_i_i; }
+L_bb7_i81_i_i_i_i147_i_i_i:;
     TRAP();
     TRAP();
-L_copy_from_slice_pkcs1_c_exit340_i_i_i:;
-    v_start1_i70_i_i_i_i148_i_i_i = (u64)((u64)(v_8_i_i_i124_i_i_i) + (u64)(18446744073709551610ull));
-    v_210 = v_out + (int64_t)(v_start1_i70_i_i_i_i148_i_i_i);
+L_copy_from_slice_pkcs1_c_exit326_i_i_i:;
+    v_start1_i70_i_i_i_i135_i_i_i = (u64)((u64)(v_8_i_i_i111_i_i_i) + (u64)(18446744073709551610ull));
+    v_210 = v_out + (int64_t)(v_start1_i70_i_i_i_i135_i_i_i);
     put_u8(v_210, 2u);
-    v_35_i_i_i_i89_sroa_4_0_sroa_idx_i_i_i = v_210 + 1;
-    put_u8(v_35_i_i_i_i89_sroa_4_0_sroa_idx_i_i_i, 132u);
-    v_35_i_i_i_i89_sroa_5_0_sroa_idx_i_i_i = v_210 + 2;
-    put_u8(v_35_i_i_i_i89_sroa_5_0_sroa_idx_i_i_i, v_36_i_i_i_i137_i_i_i);
-    v_35_i_i_i_i89_sroa_6_0_sroa_idx_i_i_i = v_210 + 3;
-    put_u8(v_35_i_i_i_i89_sroa_6_0_sroa_idx_i_i_i, v_38_i_i_i_i139_i_i_i);
-    v_35_i_i_i_i89_sroa_7_0_sroa_idx_i_i_i = v_210 + 4;
-    put_u8(v_35_i_i_i_i89_sroa_7_0_sroa_idx_i_i_i, v_41_i_i_i_i141_i_i_i);
-    v_35_i_i_i_i89_sroa_8_0_sroa_idx_i_i_i = v_210 + 5;
-    put_u8(v_35_i_i_i_i89_sroa_8_0_sroa_idx_i_i_i, v_44_i_i_i_i142_i_i_i);
-    { p_v_0_sroa_0_0_i_i_i_i_i244_sink_i_i_i = v_start1_i70_i_i_i_i148_i_i_i; goto L_back_writer_BackWriter_exit_i_i_i; }
-L_bb7_i_i_i_i161_i_i_i:;
-    v_274_i_i_i_i162_i_i_i = (u64)((u64)(v_5_i_i_i125_i_i_i) >> (u64)((16u & 63)));
-    v_26_i_i_i_i163_i_i_i = (u8)(v_274_i_i_i_i162_i_i_i);
-    v_305_i_i_i_i164_i_i_i = (u64)((u64)(v_5_i_i_i125_i_i_i) >> (u64)((8u & 63)));
-    v_28_i_i_i_i165_i_i_i = (u8)(v_305_i_i_i_i164_i_i_i);
-    v_31_i_i_i_i166_i_i_i = (u8)(v_5_i_i_i125_i_i_i);
-    v_4_i49_i_i_i_i170_i_i_i = v_8_i_i_i124_i_i_i < 5u;
-    if (v_4_i49_i_i_i_i170_i_i_i) { p_v_0_sroa_0_0_i_i_i_i_i244_sink_i_i_i = v_8_i_i_i124_i_i_i; goto L_back_writer_BackWriter_exit_i_i_i; } else { goto L_bb2_i50_i_i_i_i171_i_i_i; }
-L_bb2_i50_i_i_i_i171_i_i_i:;
-    v_10_not_i52_i_i_i_i173_i_i_i = v_8_i_i_i124_i_i_i > v_encoding_sroa_0_0_i14_i2020_i;
-    if (v_10_not_i52_i_i_i_i173_i_i_i) { goto L_bb7_i62_i_i_i_i184_i_i_i; } else { goto L_copy_from_slice_pkcs1_c_exit344_i_i_i; }
-L_bb7_i62_i_i_i_i184_i_i_i:;
+    v_35_i_i_i_i77_sroa_4_0_sroa_idx_i_i_i = v_210 + 1;
+    put_u8(v_35_i_i_i_i77_sroa_4_0_sroa_idx_i_i_i, 132u);
+    v_35_i_i_i_i77_sroa_5_0_sroa_idx_i_i_i = v_210 + 2;
+    put_u8(v_35_i_i_i_i77_sroa_5_0_sroa_idx_i_i_i, v_36_i_i_i_i124_i_i_i);
+    v_35_i_i_i_i77_sroa_6_0_sroa_idx_i_i_i = v_210 + 3;
+    put_u8(v_35_i_i_i_i77_sroa_6_0_sroa_idx_i_i_i, v_38_i_i_i_i126_i_i_i);
+    v_35_i_i_i_i77_sroa_7_0_sroa_idx_i_i_i = v_210 + 4;
+    put_u8(v_35_i_i_i_i77_sroa_7_0_sroa_idx_i_i_i, v_41_i_i_i_i128_i_i_i);
+    v_35_i_i_i_i77_sroa_8_0_sroa_idx_i_i_i = v_210 + 5;
+    put_u8(v_35_i_i_i_i77_sroa_8_0_sroa_idx_i_i_i, v_44_i_i_i_i129_i_i_i);
+    { p_v_0_sroa_0_0_i_i_i_i_i231_sink_i_i_i = v_start1_i70_i_i_i_i135_i_i_i; goto L_back_writer_BackWriter_exit_i_i_i; }
+L_bb7_i_i_i_i148_i_i_i:;
+    v_274_i_i_i_i149_i_i_i = (u64)((u64)(v_5_i_i_i112_i_i_i) >> (u64)((16u & 63)));
+    v_26_i_i_i_i150_i_i_i = (u8)(v_274_i_i_i_i149_i_i_i);
+    v_305_i_i_i_i151_i_i_i = (u64)((u64)(v_5_i_i_i112_i_i_i) >> (u64)((8u & 63)));
+    v_28_i_i_i_i152_i_i_i = (u8)(v_305_i_i_i_i151_i_i_i);
+    v_31_i_i_i_i153_i_i_i = (u8)(v_5_i_i_i112_i_i_i);
+    v_4_i49_i_i_i_i157_i_i_i = v_8_i_i_i111_i_i_i < 5u;
+    if (v_4_i49_i_i_i_i157_i_i_i) { p_v_0_sroa_0_0_i_i_i_i_i231_sink_i_i_i = v_8_i_i_i111_i_i_i; goto L_back_writer_BackWriter_exit_i_i_i; } else { goto L_bb2_i50_i_i_i_i158_i_i_i; }
+L_bb2_i50_i_i_i_i158_i_i_i:;
+    v_10_not_i52_i_i_i_i160_i_i_i = v_8_i_i_i111_i_i_i > v_encoding_sroa_0_0_i12_i2037_i;
+    if (v_10_not_i52_i_i_i_i160_i_i_i) { goto L_bb7_i62_i_i_i_i171_i_i_i; } else { goto L_copy_from_slice_pkcs1_c_exit330_i_i_i; }
+L_bb7_i62_i_i_i_i171_i_i_i:;
     TRAP();
     TRAP();
-L_copy_from_slice_pkcs1_c_exit344_i_i_i:;
-    v_start1_i51_i_i_i_i172_i_i_i = (u64)((u64)(v_8_i_i_i124_i_i_i) + (u64)(18446744073709551611ull));
-    v_211 = v_out + (int64_t)(v_start1_i51_i_i_i_i172_i_i_i);
+L_copy_from_slice_pkcs1_c_exit330_i_i_i:;
+    v_start1_i51_i_i_i_i159_i_i_i = (u64)((u64)(v_8_i_i_i111_i_i_i) + (u64)(18446744073709551611ull));
+    v_211 = v_out + (int64_t)(v_start1_i51_i_i_i_i159_i_i_i);
     put_u8(v_211, 2u);
-    v_25_i_i_i_i90_sroa_4_0_sroa_idx_i_i_i = v_211 + 1;
-    put_u8(v_25_i_i_i_i90_sroa_4_0_sroa_idx_i_i_i, 131u);
-    v_25_i_i_i_i90_sroa_5_0_sroa_idx_i_i_i = v_211 + 2;
-    put_u8(v_25_i_i_i_i90_sroa_5_0_sroa_idx_i_i_i, v_26_i_i_i_i163_i_i_i);
-    v_25_i_i_i_i90_sroa_6_0_sroa_idx_i_i_i = v_211 + 3;
-    put_u8(v_25_i_i_i_i90_sroa_6_0_sroa_idx_i_i_i, v_28_i_i_i_i165_i_i_i);
-    v_25_i_i_i_i90_sroa_7_0_sroa_idx_i_i_i = v_211 + 4;
-    put_u8(v_25_i_i_i_i90_sroa_7_0_sroa_idx_i_i_i, v_31_i_i_i_i166_i_i_i);
-    { p_v_0_sroa_0_0_i_i_i_i_i244_sink_i_i_i = v_start1_i51_i_i_i_i172_i_i_i; goto L_back_writer_BackWriter_exit_i_i_i; }
+    v_25_i_i_i_i78_sroa_4_0_sroa_idx_i_i_i = v_211 + 1;
+    put_u8(v_25_i_i_i_i78_sroa_4_0_sroa_idx_i_i_i, 131u);
+    v_25_i_i_i_i78_sroa_5_0_sroa_idx_i_i_i = v_211 + 2;
+    put_u8(v_25_i_i_i_i78_sroa_5_0_sroa_idx_i_i_i, v_26_i_i_i_i150_i_i_i);
+    v_25_i_i_i_i78_sroa_6_0_sroa_idx_i_i_i = v_211 + 3;
+    put_u8(v_25_i_i_i_i78_sroa_6_0_sroa_idx_i_i_i, v_28_i_i_i_i152_i_i_i);
+    v_25_i_i_i_i78_sroa_7_0_sroa_idx_i_i_i = v_211 + 4;
+    put_u8(v_25_i_i_i_i78_sroa_7_0_sroa_idx_i_i_i, v_31_i_i_i_i153_i_i_i);
+    { p_v_0_sroa_0_0_i_i_i_i_i231_sink_i_i_i = v_start1_i51_i_i_i_i159_i_i_i; goto L_back_writer_BackWriter_exit_i_i_i; }
 L_back_writer_BackWriter_exit_i_i_i:;
-    v_0_sroa_0_0_i_i_i_i_i244_sink_i_i_i = p_v_0_sroa_0_0_i_i_i_i_i244_sink_i_i_i;
-    v_4_i_i8_i_i_i_i1039_i = v_32_i_sroa_7_0468_i_i_i > v_0_sroa_0_0_i_i_i_i_i244_sink_i_i_i;
-    if (v_4_i_i8_i_i_i_i1039_i) { p_v_storemerge_i_i_i = v_0_sroa_0_0_i_i_i_i_i244_sink_i_i_i; goto L_bb2_i_i41_i_i_i; } else { goto L_bb2_i_i9_i_i_i_i1040_i; }
-L_bb2_i_i9_i_i_i_i1040_i:;
-    v_10_not_i_i11_i_i_i_i1041_i = v_0_sroa_0_0_i_i_i_i_i244_sink_i_i_i > v_encoding_sroa_0_0_i14_i2020_i;
-    if (v_10_not_i_i11_i_i_i_i1041_i) { goto L_bb7_i_i21_i_i_i_i1207_i; } else { goto L_Prepend_prepend_exit22_i_i_i_i1042_i; }
-L_bb7_i_i21_i_i_i_i1207_i:;
+    v_0_sroa_0_0_i_i_i_i_i231_sink_i_i_i = p_v_0_sroa_0_0_i_i_i_i_i231_sink_i_i_i;
+    v_4_i_i8_i_i_i_i_i1052_i = v_32_i_sroa_7_0454_i_i_i > v_0_sroa_0_0_i_i_i_i_i231_sink_i_i_i;
+    if (v_4_i_i8_i_i_i_i_i1052_i) { p_v_storemerge_i_i_i = v_0_sroa_0_0_i_i_i_i_i231_sink_i_i_i; goto L_bb2_i_i_i39_i_i_i; } else { goto L_bb2_i_i9_i_i_i_i_i1053_i; }
+L_bb2_i_i9_i_i_i_i_i1053_i:;
+    v_10_not_i_i11_i_i_i_i_i1054_i = v_0_sroa_0_0_i_i_i_i_i231_sink_i_i_i > v_encoding_sroa_0_0_i12_i2037_i;
+    if (v_10_not_i_i11_i_i_i_i_i1054_i) { goto L_bb7_i_i21_i_i_i_i_i1224_i; } else { goto L_Prepend_prepend_exit22_i_i_i_i_i1055_i; }
+L_bb7_i_i21_i_i_i_i_i1224_i:;
     TRAP();
     TRAP();
-L_Prepend_prepend_exit22_i_i_i_i1042_i:;
-    v_start1_i_i10_i_i_i_i1043_i = (u64)((u64)(v_0_sroa_0_0_i_i_i_i_i244_sink_i_i_i) - (u64)(v_32_i_sroa_7_0468_i_i_i));
-    v_212 = v_out + (int64_t)(v_start1_i_i10_i_i_i_i1043_i);
-    copy(v_212, v_32_i_sroa_0_0467_i_i_i, v_32_i_sroa_7_0468_i_i_i);
-    { p_v_storemerge_i_i_i = v_start1_i_i10_i_i_i_i1043_i; goto L_bb2_i_i41_i_i_i; }
-L_bb2_i_i41_i_i_i:;
+L_Prepend_prepend_exit22_i_i_i_i_i1055_i:;
+    v_start1_i_i10_i_i_i_i_i1056_i = (u64)((u64)(v_0_sroa_0_0_i_i_i_i_i231_sink_i_i_i) - (u64)(v_32_i_sroa_7_0454_i_i_i));
+    v_212 = v_out + (int64_t)(v_start1_i_i10_i_i_i_i_i1056_i);
+    copy(v_212, v_32_i_sroa_0_0453_i_i_i, v_32_i_sroa_7_0454_i_i_i);
+    { p_v_storemerge_i_i_i = v_start1_i_i10_i_i_i_i_i1056_i; goto L_bb2_i_i_i39_i_i_i; }
+L_bb2_i_i_i39_i_i_i:;
     v_storemerge_i_i_i = p_v_storemerge_i_i_i;
-    v_5_i_i42_i_i_i = get_u8(v_32_i_sroa_0_0467_i_i_i);
-    v_4_i3_i_i_i1044_i = (u8)(v_5_i_i42_i_i_i ^ ((u8)1 << 7)) < (u8)(0u ^ ((u8)1 << 7));
-    if (v_4_i3_i_i_i1044_i) { goto L_bb3_i_i51_i_i_i; } else { p_v_8_i_i_i43_i_i_i = v_storemerge_i_i_i; goto L_back_writer_BackWriter_exit_i_i_i1045_i; }
-L_bb3_i_i51_i_i_i:;
-    v_4_i_i_i6_i_i_i1203_i = v_storemerge_i_i_i == 0u;
-    if (v_4_i_i_i6_i_i_i1203_i) { p_v_0_sroa_0_0_i_i_i_i_i_sink_i_i_i = 0u; goto L_back_writer_BackWriter_exit_i_i_i__2; } else { goto L_bb2_i_i_i7_i_i_i1204_i; }
-L_bb2_i_i_i7_i_i_i1204_i:;
-    v_10_not_i_i_i_i53_i_i_i = v_storemerge_i_i_i > v_encoding_sroa_0_0_i14_i2020_i;
-    if (v_10_not_i_i_i_i53_i_i_i) { goto L_bb7_i_i_i10_i_i_i1206_i; } else { goto L_copy_from_slice_pkcs1_c_exit352_i_i_i; }
-L_bb7_i_i_i10_i_i_i1206_i:;
+    v_5_i_i5_i_i_i1057_i = get_u8(v_32_i_sroa_0_0453_i_i_i);
+    v_4_i_i6_i_i_i1058_i = (u8)(v_5_i_i5_i_i_i1057_i ^ ((u8)1 << 7)) < (u8)(0u ^ ((u8)1 << 7));
+    if (v_4_i_i6_i_i_i1058_i) { goto L_bb3_i_i_i48_i_i_i; } else { p_v_8_i_i_i40_i_i_i = v_storemerge_i_i_i; goto L_back_writer_BackWriter_exit_i_i_i1059_i; }
+L_bb3_i_i_i48_i_i_i:;
+    v_4_i_i_i_i8_i_i_i1217_i = v_storemerge_i_i_i == 0u;
+    if (v_4_i_i_i_i8_i_i_i1217_i) { p_v_0_sroa_0_0_i_i_i_i_i_sink_i_i_i = 0u; goto L_back_writer_BackWriter_exit_i_i_i__2; } else { goto L_bb2_i_i_i_i9_i_i_i1218_i; }
+L_bb2_i_i_i_i9_i_i_i1218_i:;
+    v_10_not_i_i_i_i11_i_i_i1219_i = v_storemerge_i_i_i > v_encoding_sroa_0_0_i12_i2037_i;
+    if (v_10_not_i_i_i_i11_i_i_i1219_i) { goto L_bb7_i_i_i_i21_i_i_i1223_i; } else { goto L_copy_from_slice_pkcs1_c_exit338_i_i_i; }
+L_bb7_i_i_i_i21_i_i_i1223_i:;
     TRAP();
     TRAP();
-L_copy_from_slice_pkcs1_c_exit352_i_i_i:;
-    v_start1_i_i_i_i52_i_i_i = (u64)((u64)(v_storemerge_i_i_i) + (u64)(18446744073709551615ull));
-    v_213 = v_out + (int64_t)(v_start1_i_i_i_i52_i_i_i);
+L_copy_from_slice_pkcs1_c_exit338_i_i_i:;
+    v_start1_i_i_i_i10_i_i_i1220_i = (u64)((u64)(v_storemerge_i_i_i) + (u64)(18446744073709551615ull));
+    v_213 = v_out + (int64_t)(v_start1_i_i_i_i10_i_i_i1220_i);
     put_u8(v_213, 0u);
-    { p_v_8_i_i_i43_i_i_i = v_start1_i_i_i_i52_i_i_i; goto L_back_writer_BackWriter_exit_i_i_i1045_i; }
-L_back_writer_BackWriter_exit_i_i_i1045_i:;
-    v_8_i_i_i43_i_i_i = p_v_8_i_i_i43_i_i_i;
-    v_5_i_i_i_i_i1046_i = (u64)((u64)(v_0_sroa_0_0_i_i_i_i_i244_sink_i_i_i) - (u64)(v_8_i_i_i43_i_i_i));
-    v_13_i_i_i44_i_i_i = (u32)(v_5_i_i_i_i_i1046_i);
-    v_4_i_i_i_i45_i_i_i = v_13_i_i_i44_i_i_i < 128u;
-    if (v_4_i_i_i_i45_i_i_i) { goto L_bb1_i_i_i_i_i_i1196_i; } else { goto L_bb2_i_i_i_i46_i_i_i; }
-L_bb2_i_i_i_i46_i_i_i:;
-    v_9_i_i_i_i47_i_i_i = v_13_i_i_i44_i_i_i < 256u;
-    if (v_9_i_i_i_i47_i_i_i) { goto L_bb3_i_i_i_i_i_i1189_i; } else { goto L_bb4_i_i_i_i_i_i1047_i; }
-L_bb1_i_i_i_i_i_i1196_i:;
-    v_8_i_i_i_i_i_i1197_i = (u16)(v_5_i_i_i_i_i1046_i);
-    v_4_i_i_i_i_i_i_i1198_i = v_8_i_i_i43_i_i_i < 2u;
-    if (v_4_i_i_i_i_i_i_i1198_i) { p_v_0_sroa_0_0_i_i_i_i_i_sink_i_i_i = v_8_i_i_i43_i_i_i; goto L_back_writer_BackWriter_exit_i_i_i__2; } else { goto L_bb2_i_i_i_i_i_i_i1199_i; }
-L_bb2_i_i_i_i_i_i_i1199_i:;
-    v_10_not_i_i_i_i_i_i_i1200_i = v_8_i_i_i43_i_i_i > v_encoding_sroa_0_0_i14_i2020_i;
-    if (v_10_not_i_i_i_i_i_i_i1200_i) { goto L_bb7_i_i_i_i_i_i_i1202_i; } else { goto L_copy_from_slice_pkcs1_c_exit356_i_i_i; }
-L_bb7_i_i_i_i_i_i_i1202_i:;
+    { p_v_8_i_i_i40_i_i_i = v_start1_i_i_i_i10_i_i_i1220_i; goto L_back_writer_BackWriter_exit_i_i_i1059_i; }
+L_back_writer_BackWriter_exit_i_i_i1059_i:;
+    v_8_i_i_i40_i_i_i = p_v_8_i_i_i40_i_i_i;
+    v_5_i_i_i_i_i1060_i = (u64)((u64)(v_0_sroa_0_0_i_i_i_i_i231_sink_i_i_i) - (u64)(v_8_i_i_i40_i_i_i));
+    v_13_i_i_i41_i_i_i = (u32)(v_5_i_i_i_i_i1060_i);
+    v_4_i_i_i_i42_i_i_i = v_13_i_i_i41_i_i_i < 128u;
+    if (v_4_i_i_i_i42_i_i_i) { goto L_bb1_i_i_i_i_i_i1210_i; } else { goto L_bb2_i_i_i_i43_i_i_i; }
+L_bb2_i_i_i_i43_i_i_i:;
+    v_9_i_i_i_i44_i_i_i = v_13_i_i_i41_i_i_i < 256u;
+    if (v_9_i_i_i_i44_i_i_i) { goto L_bb3_i_i_i_i_i_i1203_i; } else { goto L_bb4_i_i_i_i_i_i1061_i; }
+L_bb1_i_i_i_i_i_i1210_i:;
+    v_8_i_i_i_i_i_i1211_i = (u16)(v_5_i_i_i_i_i1060_i);
+    v_4_i_i_i_i_i_i_i1212_i = v_8_i_i_i40_i_i_i < 2u;
+    if (v_4_i_i_i_i_i_i_i1212_i) { p_v_0_sroa_0_0_i_i_i_i_i_sink_i_i_i = v_8_i_i_i40_i_i_i; goto L_back_writer_BackWriter_exit_i_i_i__2; } else { goto L_bb2_i_i_i_i_i_i_i1213_i; }
+L_bb2_i_i_i_i_i_i_i1213_i:;
+    v_10_not_i_i_i_i_i_i_i1214_i = v_8_i_i_i40_i_i_i > v_encoding_sroa_0_0_i12_i2037_i;
+    if (v_10_not_i_i_i_i_i_i_i1214_i) { goto L_bb7_i_i_i_i_i_i_i1216_i; } else { goto L_copy_from_slice_pkcs1_c_exit342_i_i_i; }
+L_bb7_i_i_i_i_i_i_i1216_i:;
     TRAP();
     TRAP();
-L_copy_from_slice_pkcs1_c_exit356_i_i_i:;
-    v_start1_i_i_i_i_i_i_i1201_i = (u64)((u64)(v_8_i_i_i43_i_i_i) + (u64)(18446744073709551614ull));
-    v_214 = v_out + (int64_t)(v_start1_i_i_i_i_i_i_i1201_i);
-    v_7_i_i_i_i_sroa_0_sroa_4_0_insert_shift_i_i_i = (u16)((u32)(v_8_i_i_i_i_i_i1197_i) << (u32)((8u & 31)));
+L_copy_from_slice_pkcs1_c_exit342_i_i_i:;
+    v_start1_i_i_i_i_i_i_i1215_i = (u64)((u64)(v_8_i_i_i40_i_i_i) + (u64)(18446744073709551614ull));
+    v_214 = v_out + (int64_t)(v_start1_i_i_i_i_i_i_i1215_i);
+    v_7_i_i_i_i_sroa_0_sroa_4_0_insert_shift_i_i_i = (u16)((u32)(v_8_i_i_i_i_i_i1211_i) << (u32)((8u & 31)));
     v_7_i_i_i_i_sroa_0_sroa_0_0_insert_insert_i_i_i = (u16)((u32)(v_7_i_i_i_i_sroa_0_sroa_4_0_insert_shift_i_i_i) | (u32)(2u));
     put_u16(v_214, v_7_i_i_i_i_sroa_0_sroa_0_0_insert_insert_i_i_i);
-    { p_v_0_sroa_0_0_i_i_i_i_i_sink_i_i_i = v_start1_i_i_i_i_i_i_i1201_i; goto L_back_writer_BackWriter_exit_i_i_i__2; }
-L_bb4_i_i_i_i_i_i1047_i:;
-    v_14_i_i_i_i_i_i1048_i = v_13_i_i_i44_i_i_i < 65536u;
-    if (v_14_i_i_i_i_i_i1048_i) { goto L_bb5_i_i_i_i50_i_i_i; } else { goto L_bb6_i_i_i_i_i_i1049_i; }
-L_bb3_i_i_i_i_i_i1189_i:;
-    v_13_i_i_i_i_i_i1190_i = (u8)(v_5_i_i_i_i_i1046_i);
-    v_4_i11_i_i_i_i_i_i1191_i = v_8_i_i_i43_i_i_i < 3u;
-    if (v_4_i11_i_i_i_i_i_i1191_i) { p_v_0_sroa_0_0_i_i_i_i_i_sink_i_i_i = v_8_i_i_i43_i_i_i; goto L_back_writer_BackWriter_exit_i_i_i__2; } else { goto L_bb2_i12_i_i_i_i_i_i1192_i; }
-L_bb2_i12_i_i_i_i_i_i1192_i:;
-    v_10_not_i14_i_i_i_i_i_i1193_i = v_8_i_i_i43_i_i_i > v_encoding_sroa_0_0_i14_i2020_i;
-    if (v_10_not_i14_i_i_i_i_i_i1193_i) { goto L_bb7_i24_i_i_i_i_i_i1195_i; } else { goto L_copy_from_slice_pkcs1_c_exit360_i_i_i; }
-L_bb7_i24_i_i_i_i_i_i1195_i:;
+    { p_v_0_sroa_0_0_i_i_i_i_i_sink_i_i_i = v_start1_i_i_i_i_i_i_i1215_i; goto L_back_writer_BackWriter_exit_i_i_i__2; }
+L_bb4_i_i_i_i_i_i1061_i:;
+    v_14_i_i_i_i_i_i1062_i = v_13_i_i_i41_i_i_i < 65536u;
+    if (v_14_i_i_i_i_i_i1062_i) { goto L_bb5_i_i_i_i47_i_i_i; } else { goto L_bb6_i_i_i_i_i_i1063_i; }
+L_bb3_i_i_i_i_i_i1203_i:;
+    v_13_i_i_i_i_i_i1204_i = (u8)(v_5_i_i_i_i_i1060_i);
+    v_4_i11_i_i_i_i_i_i1205_i = v_8_i_i_i40_i_i_i < 3u;
+    if (v_4_i11_i_i_i_i_i_i1205_i) { p_v_0_sroa_0_0_i_i_i_i_i_sink_i_i_i = v_8_i_i_i40_i_i_i; goto L_back_writer_BackWriter_exit_i_i_i__2; } else { goto L_bb2_i12_i_i_i_i_i_i1206_i; }
+L_bb2_i12_i_i_i_i_i_i1206_i:;
+    v_10_not_i14_i_i_i_i_i_i1207_i = v_8_i_i_i40_i_i_i > v_encoding_sroa_0_0_i12_i2037_i;
+    if (v_10_not_i14_i_i_i_i_i_i1207_i) { goto L_bb7_i24_i_i_i_i_i_i1209_i; } else { goto L_copy_from_slice_pkcs1_c_exit346_i_i_i; }
+L_bb7_i24_i_i_i_i_i_i1209_i:;
     TRAP();
     TRAP();
-L_copy_from_slice_pkcs1_c_exit360_i_i_i:;
-    v_start1_i13_i_i_i_i_i_i1194_i = (u64)((u64)(v_8_i_i_i43_i_i_i) + (u64)(18446744073709551613ull));
-    v_215 = v_out + (int64_t)(v_start1_i13_i_i_i_i_i_i1194_i);
+L_copy_from_slice_pkcs1_c_exit346_i_i_i:;
+    v_start1_i13_i_i_i_i_i_i1208_i = (u64)((u64)(v_8_i_i_i40_i_i_i) + (u64)(18446744073709551613ull));
+    v_215 = v_out + (int64_t)(v_start1_i13_i_i_i_i_i_i1208_i);
     put_u8(v_215, 2u);
-    v_12_i_i_i_i37_sroa_4_0_sroa_idx_i_i_i = v_215 + 1;
-    put_u8(v_12_i_i_i_i37_sroa_4_0_sroa_idx_i_i_i, 129u);
-    v_12_i_i_i_i37_sroa_5_0_sroa_idx_i_i_i = v_215 + 2;
-    put_u8(v_12_i_i_i_i37_sroa_5_0_sroa_idx_i_i_i, v_13_i_i_i_i_i_i1190_i);
-    { p_v_0_sroa_0_0_i_i_i_i_i_sink_i_i_i = v_start1_i13_i_i_i_i_i_i1194_i; goto L_back_writer_BackWriter_exit_i_i_i__2; }
-L_bb6_i_i_i_i_i_i1049_i:;
-    v_22_i_i_i_i_i_i1050_i = v_13_i_i_i44_i_i_i < 16777216u;
-    if (v_22_i_i_i_i_i_i1050_i) { goto L_bb7_i_i_i_i49_i_i_i; } else { goto L_bb8_i_i_i_i48_i_i_i; }
-L_bb5_i_i_i_i50_i_i_i:;
-    v_4_i30_i_i_i_i_i_i1184_i = v_8_i_i_i43_i_i_i < 4u;
-    if (v_4_i30_i_i_i_i_i_i1184_i) { p_v_0_sroa_0_0_i_i_i_i_i_sink_i_i_i = v_8_i_i_i43_i_i_i; goto L_back_writer_BackWriter_exit_i_i_i__2; } else { goto L_bb2_i31_i_i_i_i_i_i1185_i; }
-L_bb2_i31_i_i_i_i_i_i1185_i:;
-    v_10_not_i33_i_i_i_i_i_i1186_i = v_8_i_i_i43_i_i_i > v_encoding_sroa_0_0_i14_i2020_i;
-    if (v_10_not_i33_i_i_i_i_i_i1186_i) { goto L_bb7_i43_i_i_i_i_i_i1188_i; } else { goto L_copy_from_slice_pkcs1_c_exit364_i_i_i; }
-L_bb7_i43_i_i_i_i_i_i1188_i:;
+    v_12_i_i_i_i34_sroa_4_0_sroa_idx_i_i_i = v_215 + 1;
+    put_u8(v_12_i_i_i_i34_sroa_4_0_sroa_idx_i_i_i, 129u);
+    v_12_i_i_i_i34_sroa_5_0_sroa_idx_i_i_i = v_215 + 2;
+    put_u8(v_12_i_i_i_i34_sroa_5_0_sroa_idx_i_i_i, v_13_i_i_i_i_i_i1204_i);
+    { p_v_0_sroa_0_0_i_i_i_i_i_sink_i_i_i = v_start1_i13_i_i_i_i_i_i1208_i; goto L_back_writer_BackWriter_exit_i_i_i__2; }
+L_bb6_i_i_i_i_i_i1063_i:;
+    v_22_i_i_i_i_i_i1064_i = v_13_i_i_i41_i_i_i < 16777216u;
+    if (v_22_i_i_i_i_i_i1064_i) { goto L_bb7_i_i_i_i46_i_i_i; } else { goto L_bb8_i_i_i_i45_i_i_i; }
+L_bb5_i_i_i_i47_i_i_i:;
+    v_4_i30_i_i_i_i_i_i1198_i = v_8_i_i_i40_i_i_i < 4u;
+    if (v_4_i30_i_i_i_i_i_i1198_i) { p_v_0_sroa_0_0_i_i_i_i_i_sink_i_i_i = v_8_i_i_i40_i_i_i; goto L_back_writer_BackWriter_exit_i_i_i__2; } else { goto L_bb2_i31_i_i_i_i_i_i1199_i; }
+L_bb2_i31_i_i_i_i_i_i1199_i:;
+    v_10_not_i33_i_i_i_i_i_i1200_i = v_8_i_i_i40_i_i_i > v_encoding_sroa_0_0_i12_i2037_i;
+    if (v_10_not_i33_i_i_i_i_i_i1200_i) { goto L_bb7_i43_i_i_i_i_i_i1202_i; } else { goto L_copy_from_slice_pkcs1_c_exit350_i_i_i; }
+L_bb7_i43_i_i_i_i_i_i1202_i:;
     TRAP();
     TRAP();
-L_copy_from_slice_pkcs1_c_exit364_i_i_i:;
-    v_start1_i32_i_i_i_i_i_i1187_i = (u64)((u64)(v_8_i_i_i43_i_i_i) + (u64)(18446744073709551612ull));
-    v_216 = v_out + (int64_t)(v_start1_i32_i_i_i_i_i_i1187_i);
-    v_217 = (u32)((u32)(v_13_i_i_i44_i_i_i) | (u32)(42074112u));
+L_copy_from_slice_pkcs1_c_exit350_i_i_i:;
+    v_start1_i32_i_i_i_i_i_i1201_i = (u64)((u64)(v_8_i_i_i40_i_i_i) + (u64)(18446744073709551612ull));
+    v_216 = v_out + (int64_t)(v_start1_i32_i_i_i_i_i_i1201_i);
+    v_217 = (u32)((u32)(v_13_i_i_i41_i_i_i) | (u32)(42074112u));
     v_17_i_i_i_i_sroa_0_sroa_0_0_insert_insert_i_i_i = TURNED(32, v_217);
     put_u32(v_216, v_17_i_i_i_i_sroa_0_sroa_0_0_insert_insert_i_i_i);
-    { p_v_0_sroa_0_0_i_i_i_i_i_sink_i_i_i = v_start1_i32_i_i_i_i_i_i1187_i; goto L_back_writer_BackWriter_exit_i_i_i__2; }
-L_bb8_i_i_i_i48_i_i_i:;
-    v_371_i_i_i_i_i_i1051_i = (u64)((u64)(v_5_i_i_i_i_i1046_i) >> (u64)((24u & 63)));
-    v_36_i_i_i_i_i_i1052_i = (u8)(v_371_i_i_i_i_i_i1051_i);
-    v_402_i_i_i_i_i_i1053_i = (u64)((u64)(v_5_i_i_i_i_i1046_i) >> (u64)((16u & 63)));
-    v_38_i_i_i_i_i_i1054_i = (u8)(v_402_i_i_i_i_i_i1053_i);
-    v_433_i_i_i_i_i_i1055_i = (u64)((u64)(v_5_i_i_i_i_i1046_i) >> (u64)((8u & 63)));
-    v_41_i_i_i_i_i_i1056_i = (u8)(v_433_i_i_i_i_i_i1055_i);
-    v_44_i_i_i_i_i_i1057_i = (u8)(v_5_i_i_i_i_i1046_i);
-    v_4_i68_i_i_i_i_i_i1058_i = v_8_i_i_i43_i_i_i < 6u;
-    if (v_4_i68_i_i_i_i_i_i1058_i) { p_v_0_sroa_0_0_i_i_i_i_i_sink_i_i_i = v_8_i_i_i43_i_i_i; goto L_back_writer_BackWriter_exit_i_i_i__2; } else { goto L_bb2_i69_i_i_i_i_i_i1059_i; }
-L_bb2_i69_i_i_i_i_i_i1059_i:;
-    v_10_not_i71_i_i_i_i_i_i1060_i = v_8_i_i_i43_i_i_i > v_encoding_sroa_0_0_i14_i2020_i;
-    if (v_10_not_i71_i_i_i_i_i_i1060_i) { goto L_bb7_i81_i_i_i_i_i_i1173_i; } else { goto L_copy_from_slice_pkcs1_c_exit368_i_i_i; }
-L_bb7_i81_i_i_i_i_i_i1173_i:;
+    { p_v_0_sroa_0_0_i_i_i_i_i_sink_i_i_i = v_start1_i32_i_i_i_i_i_i1201_i; goto L_back_writer_BackWriter_exit_i_i_i__2; }
+L_bb8_i_i_i_i45_i_i_i:;
+    v_371_i_i_i_i_i_i1065_i = (u64)((u64)(v_5_i_i_i_i_i1060_i) >> (u64)((24u & 63)));
+    v_36_i_i_i_i_i_i1066_i = (u8)(v_371_i_i_i_i_i_i1065_i);
+    v_402_i_i_i_i_i_i1067_i = (u64)((u64)(v_5_i_i_i_i_i1060_i) >> (u64)((16u & 63)));
+    v_38_i_i_i_i_i_i1068_i = (u8)(v_402_i_i_i_i_i_i1067_i);
+    v_433_i_i_i_i_i_i1069_i = (u64)((u64)(v_5_i_i_i_i_i1060_i) >> (u64)((8u & 63)));
+    v_41_i_i_i_i_i_i1070_i = (u8)(v_433_i_i_i_i_i_i1069_i);
+    v_44_i_i_i_i_i_i1071_i = (u8)(v_5_i_i_i_i_i1060_i);
+    v_4_i68_i_i_i_i_i_i1072_i = v_8_i_i_i40_i_i_i < 6u;
+    if (v_4_i68_i_i_i_i_i_i1072_i) { p_v_0_sroa_0_0_i_i_i_i_i_sink_i_i_i = v_8_i_i_i40_i_i_i; goto L_back_writer_BackWriter_exit_i_i_i__2; } else { goto L_bb2_i69_i_i_i_i_i_i1073_i; }
+L_bb2_i69_i_i_i_i_i_i1073_i:;
+    v_10_not_i71_i_i_i_i_i_i1074_i = v_8_i_i_i40_i_i_i > v_encoding_sroa_0_0_i12_i2037_i;
+    if (v_10_not_i71_i_i_i_i_i_i1074_i) { goto L_bb7_i81_i_i_i_i_i_i1187_i; } else { goto L_copy_from_slice_pkcs1_c_exit354_i_i_i; }
+L_bb7_i81_i_i_i_i_i_i1187_i:;
     TRAP();
     TRAP();
-L_copy_from_slice_pkcs1_c_exit368_i_i_i:;
-    v_start1_i70_i_i_i_i_i_i1061_i = (u64)((u64)(v_8_i_i_i43_i_i_i) + (u64)(18446744073709551610ull));
-    v_218 = v_out + (int64_t)(v_start1_i70_i_i_i_i_i_i1061_i);
+L_copy_from_slice_pkcs1_c_exit354_i_i_i:;
+    v_start1_i70_i_i_i_i_i_i1075_i = (u64)((u64)(v_8_i_i_i40_i_i_i) + (u64)(18446744073709551610ull));
+    v_218 = v_out + (int64_t)(v_start1_i70_i_i_i_i_i_i1075_i);
     put_u8(v_218, 2u);
     v_35_i_i_i_i_sroa_4_0_sroa_idx_i_i_i = v_218 + 1;
     put_u8(v_35_i_i_i_i_sroa_4_0_sroa_idx_i_i_i, 132u);
     v_35_i_i_i_i_sroa_5_0_sroa_idx_i_i_i = v_218 + 2;
-    put_u8(v_35_i_i_i_i_sroa_5_0_sroa_idx_i_i_i, v_36_i_i_i_i_i_i1052_i);
+    put_u8(v_35_i_i_i_i_sroa_5_0_sroa_idx_i_i_i, v_36_i_i_i_i_i_i1066_i);
     v_35_i_i_i_i_sroa_6_0_sroa_idx_i_i_i = v_218 + 3;
-    put_u8(v_35_i_i_i_i_sroa_6_0_sroa_idx_i_i_i, v_38_i_i_i_i_i_i1054_i);
+    put_u8(v_35_i_i_i_i_sroa_6_0_sroa_idx_i_i_i, v_38_i_i_i_i_i_i1068_i);
     v_35_i_i_i_i_sroa_7_0_sroa_idx_i_i_i = v_218 + 4;
-    put_u8(v_35_i_i_i_i_sroa_7_0_sroa_idx_i_i_i, v_41_i_i_i_i_i_i1056_i);
+    put_u8(v_35_i_i_i_i_sroa_7_0_sroa_idx_i_i_i, v_41_i_i_i_i_i_i1070_i);
     v_35_i_i_i_i_sroa_8_0_sroa_idx_i_i_i = v_218 + 5;
-    put_u8(v_35_i_i_i_i_sroa_8_0_sroa_idx_i_i_i, v_44_i_i_i_i_i_i1057_i);
-    { p_v_0_sroa_0_0_i_i_i_i_i_sink_i_i_i = v_start1_i70_i_i_i_i_i_i1061_i; goto L_back_writer_BackWriter_exit_i_i_i__2; }
-L_bb7_i_i_i_i49_i_i_i:;
-    v_274_i_i_i_i_i_i1174_i = (u64)((u64)(v_5_i_i_i_i_i1046_i) >> (u64)((16u & 63)));
-    v_26_i_i_i_i_i_i1175_i = (u8)(v_274_i_i_i_i_i_i1174_i);
-    v_305_i_i_i_i_i_i1176_i = (u64)((u64)(v_5_i_i_i_i_i1046_i) >> (u64)((8u & 63)));
-    v_28_i_i_i_i_i_i1177_i = (u8)(v_305_i_i_i_i_i_i1176_i);
-    v_31_i_i_i_i_i_i1178_i = (u8)(v_5_i_i_i_i_i1046_i);
-    v_4_i49_i_i_i_i_i_i1179_i = v_8_i_i_i43_i_i_i < 5u;
-    if (v_4_i49_i_i_i_i_i_i1179_i) { p_v_0_sroa_0_0_i_i_i_i_i_sink_i_i_i = v_8_i_i_i43_i_i_i; goto L_back_writer_BackWriter_exit_i_i_i__2; } else { goto L_bb2_i50_i_i_i_i_i_i1180_i; }
-L_bb2_i50_i_i_i_i_i_i1180_i:;
-    v_10_not_i52_i_i_i_i_i_i1181_i = v_8_i_i_i43_i_i_i > v_encoding_sroa_0_0_i14_i2020_i;
-    if (v_10_not_i52_i_i_i_i_i_i1181_i) { goto L_bb7_i62_i_i_i_i_i_i1183_i; } else { goto L_copy_from_slice_pkcs1_c_exit372_i_i_i; }
-L_bb7_i62_i_i_i_i_i_i1183_i:;
+    put_u8(v_35_i_i_i_i_sroa_8_0_sroa_idx_i_i_i, v_44_i_i_i_i_i_i1071_i);
+    { p_v_0_sroa_0_0_i_i_i_i_i_sink_i_i_i = v_start1_i70_i_i_i_i_i_i1075_i; goto L_back_writer_BackWriter_exit_i_i_i__2; }
+L_bb7_i_i_i_i46_i_i_i:;
+    v_274_i_i_i_i_i_i1188_i = (u64)((u64)(v_5_i_i_i_i_i1060_i) >> (u64)((16u & 63)));
+    v_26_i_i_i_i_i_i1189_i = (u8)(v_274_i_i_i_i_i_i1188_i);
+    v_305_i_i_i_i_i_i1190_i = (u64)((u64)(v_5_i_i_i_i_i1060_i) >> (u64)((8u & 63)));
+    v_28_i_i_i_i_i_i1191_i = (u8)(v_305_i_i_i_i_i_i1190_i);
+    v_31_i_i_i_i_i_i1192_i = (u8)(v_5_i_i_i_i_i1060_i);
+    v_4_i49_i_i_i_i_i_i1193_i = v_8_i_i_i40_i_i_i < 5u;
+    if (v_4_i49_i_i_i_i_i_i1193_i) { p_v_0_sroa_0_0_i_i_i_i_i_sink_i_i_i = v_8_i_i_i40_i_i_i; goto L_back_writer_BackWriter_exit_i_i_i__2; } else { goto L_bb2_i50_i_i_i_i_i_i1194_i; }
+L_bb2_i50_i_i_i_i_i_i1194_i:;
+    v_10_not_i52_i_i_i_i_i_i1195_i = v_8_i_i_i40_i_i_i > v_encoding_sroa_0_0_i12_i2037_i;
+    if (v_10_not_i52_i_i_i_i_i_i1195_i) { goto L_bb7_i62_i_i_i_i_i_i1197_i; } else { goto L_copy_from_slice_pkcs1_c_exit358_i_i_i; }
+L_bb7_i62_i_i_i_i_i_i1197_i:;
     TRAP();
     TRAP();
-L_copy_from_slice_pkcs1_c_exit372_i_i_i:;
-    v_start1_i51_i_i_i_i_i_i1182_i = (u64)((u64)(v_8_i_i_i43_i_i_i) + (u64)(18446744073709551611ull));
-    v_219 = v_out + (int64_t)(v_start1_i51_i_i_i_i_i_i1182_i);
+L_copy_from_slice_pkcs1_c_exit358_i_i_i:;
+    v_start1_i51_i_i_i_i_i_i1196_i = (u64)((u64)(v_8_i_i_i40_i_i_i) + (u64)(18446744073709551611ull));
+    v_219 = v_out + (int64_t)(v_start1_i51_i_i_i_i_i_i1196_i);
     put_u8(v_219, 2u);
     v_25_i_i_i_i_sroa_4_0_sroa_idx_i_i_i = v_219 + 1;
     put_u8(v_25_i_i_i_i_sroa_4_0_sroa_idx_i_i_i, 131u);
     v_25_i_i_i_i_sroa_5_0_sroa_idx_i_i_i = v_219 + 2;
-    put_u8(v_25_i_i_i_i_sroa_5_0_sroa_idx_i_i_i, v_26_i_i_i_i_i_i1175_i);
+    put_u8(v_25_i_i_i_i_sroa_5_0_sroa_idx_i_i_i, v_26_i_i_i_i_i_i1189_i);
     v_25_i_i_i_i_sroa_6_0_sroa_idx_i_i_i = v_219 + 3;
-    put_u8(v_25_i_i_i_i_sroa_6_0_sroa_idx_i_i_i, v_28_i_i_i_i_i_i1177_i);
+    put_u8(v_25_i_i_i_i_sroa_6_0_sroa_idx_i_i_i, v_28_i_i_i_i_i_i1191_i);
     v_25_i_i_i_i_sroa_7_0_sroa_idx_i_i_i = v_219 + 4;
-    put_u8(v_25_i_i_i_i_sroa_7_0_sroa_idx_i_i_i, v_31_i_i_i_i_i_i1178_i);
-    { p_v_0_sroa_0_0_i_i_i_i_i_sink_i_i_i = v_start1_i51_i_i_i_i_i_i1182_i; goto L_back_writer_BackWriter_exit_i_i_i__2; }
+    put_u8(v_25_i_i_i_i_sroa_7_0_sroa_idx_i_i_i, v_31_i_i_i_i_i_i1192_i);
+    { p_v_0_sroa_0_0_i_i_i_i_i_sink_i_i_i = v_start1_i51_i_i_i_i_i_i1196_i; goto L_back_writer_BackWriter_exit_i_i_i__2; }
 L_back_writer_BackWriter_exit_i_i_i__2:;
     v_0_sroa_0_0_i_i_i_i_i_sink_i_i_i = p_v_0_sroa_0_0_i_i_i_i_i_sink_i_i_i;
-    v_4_i_i8_i_i_i1062_i = v_19_i_sroa_7_0457_i_i_i > v_0_sroa_0_0_i_i_i_i_i_sink_i_i_i;
-    if (v_4_i_i8_i_i_i1062_i) { p_v_storemerge502_i_i_i = v_0_sroa_0_0_i_i_i_i_i_sink_i_i_i; goto L_bb2_i_i_i1067_i; } else { goto L_bb2_i_i9_i_i_i1063_i; }
-L_bb2_i_i9_i_i_i1063_i:;
-    v_10_not_i_i11_i_i_i1064_i = v_0_sroa_0_0_i_i_i_i_i_sink_i_i_i > v_encoding_sroa_0_0_i14_i2020_i;
-    if (v_10_not_i_i11_i_i_i1064_i) { goto L_bb7_i_i21_i_i_i1172_i; } else { goto L_Prepend_prepend_exit22_i_i_i1065_i; }
-L_bb7_i_i21_i_i_i1172_i:;
+    v_4_i_i8_i_i_i_i1076_i = v_19_i_sroa_7_0443_i_i_i > v_0_sroa_0_0_i_i_i_i_i_sink_i_i_i;
+    if (v_4_i_i8_i_i_i_i1076_i) { p_v_storemerge488_i_i_i = v_0_sroa_0_0_i_i_i_i_i_sink_i_i_i; goto L_bb2_i_i15_i_i_i; } else { goto L_bb2_i_i9_i_i_i_i1077_i; }
+L_bb2_i_i9_i_i_i_i1077_i:;
+    v_10_not_i_i11_i_i_i_i1078_i = v_0_sroa_0_0_i_i_i_i_i_sink_i_i_i > v_encoding_sroa_0_0_i12_i2037_i;
+    if (v_10_not_i_i11_i_i_i_i1078_i) { goto L_bb7_i_i21_i_i_i_i1186_i; } else { goto L_Prepend_prepend_exit22_i_i_i_i1079_i; }
+L_bb7_i_i21_i_i_i_i1186_i:;
     TRAP();
     TRAP();
-L_Prepend_prepend_exit22_i_i_i1065_i:;
-    v_start1_i_i10_i_i_i1066_i = (u64)((u64)(v_0_sroa_0_0_i_i_i_i_i_sink_i_i_i) - (u64)(v_19_i_sroa_7_0457_i_i_i));
-    v_220 = v_out + (int64_t)(v_start1_i_i10_i_i_i1066_i);
-    copy(v_220, v_19_i_sroa_0_0458_i_i_i, v_19_i_sroa_7_0457_i_i_i);
-    { p_v_storemerge502_i_i_i = v_start1_i_i10_i_i_i1066_i; goto L_bb2_i_i_i1067_i; }
-L_bb2_i_i_i1067_i:;
-    v_storemerge502_i_i_i = p_v_storemerge502_i_i_i;
-    v_5_i15_i_i_i = get_u8(v_19_i_sroa_0_0458_i_i_i);
-    v_4_i16_i_i_i = (u8)(v_5_i15_i_i_i ^ ((u8)1 << 7)) < (u8)(0u ^ ((u8)1 << 7));
-    if (v_4_i16_i_i_i) { goto L_bb3_i18_i_i_i; } else { p_v_8_i_i3_i_i_i = v_storemerge502_i_i_i; goto L_back_writer_BackWriter_exit_i_i1068_i; }
-L_bb3_i18_i_i_i:;
-    v_4_i_i_i21_i_i_i = v_storemerge502_i_i_i == 0u;
-    if (v_4_i_i_i21_i_i_i) { p_v_writer_sroa_174_1_i = 0u; p_v_0_sroa_0_0_i_i_i_i263_i35_i_i = 0u; goto L_back_writer_BackWriter_exit_i_i; } else { goto L_bb2_i_i_i22_i_i_i; }
-L_bb2_i_i_i22_i_i_i:;
-    v_10_not_i_i_i24_i_i_i = v_storemerge502_i_i_i > v_encoding_sroa_0_0_i14_i2020_i;
-    if (v_10_not_i_i_i24_i_i_i) { goto L_bb7_i_i_i34_i_i_i; } else { goto L_copy_from_slice_pkcs1_c_exit380_i_i_i; }
-L_bb7_i_i_i34_i_i_i:;
+L_Prepend_prepend_exit22_i_i_i_i1079_i:;
+    v_start1_i_i10_i_i_i_i1080_i = (u64)((u64)(v_0_sroa_0_0_i_i_i_i_i_sink_i_i_i) - (u64)(v_19_i_sroa_7_0443_i_i_i));
+    v_220 = v_out + (int64_t)(v_start1_i_i10_i_i_i_i1080_i);
+    copy(v_220, v_19_i_sroa_0_0444_i_i_i, v_19_i_sroa_7_0443_i_i_i);
+    { p_v_storemerge488_i_i_i = v_start1_i_i10_i_i_i_i1080_i; goto L_bb2_i_i15_i_i_i; }
+L_bb2_i_i15_i_i_i:;
+    v_storemerge488_i_i_i = p_v_storemerge488_i_i_i;
+    v_5_i_i16_i_i_i = get_u8(v_19_i_sroa_0_0444_i_i_i);
+    v_4_i_i17_i_i_i = (u8)(v_5_i_i16_i_i_i ^ ((u8)1 << 7)) < (u8)(0u ^ ((u8)1 << 7));
+    if (v_4_i_i17_i_i_i) { goto L_bb3_i_i18_i_i_i; } else { p_v_8_i_i3_i_i_i = v_storemerge488_i_i_i; goto L_back_writer_BackWriter_exit_i_i1081_i; }
+L_bb3_i_i18_i_i_i:;
+    v_4_i_i_i_i20_i_i_i = v_storemerge488_i_i_i == 0u;
+    if (v_4_i_i_i_i20_i_i_i) { p_v_writer_sroa_174_1_i = 0u; p_v_0_sroa_0_0_i_i_i_i19_i250_i35_i_i = 0u; goto L_back_writer_BackWriter_exit_i_i; } else { goto L_bb2_i_i_i_i21_i_i_i; }
+L_bb2_i_i_i_i21_i_i_i:;
+    v_10_not_i_i_i_i23_i_i_i = v_storemerge488_i_i_i > v_encoding_sroa_0_0_i12_i2037_i;
+    if (v_10_not_i_i_i_i23_i_i_i) { goto L_bb7_i_i_i_i33_i_i_i; } else { goto L_copy_from_slice_pkcs1_c_exit366_i_i_i; }
+L_bb7_i_i_i_i33_i_i_i:;
     TRAP();
     TRAP();
-L_copy_from_slice_pkcs1_c_exit380_i_i_i:;
-    v_start1_i_i_i23_i_i_i = (u64)((u64)(v_storemerge502_i_i_i) + (u64)(18446744073709551615ull));
-    v_221 = v_out + (int64_t)(v_start1_i_i_i23_i_i_i);
+L_copy_from_slice_pkcs1_c_exit366_i_i_i:;
+    v_start1_i_i_i_i22_i_i_i = (u64)((u64)(v_storemerge488_i_i_i) + (u64)(18446744073709551615ull));
+    v_221 = v_out + (int64_t)(v_start1_i_i_i_i22_i_i_i);
     put_u8(v_221, 0u);
-    { p_v_8_i_i3_i_i_i = v_start1_i_i_i23_i_i_i; goto L_back_writer_BackWriter_exit_i_i1068_i; }
-L_back_writer_BackWriter_exit_i_i1068_i:;
+    { p_v_8_i_i3_i_i_i = v_start1_i_i_i_i22_i_i_i; goto L_back_writer_BackWriter_exit_i_i1081_i; }
+L_back_writer_BackWriter_exit_i_i1081_i:;
     v_8_i_i3_i_i_i = p_v_8_i_i3_i_i_i;
-    v_5_i_i_i_i1069_i = (u64)((u64)(v_0_sroa_0_0_i_i_i_i_i_sink_i_i_i) - (u64)(v_8_i_i3_i_i_i));
-    v_13_i_i4_i_i_i = (u32)(v_5_i_i_i_i1069_i);
-    v_4_i_i_i5_i_i_i = v_13_i_i4_i_i_i < 128u;
-    if (v_4_i_i_i5_i_i_i) { goto L_bb1_i_i_i_i_i1164_i; } else { goto L_bb2_i_i_i6_i_i_i; }
+    v_5_i_i_i_i1082_i = (u64)((u64)(v_0_sroa_0_0_i_i_i_i_i_sink_i_i_i) - (u64)(v_8_i_i3_i_i_i));
+    v_13_i_i4_i_i_i = (u32)(v_5_i_i_i_i1082_i);
+    v_4_i_i_i5_i_i1083_i = v_13_i_i4_i_i_i < 128u;
+    if (v_4_i_i_i5_i_i1083_i) { goto L_bb1_i_i_i_i_i1178_i; } else { goto L_bb2_i_i_i6_i_i_i; }
 L_bb2_i_i_i6_i_i_i:;
     v_9_i_i_i7_i_i_i = v_13_i_i4_i_i_i < 256u;
-    if (v_9_i_i_i7_i_i_i) { goto L_bb3_i_i_i_i_i1157_i; } else { goto L_bb4_i_i_i_i_i1070_i; }
-L_bb1_i_i_i_i_i1164_i:;
-    v_8_i_i_i_i_i1165_i = (u16)(v_5_i_i_i_i1069_i);
-    v_4_i_i_i_i_i_i1166_i = v_8_i_i3_i_i_i < 2u;
-    if (v_4_i_i_i_i_i_i1166_i) { p_v_8_i_i_i1085_i = v_8_i_i3_i_i_i; goto L_back_writer_BackWriter_exit_i_i_i__3; } else { goto L_bb2_i_i_i_i_i_i1167_i; }
-L_bb2_i_i_i_i_i_i1167_i:;
-    v_10_not_i_i_i_i_i_i1168_i = v_8_i_i3_i_i_i > v_encoding_sroa_0_0_i14_i2020_i;
-    if (v_10_not_i_i_i_i_i_i1168_i) { goto L_bb7_i_i_i_i_i_i1170_i; } else { goto L_copy_from_slice_pkcs1_c_exit384_i_i_i; }
-L_bb7_i_i_i_i_i_i1170_i:;
+    if (v_9_i_i_i7_i_i_i) { goto L_bb3_i_i_i_i_i1171_i; } else { goto L_bb4_i_i_i_i_i1084_i; }
+L_bb1_i_i_i_i_i1178_i:;
+    v_8_i_i_i_i_i1179_i = (u16)(v_5_i_i_i_i1082_i);
+    v_4_i_i_i_i_i_i1180_i = v_8_i_i3_i_i_i < 2u;
+    if (v_4_i_i_i_i_i_i1180_i) { p_v_8_i_i_i1099_i = v_8_i_i3_i_i_i; goto L_back_writer_BackWriter_exit_i_i_i__3; } else { goto L_bb2_i_i_i_i_i_i1181_i; }
+L_bb2_i_i_i_i_i_i1181_i:;
+    v_10_not_i_i_i_i_i_i1182_i = v_8_i_i3_i_i_i > v_encoding_sroa_0_0_i12_i2037_i;
+    if (v_10_not_i_i_i_i_i_i1182_i) { goto L_bb7_i_i_i_i_i_i1184_i; } else { goto L_copy_from_slice_pkcs1_c_exit370_i_i_i; }
+L_bb7_i_i_i_i_i_i1184_i:;
     TRAP();
     TRAP();
-L_copy_from_slice_pkcs1_c_exit384_i_i_i:;
-    v_start1_i_i_i_i_i_i1169_i = (u64)((u64)(v_8_i_i3_i_i_i) + (u64)(18446744073709551614ull));
-    v_222 = v_out + (int64_t)(v_start1_i_i_i_i_i_i1169_i);
-    v_7_i_i_i_sroa_0_sroa_4_0_insert_shift_i_i_i = (u16)((u32)(v_8_i_i_i_i_i1165_i) << (u32)((8u & 31)));
+L_copy_from_slice_pkcs1_c_exit370_i_i_i:;
+    v_start1_i_i_i_i_i_i1183_i = (u64)((u64)(v_8_i_i3_i_i_i) + (u64)(18446744073709551614ull));
+    v_222 = v_out + (int64_t)(v_start1_i_i_i_i_i_i1183_i);
+    v_7_i_i_i_sroa_0_sroa_4_0_insert_shift_i_i_i = (u16)((u32)(v_8_i_i_i_i_i1179_i) << (u32)((8u & 31)));
     v_7_i_i_i_sroa_0_sroa_0_0_insert_insert_i_i_i = (u16)((u32)(v_7_i_i_i_sroa_0_sroa_4_0_insert_shift_i_i_i) | (u32)(2u));
     put_u16(v_222, v_7_i_i_i_sroa_0_sroa_0_0_insert_insert_i_i_i);
-    { p_v_8_i_i_i1085_i = v_start1_i_i_i_i_i_i1169_i; goto L_back_writer_BackWriter_exit_i_i_i__3; }
-L_bb4_i_i_i_i_i1070_i:;
-    v_14_i_i_i_i_i1071_i = v_13_i_i4_i_i_i < 65536u;
-    if (v_14_i_i_i_i_i1071_i) { goto L_bb5_i_i_i10_i_i_i; } else { goto L_bb6_i_i_i_i_i1072_i; }
-L_bb3_i_i_i_i_i1157_i:;
-    v_13_i_i_i_i_i1158_i = (u8)(v_5_i_i_i_i1069_i);
-    v_4_i11_i_i_i_i_i1159_i = v_8_i_i3_i_i_i < 3u;
-    if (v_4_i11_i_i_i_i_i1159_i) { p_v_8_i_i_i1085_i = v_8_i_i3_i_i_i; goto L_back_writer_BackWriter_exit_i_i_i__3; } else { goto L_bb2_i12_i_i_i_i_i1160_i; }
-L_bb2_i12_i_i_i_i_i1160_i:;
-    v_10_not_i14_i_i_i_i_i1161_i = v_8_i_i3_i_i_i > v_encoding_sroa_0_0_i14_i2020_i;
-    if (v_10_not_i14_i_i_i_i_i1161_i) { goto L_bb7_i24_i_i_i_i_i1163_i; } else { goto L_copy_from_slice_pkcs1_c_exit388_i_i_i; }
-L_bb7_i24_i_i_i_i_i1163_i:;
+    { p_v_8_i_i_i1099_i = v_start1_i_i_i_i_i_i1183_i; goto L_back_writer_BackWriter_exit_i_i_i__3; }
+L_bb4_i_i_i_i_i1084_i:;
+    v_14_i_i_i_i_i1085_i = v_13_i_i4_i_i_i < 65536u;
+    if (v_14_i_i_i_i_i1085_i) { goto L_bb5_i_i_i10_i_i_i; } else { goto L_bb6_i_i_i_i_i1086_i; }
+L_bb3_i_i_i_i_i1171_i:;
+    v_13_i_i_i_i_i1172_i = (u8)(v_5_i_i_i_i1082_i);
+    v_4_i11_i_i_i_i_i1173_i = v_8_i_i3_i_i_i < 3u;
+    if (v_4_i11_i_i_i_i_i1173_i) { p_v_8_i_i_i1099_i = v_8_i_i3_i_i_i; goto L_back_writer_BackWriter_exit_i_i_i__3; } else { goto L_bb2_i12_i_i_i_i_i1174_i; }
+L_bb2_i12_i_i_i_i_i1174_i:;
+    v_10_not_i14_i_i_i_i_i1175_i = v_8_i_i3_i_i_i > v_encoding_sroa_0_0_i12_i2037_i;
+    if (v_10_not_i14_i_i_i_i_i1175_i) { goto L_bb7_i24_i_i_i_i_i1177_i; } else { goto L_copy_from_slice_pkcs1_c_exit374_i_i_i; }
+L_bb7_i24_i_i_i_i_i1177_i:;
     TRAP();
     TRAP();
-L_copy_from_slice_pkcs1_c_exit388_i_i_i:;
-    v_start1_i13_i_i_i_i_i1162_i = (u64)((u64)(v_8_i_i3_i_i_i) + (u64)(18446744073709551613ull));
-    v_223 = v_out + (int64_t)(v_start1_i13_i_i_i_i_i1162_i);
+L_copy_from_slice_pkcs1_c_exit374_i_i_i:;
+    v_start1_i13_i_i_i_i_i1176_i = (u64)((u64)(v_8_i_i3_i_i_i) + (u64)(18446744073709551613ull));
+    v_223 = v_out + (int64_t)(v_start1_i13_i_i_i_i_i1176_i);
     put_u8(v_223, 2u);
     v_12_i_i_i1_sroa_4_0_sroa_idx_i_i_i = v_223 + 1;
     put_u8(v_12_i_i_i1_sroa_4_0_sroa_idx_i_i_i, 129u);
     v_12_i_i_i1_sroa_5_0_sroa_idx_i_i_i = v_223 + 2;
-    put_u8(v_12_i_i_i1_sroa_5_0_sroa_idx_i_i_i, v_13_i_i_i_i_i1158_i);
-    { p_v_8_i_i_i1085_i = v_start1_i13_i_i_i_i_i1162_i; goto L_back_writer_BackWriter_exit_i_i_i__3; }
-L_bb6_i_i_i_i_i1072_i:;
-    v_22_i_i_i_i_i1073_i = v_13_i_i4_i_i_i < 16777216u;
-    if (v_22_i_i_i_i_i1073_i) { goto L_bb7_i_i_i9_i_i_i; } else { goto L_bb8_i_i_i8_i_i_i; }
+    put_u8(v_12_i_i_i1_sroa_5_0_sroa_idx_i_i_i, v_13_i_i_i_i_i1172_i);
+    { p_v_8_i_i_i1099_i = v_start1_i13_i_i_i_i_i1176_i; goto L_back_writer_BackWriter_exit_i_i_i__3; }
+L_bb6_i_i_i_i_i1086_i:;
+    v_22_i_i_i_i_i1087_i = v_13_i_i4_i_i_i < 16777216u;
+    if (v_22_i_i_i_i_i1087_i) { goto L_bb7_i_i_i9_i_i_i; } else { goto L_bb8_i_i_i8_i_i_i; }
 L_bb5_i_i_i10_i_i_i:;
-    v_4_i30_i_i_i_i_i1152_i = v_8_i_i3_i_i_i < 4u;
-    if (v_4_i30_i_i_i_i_i1152_i) { p_v_8_i_i_i1085_i = v_8_i_i3_i_i_i; goto L_back_writer_BackWriter_exit_i_i_i__3; } else { goto L_bb2_i31_i_i_i_i_i1153_i; }
-L_bb2_i31_i_i_i_i_i1153_i:;
-    v_10_not_i33_i_i_i_i_i1154_i = v_8_i_i3_i_i_i > v_encoding_sroa_0_0_i14_i2020_i;
-    if (v_10_not_i33_i_i_i_i_i1154_i) { goto L_bb7_i43_i_i_i_i_i1156_i; } else { goto L_copy_from_slice_pkcs1_c_exit392_i_i_i; }
-L_bb7_i43_i_i_i_i_i1156_i:;
+    v_4_i30_i_i_i_i_i1166_i = v_8_i_i3_i_i_i < 4u;
+    if (v_4_i30_i_i_i_i_i1166_i) { p_v_8_i_i_i1099_i = v_8_i_i3_i_i_i; goto L_back_writer_BackWriter_exit_i_i_i__3; } else { goto L_bb2_i31_i_i_i_i_i1167_i; }
+L_bb2_i31_i_i_i_i_i1167_i:;
+    v_10_not_i33_i_i_i_i_i1168_i = v_8_i_i3_i_i_i > v_encoding_sroa_0_0_i12_i2037_i;
+    if (v_10_not_i33_i_i_i_i_i1168_i) { goto L_bb7_i43_i_i_i_i_i1170_i; } else { goto L_copy_from_slice_pkcs1_c_exit378_i_i_i; }
+L_bb7_i43_i_i_i_i_i1170_i:;
     TRAP();
     TRAP();
-L_copy_from_slice_pkcs1_c_exit392_i_i_i:;
-    v_start1_i32_i_i_i_i_i1155_i = (u64)((u64)(v_8_i_i3_i_i_i) + (u64)(18446744073709551612ull));
-    v_224 = v_out + (int64_t)(v_start1_i32_i_i_i_i_i1155_i);
+L_copy_from_slice_pkcs1_c_exit378_i_i_i:;
+    v_start1_i32_i_i_i_i_i1169_i = (u64)((u64)(v_8_i_i3_i_i_i) + (u64)(18446744073709551612ull));
+    v_224 = v_out + (int64_t)(v_start1_i32_i_i_i_i_i1169_i);
     v_225 = (u32)((u32)(v_13_i_i4_i_i_i) | (u32)(42074112u));
     v_17_i_i_i_sroa_0_sroa_0_0_insert_insert_i_i_i = TURNED(32, v_225);
     put_u32(v_224, v_17_i_i_i_sroa_0_sroa_0_0_insert_insert_i_i_i);
-    { p_v_8_i_i_i1085_i = v_start1_i32_i_i_i_i_i1155_i; goto L_back_writer_BackWriter_exit_i_i_i__3; }
+    { p_v_8_i_i_i1099_i = v_start1_i32_i_i_i_i_i1169_i; goto L_back_writer_BackWriter_exit_i_i_i__3; }
 L_bb8_i_i_i8_i_i_i:;
-    v_371_i_i_i_i_i1074_i = (u64)((u64)(v_5_i_i_i_i1069_i) >> (u64)((24u & 63)));
-    v_36_i_i_i_i_i1075_i = (u8)(v_371_i_i_i_i_i1074_i);
-    v_402_i_i_i_i_i1076_i = (u64)((u64)(v_5_i_i_i_i1069_i) >> (u64)((16u & 63)));
-    v_38_i_i_i_i_i1077_i = (u8)(v_402_i_i_i_i_i1076_i);
-    v_433_i_i_i_i_i1078_i = (u64)((u64)(v_5_i_i_i_i1069_i) >> (u64)((8u & 63)));
-    v_41_i_i_i_i_i1079_i = (u8)(v_433_i_i_i_i_i1078_i);
-    v_44_i_i_i_i_i1080_i = (u8)(v_5_i_i_i_i1069_i);
-    v_4_i68_i_i_i_i_i1081_i = v_8_i_i3_i_i_i < 6u;
-    if (v_4_i68_i_i_i_i_i1081_i) { p_v_8_i_i_i1085_i = v_8_i_i3_i_i_i; goto L_back_writer_BackWriter_exit_i_i_i__3; } else { goto L_bb2_i69_i_i_i_i_i1082_i; }
-L_bb2_i69_i_i_i_i_i1082_i:;
-    v_10_not_i71_i_i_i_i_i1083_i = v_8_i_i3_i_i_i > v_encoding_sroa_0_0_i14_i2020_i;
-    if (v_10_not_i71_i_i_i_i_i1083_i) { goto L_bb7_i81_i_i_i_i_i1141_i; } else { goto L_copy_from_slice_pkcs1_c_exit396_i_i_i; }
-L_bb7_i81_i_i_i_i_i1141_i:;
+    v_371_i_i_i_i_i1088_i = (u64)((u64)(v_5_i_i_i_i1082_i) >> (u64)((24u & 63)));
+    v_36_i_i_i_i_i1089_i = (u8)(v_371_i_i_i_i_i1088_i);
+    v_402_i_i_i_i_i1090_i = (u64)((u64)(v_5_i_i_i_i1082_i) >> (u64)((16u & 63)));
+    v_38_i_i_i_i_i1091_i = (u8)(v_402_i_i_i_i_i1090_i);
+    v_433_i_i_i_i_i1092_i = (u64)((u64)(v_5_i_i_i_i1082_i) >> (u64)((8u & 63)));
+    v_41_i_i_i_i_i1093_i = (u8)(v_433_i_i_i_i_i1092_i);
+    v_44_i_i_i_i_i1094_i = (u8)(v_5_i_i_i_i1082_i);
+    v_4_i68_i_i_i_i_i1095_i = v_8_i_i3_i_i_i < 6u;
+    if (v_4_i68_i_i_i_i_i1095_i) { p_v_8_i_i_i1099_i = v_8_i_i3_i_i_i; goto L_back_writer_BackWriter_exit_i_i_i__3; } else { goto L_bb2_i69_i_i_i_i_i1096_i; }
+L_bb2_i69_i_i_i_i_i1096_i:;
+    v_10_not_i71_i_i_i_i_i1097_i = v_8_i_i3_i_i_i > v_encoding_sroa_0_0_i12_i2037_i;
+    if (v_10_not_i71_i_i_i_i_i1097_i) { goto L_bb7_i81_i_i_i_i_i1155_i; } else { goto L_copy_from_slice_pkcs1_c_exit382_i_i_i; }
+L_bb7_i81_i_i_i_i_i1155_i:;
     TRAP();
     TRAP();
-L_copy_from_slice_pkcs1_c_exit396_i_i_i:;
-    v_start1_i70_i_i_i_i_i1084_i = (u64)((u64)(v_8_i_i3_i_i_i) + (u64)(18446744073709551610ull));
-    v_226 = v_out + (int64_t)(v_start1_i70_i_i_i_i_i1084_i);
+L_copy_from_slice_pkcs1_c_exit382_i_i_i:;
+    v_start1_i70_i_i_i_i_i1098_i = (u64)((u64)(v_8_i_i3_i_i_i) + (u64)(18446744073709551610ull));
+    v_226 = v_out + (int64_t)(v_start1_i70_i_i_i_i_i1098_i);
     put_u8(v_226, 2u);
     v_35_i_i_i_sroa_4_0_sroa_idx_i_i_i = v_226 + 1;
     put_u8(v_35_i_i_i_sroa_4_0_sroa_idx_i_i_i, 132u);
     v_35_i_i_i_sroa_5_0_sroa_idx_i_i_i = v_226 + 2;
-    put_u8(v_35_i_i_i_sroa_5_0_sroa_idx_i_i_i, v_36_i_i_i_i_i1075_i);
+    put_u8(v_35_i_i_i_sroa_5_0_sroa_idx_i_i_i, v_36_i_i_i_i_i1089_i);
     v_35_i_i_i_sroa_6_0_sroa_idx_i_i_i = v_226 + 3;
-    put_u8(v_35_i_i_i_sroa_6_0_sroa_idx_i_i_i, v_38_i_i_i_i_i1077_i);
+    put_u8(v_35_i_i_i_sroa_6_0_sroa_idx_i_i_i, v_38_i_i_i_i_i1091_i);
     v_35_i_i_i_sroa_7_0_sroa_idx_i_i_i = v_226 + 4;
-    put_u8(v_35_i_i_i_sroa_7_0_sroa_idx_i_i_i, v_41_i_i_i_i_i1079_i);
+    put_u8(v_35_i_i_i_sroa_7_0_sroa_idx_i_i_i, v_41_i_i_i_i_i1093_i);
     v_35_i_i_i_sroa_8_0_sroa_idx_i_i_i = v_226 + 5;
-    put_u8(v_35_i_i_i_sroa_8_0_sroa_idx_i_i_i, v_44_i_i_i_i_i1080_i);
-    { p_v_8_i_i_i1085_i = v_start1_i70_i_i_i_i_i1084_i; goto L_back_writer_BackWriter_exit_i_i_i__3; }
+    put_u8(v_35_i_i_i_sroa_8_0_sroa_idx_i_i_i, v_44_i_i_i_i_i1094_i);
+    { p_v_8_i_i_i1099_i = v_start1_i70_i_i_i_i_i1098_i; goto L_back_writer_BackWriter_exit_i_i_i__3; }
 L_bb7_i_i_i9_i_i_i:;
-    v_274_i_i_i_i_i1142_i = (u64)((u64)(v_5_i_i_i_i1069_i) >> (u64)((16u & 63)));
-    v_26_i_i_i_i_i1143_i = (u8)(v_274_i_i_i_i_i1142_i);
-    v_305_i_i_i_i_i1144_i = (u64)((u64)(v_5_i_i_i_i1069_i) >> (u64)((8u & 63)));
-    v_28_i_i_i_i_i1145_i = (u8)(v_305_i_i_i_i_i1144_i);
-    v_31_i_i_i_i_i1146_i = (u8)(v_5_i_i_i_i1069_i);
-    v_4_i49_i_i_i_i_i1147_i = v_8_i_i3_i_i_i < 5u;
-    if (v_4_i49_i_i_i_i_i1147_i) { p_v_8_i_i_i1085_i = v_8_i_i3_i_i_i; goto L_back_writer_BackWriter_exit_i_i_i__3; } else { goto L_bb2_i50_i_i_i_i_i1148_i; }
-L_bb2_i50_i_i_i_i_i1148_i:;
-    v_10_not_i52_i_i_i_i_i1149_i = v_8_i_i3_i_i_i > v_encoding_sroa_0_0_i14_i2020_i;
-    if (v_10_not_i52_i_i_i_i_i1149_i) { goto L_bb7_i62_i_i_i_i_i1151_i; } else { goto L_copy_from_slice_pkcs1_c_exit400_i_i_i; }
-L_bb7_i62_i_i_i_i_i1151_i:;
+    v_274_i_i_i_i_i1156_i = (u64)((u64)(v_5_i_i_i_i1082_i) >> (u64)((16u & 63)));
+    v_26_i_i_i_i_i1157_i = (u8)(v_274_i_i_i_i_i1156_i);
+    v_305_i_i_i_i_i1158_i = (u64)((u64)(v_5_i_i_i_i1082_i) >> (u64)((8u & 63)));
+    v_28_i_i_i_i_i1159_i = (u8)(v_305_i_i_i_i_i1158_i);
+    v_31_i_i_i_i_i1160_i = (u8)(v_5_i_i_i_i1082_i);
+    v_4_i49_i_i_i_i_i1161_i = v_8_i_i3_i_i_i < 5u;
+    if (v_4_i49_i_i_i_i_i1161_i) { p_v_8_i_i_i1099_i = v_8_i_i3_i_i_i; goto L_back_writer_BackWriter_exit_i_i_i__3; } else { goto L_bb2_i50_i_i_i_i_i1162_i; }
+L_bb2_i50_i_i_i_i_i1162_i:;
+    v_10_not_i52_i_i_i_i_i1163_i = v_8_i_i3_i_i_i > v_encoding_sroa_0_0_i12_i2037_i;
+    if (v_10_not_i52_i_i_i_i_i1163_i) { goto L_bb7_i62_i_i_i_i_i1165_i; } else { goto L_copy_from_slice_pkcs1_c_exit386_i_i_i; }
+L_bb7_i62_i_i_i_i_i1165_i:;
     TRAP();
     TRAP();
-L_copy_from_slice_pkcs1_c_exit400_i_i_i:;
-    v_start1_i51_i_i_i_i_i1150_i = (u64)((u64)(v_8_i_i3_i_i_i) + (u64)(18446744073709551611ull));
-    v_227 = v_out + (int64_t)(v_start1_i51_i_i_i_i_i1150_i);
+L_copy_from_slice_pkcs1_c_exit386_i_i_i:;
+    v_start1_i51_i_i_i_i_i1164_i = (u64)((u64)(v_8_i_i3_i_i_i) + (u64)(18446744073709551611ull));
+    v_227 = v_out + (int64_t)(v_start1_i51_i_i_i_i_i1164_i);
     put_u8(v_227, 2u);
     v_25_i_i_i_sroa_4_0_sroa_idx_i_i_i = v_227 + 1;
     put_u8(v_25_i_i_i_sroa_4_0_sroa_idx_i_i_i, 131u);
     v_25_i_i_i_sroa_5_0_sroa_idx_i_i_i = v_227 + 2;
-    put_u8(v_25_i_i_i_sroa_5_0_sroa_idx_i_i_i, v_26_i_i_i_i_i1143_i);
+    put_u8(v_25_i_i_i_sroa_5_0_sroa_idx_i_i_i, v_26_i_i_i_i_i1157_i);
     v_25_i_i_i_sroa_6_0_sroa_idx_i_i_i = v_227 + 3;
-    put_u8(v_25_i_i_i_sroa_6_0_sroa_idx_i_i_i, v_28_i_i_i_i_i1145_i);
+    put_u8(v_25_i_i_i_sroa_6_0_sroa_idx_i_i_i, v_28_i_i_i_i_i1159_i);
     v_25_i_i_i_sroa_7_0_sroa_idx_i_i_i = v_227 + 4;
-    put_u8(v_25_i_i_i_sroa_7_0_sroa_idx_i_i_i, v_31_i_i_i_i_i1146_i);
-    { p_v_8_i_i_i1085_i = v_start1_i51_i_i_i_i_i1150_i; goto L_back_writer_BackWriter_exit_i_i_i__3; }
+    put_u8(v_25_i_i_i_sroa_7_0_sroa_idx_i_i_i, v_31_i_i_i_i_i1160_i);
+    { p_v_8_i_i_i1099_i = v_start1_i51_i_i_i_i_i1164_i; goto L_back_writer_BackWriter_exit_i_i_i__3; }
 L_back_writer_BackWriter_exit_i_i_i__3:;
-    v_8_i_i_i1085_i = p_v_8_i_i_i1085_i;
-    v_5_i_i_i1086_i = (u64)((u64)(v_0_sroa_0_0_i_i_i_i263_i36_i_i) - (u64)(v_8_i_i_i1085_i));
-    v_13_i_i_i1087_i = (u32)(v_5_i_i_i1086_i);
-    v_4_i_i_i_i1088_i = v_13_i_i_i1087_i < 128u;
-    if (v_4_i_i_i_i1088_i) { goto L_bb1_i_i_i_i1134_i; } else { goto L_bb2_i_i_i_i1089_i; }
-L_bb2_i_i_i_i1089_i:;
-    v_9_i_i_i_i1090_i = v_13_i_i_i1087_i < 256u;
-    if (v_9_i_i_i_i1090_i) { goto L_bb3_i_i_i_i1127_i; } else { goto L_bb4_i_i_i_i1091_i; }
-L_bb1_i_i_i_i1134_i:;
-    v_8_i_i_i_i1135_i = (u16)(v_5_i_i_i1086_i);
-    v_4_i_i_i_i_i1136_i = v_8_i_i_i1085_i < 2u;
-    if (v_4_i_i_i_i_i1136_i) { p_v_writer_sroa_174_1_i = v_8_i_i_i1085_i; p_v_0_sroa_0_0_i_i_i_i263_i35_i_i = v_8_i_i_i1085_i; goto L_back_writer_BackWriter_exit_i_i; } else { goto L_bb2_i_i_i_i_i1137_i; }
-L_bb2_i_i_i_i_i1137_i:;
-    v_10_not_i_i_i_i_i1138_i = v_8_i_i_i1085_i > v_encoding_sroa_0_0_i14_i2020_i;
-    if (v_10_not_i_i_i_i_i1138_i) { goto L_bb7_i_i_i_i_i1140_i; } else { goto L_copy_from_slice_pkcs1_c_exit404_i_i_i; }
-L_bb7_i_i_i_i_i1140_i:;
+    v_8_i_i_i1099_i = p_v_8_i_i_i1099_i;
+    v_5_i_i_i1100_i = (u64)((u64)(v_0_sroa_0_0_i_i_i_i19_i250_i36_i_i) - (u64)(v_8_i_i_i1099_i));
+    v_13_i_i_i1101_i = (u32)(v_5_i_i_i1100_i);
+    v_4_i_i_i_i1102_i = v_13_i_i_i1101_i < 128u;
+    if (v_4_i_i_i_i1102_i) { goto L_bb1_i_i_i_i1148_i; } else { goto L_bb2_i_i_i_i1103_i; }
+L_bb2_i_i_i_i1103_i:;
+    v_9_i_i_i_i1104_i = v_13_i_i_i1101_i < 256u;
+    if (v_9_i_i_i_i1104_i) { goto L_bb3_i_i_i_i1141_i; } else { goto L_bb4_i_i_i_i1105_i; }
+L_bb1_i_i_i_i1148_i:;
+    v_8_i_i_i_i1149_i = (u16)(v_5_i_i_i1100_i);
+    v_4_i_i_i_i_i1150_i = v_8_i_i_i1099_i < 2u;
+    if (v_4_i_i_i_i_i1150_i) { p_v_writer_sroa_174_1_i = v_8_i_i_i1099_i; p_v_0_sroa_0_0_i_i_i_i19_i250_i35_i_i = v_8_i_i_i1099_i; goto L_back_writer_BackWriter_exit_i_i; } else { goto L_bb2_i_i_i_i_i1151_i; }
+L_bb2_i_i_i_i_i1151_i:;
+    v_10_not_i_i_i_i_i1152_i = v_8_i_i_i1099_i > v_encoding_sroa_0_0_i12_i2037_i;
+    if (v_10_not_i_i_i_i_i1152_i) { goto L_bb7_i_i_i_i_i1154_i; } else { goto L_copy_from_slice_pkcs1_c_exit390_i_i_i; }
+L_bb7_i_i_i_i_i1154_i:;
     TRAP();
     TRAP();
-L_copy_from_slice_pkcs1_c_exit404_i_i_i:;
-    v_start1_i_i_i_i_i1139_i = (u64)((u64)(v_8_i_i_i1085_i) + (u64)(18446744073709551614ull));
-    v_228 = v_out + (int64_t)(v_start1_i_i_i_i_i1139_i);
-    v_7_i_i_sroa_0_sroa_4_0_insert_shift_i_i_i = (u16)((u32)(v_8_i_i_i_i1135_i) << (u32)((8u & 31)));
+L_copy_from_slice_pkcs1_c_exit390_i_i_i:;
+    v_start1_i_i_i_i_i1153_i = (u64)((u64)(v_8_i_i_i1099_i) + (u64)(18446744073709551614ull));
+    v_228 = v_out + (int64_t)(v_start1_i_i_i_i_i1153_i);
+    v_7_i_i_sroa_0_sroa_4_0_insert_shift_i_i_i = (u16)((u32)(v_8_i_i_i_i1149_i) << (u32)((8u & 31)));
     v_7_i_i_sroa_0_sroa_0_0_insert_insert_i_i_i = (u16)((u32)(v_7_i_i_sroa_0_sroa_4_0_insert_shift_i_i_i) | (u32)(48u));
     put_u16(v_228, v_7_i_i_sroa_0_sroa_0_0_insert_insert_i_i_i);
-    { p_v_writer_sroa_174_1_i = v_start1_i_i_i_i_i1139_i; p_v_0_sroa_0_0_i_i_i_i263_i35_i_i = v_start1_i_i_i_i_i1139_i; goto L_back_writer_BackWriter_exit_i_i; }
-L_bb4_i_i_i_i1091_i:;
-    v_14_i_i_i_i1092_i = v_13_i_i_i1087_i < 65536u;
-    if (v_14_i_i_i_i1092_i) { goto L_bb5_i_i_i_i1121_i; } else { goto L_bb6_i_i_i_i1093_i; }
-L_bb3_i_i_i_i1127_i:;
-    v_13_i_i_i_i1128_i = (u8)(v_5_i_i_i1086_i);
-    v_4_i11_i_i_i_i1129_i = v_8_i_i_i1085_i < 3u;
-    if (v_4_i11_i_i_i_i1129_i) { p_v_writer_sroa_174_1_i = v_8_i_i_i1085_i; p_v_0_sroa_0_0_i_i_i_i263_i35_i_i = v_8_i_i_i1085_i; goto L_back_writer_BackWriter_exit_i_i; } else { goto L_bb2_i12_i_i_i_i1130_i; }
-L_bb2_i12_i_i_i_i1130_i:;
-    v_10_not_i14_i_i_i_i1131_i = v_8_i_i_i1085_i > v_encoding_sroa_0_0_i14_i2020_i;
-    if (v_10_not_i14_i_i_i_i1131_i) { goto L_bb7_i24_i_i_i_i1133_i; } else { goto L_copy_from_slice_pkcs1_c_exit408_i_i_i; }
-L_bb7_i24_i_i_i_i1133_i:;
+    { p_v_writer_sroa_174_1_i = v_start1_i_i_i_i_i1153_i; p_v_0_sroa_0_0_i_i_i_i19_i250_i35_i_i = v_start1_i_i_i_i_i1153_i; goto L_back_writer_BackWriter_exit_i_i; }
+L_bb4_i_i_i_i1105_i:;
+    v_14_i_i_i_i1106_i = v_13_i_i_i1101_i < 65536u;
+    if (v_14_i_i_i_i1106_i) { goto L_bb5_i_i_i_i1135_i; } else { goto L_bb6_i_i_i_i1107_i; }
+L_bb3_i_i_i_i1141_i:;
+    v_13_i_i_i_i1142_i = (u8)(v_5_i_i_i1100_i);
+    v_4_i11_i_i_i_i1143_i = v_8_i_i_i1099_i < 3u;
+    if (v_4_i11_i_i_i_i1143_i) { p_v_writer_sroa_174_1_i = v_8_i_i_i1099_i; p_v_0_sroa_0_0_i_i_i_i19_i250_i35_i_i = v_8_i_i_i1099_i; goto L_back_writer_BackWriter_exit_i_i; } else { goto L_bb2_i12_i_i_i_i1144_i; }
+L_bb2_i12_i_i_i_i1144_i:;
+    v_10_not_i14_i_i_i_i1145_i = v_8_i_i_i1099_i > v_encoding_sroa_0_0_i12_i2037_i;
+    if (v_10_not_i14_i_i_i_i1145_i) { goto L_bb7_i24_i_i_i_i1147_i; } else { goto L_copy_from_slice_pkcs1_c_exit394_i_i_i; }
+L_bb7_i24_i_i_i_i1147_i:;
     TRAP();
     TRAP();
-L_copy_from_slice_pkcs1_c_exit408_i_i_i:;
-    v_start1_i13_i_i_i_i1132_i = (u64)((u64)(v_8_i_i_i1085_i) + (u64)(18446744073709551613ull));
-    v_229 = v_out + (int64_t)(v_start1_i13_i_i_i_i1132_i);
+L_copy_from_slice_pkcs1_c_exit394_i_i_i:;
+    v_start1_i13_i_i_i_i1146_i = (u64)((u64)(v_8_i_i_i1099_i) + (u64)(18446744073709551613ull));
+    v_229 = v_out + (int64_t)(v_start1_i13_i_i_i_i1146_i);
     put_u8(v_229, 48u);
     v_12_i_i_sroa_4_0_sroa_idx_i_i_i = v_229 + 1;
     put_u8(v_12_i_i_sroa_4_0_sroa_idx_i_i_i, 129u);
     v_12_i_i_sroa_5_0_sroa_idx_i_i_i = v_229 + 2;
-    put_u8(v_12_i_i_sroa_5_0_sroa_idx_i_i_i, v_13_i_i_i_i1128_i);
-    { p_v_writer_sroa_174_1_i = v_start1_i13_i_i_i_i1132_i; p_v_0_sroa_0_0_i_i_i_i263_i35_i_i = v_start1_i13_i_i_i_i1132_i; goto L_back_writer_BackWriter_exit_i_i; }
-L_bb6_i_i_i_i1093_i:;
-    v_22_i_i_i_i1094_i = v_13_i_i_i1087_i < 16777216u;
-    if (v_22_i_i_i_i1094_i) { goto L_bb7_i_i_i_i1110_i; } else { goto L_bb8_i_i_i_i1095_i; }
-L_bb5_i_i_i_i1121_i:;
-    v_4_i30_i_i_i_i1122_i = v_8_i_i_i1085_i < 4u;
-    if (v_4_i30_i_i_i_i1122_i) { p_v_writer_sroa_174_1_i = v_8_i_i_i1085_i; p_v_0_sroa_0_0_i_i_i_i263_i35_i_i = v_8_i_i_i1085_i; goto L_back_writer_BackWriter_exit_i_i; } else { goto L_bb2_i31_i_i_i_i1123_i; }
-L_bb2_i31_i_i_i_i1123_i:;
-    v_10_not_i33_i_i_i_i1124_i = v_8_i_i_i1085_i > v_encoding_sroa_0_0_i14_i2020_i;
-    if (v_10_not_i33_i_i_i_i1124_i) { goto L_bb7_i43_i_i_i_i1126_i; } else { goto L_copy_from_slice_pkcs1_c_exit412_i_i_i; }
-L_bb7_i43_i_i_i_i1126_i:;
+    put_u8(v_12_i_i_sroa_5_0_sroa_idx_i_i_i, v_13_i_i_i_i1142_i);
+    { p_v_writer_sroa_174_1_i = v_start1_i13_i_i_i_i1146_i; p_v_0_sroa_0_0_i_i_i_i19_i250_i35_i_i = v_start1_i13_i_i_i_i1146_i; goto L_back_writer_BackWriter_exit_i_i; }
+L_bb6_i_i_i_i1107_i:;
+    v_22_i_i_i_i1108_i = v_13_i_i_i1101_i < 16777216u;
+    if (v_22_i_i_i_i1108_i) { goto L_bb7_i_i_i_i1124_i; } else { goto L_bb8_i_i_i_i1109_i; }
+L_bb5_i_i_i_i1135_i:;
+    v_4_i30_i_i_i_i1136_i = v_8_i_i_i1099_i < 4u;
+    if (v_4_i30_i_i_i_i1136_i) { p_v_writer_sroa_174_1_i = v_8_i_i_i1099_i; p_v_0_sroa_0_0_i_i_i_i19_i250_i35_i_i = v_8_i_i_i1099_i; goto L_back_writer_BackWriter_exit_i_i; } else { goto L_bb2_i31_i_i_i_i1137_i; }
+L_bb2_i31_i_i_i_i1137_i:;
+    v_10_not_i33_i_i_i_i1138_i = v_8_i_i_i1099_i > v_encoding_sroa_0_0_i12_i2037_i;
+    if (v_10_not_i33_i_i_i_i1138_i) { goto L_bb7_i43_i_i_i_i1140_i; } else { goto L_copy_from_slice_pkcs1_c_exit398_i_i_i; }
+L_bb7_i43_i_i_i_i1140_i:;
     TRAP();
     TRAP();
-L_copy_from_slice_pkcs1_c_exit412_i_i_i:;
-    v_start1_i32_i_i_i_i1125_i = (u64)((u64)(v_8_i_i_i1085_i) + (u64)(18446744073709551612ull));
-    v_230 = v_out + (int64_t)(v_start1_i32_i_i_i_i1125_i);
-    v_231 = (u32)((u32)(v_13_i_i_i1087_i) | (u32)(813826048u));
+L_copy_from_slice_pkcs1_c_exit398_i_i_i:;
+    v_start1_i32_i_i_i_i1139_i = (u64)((u64)(v_8_i_i_i1099_i) + (u64)(18446744073709551612ull));
+    v_230 = v_out + (int64_t)(v_start1_i32_i_i_i_i1139_i);
+    v_231 = (u32)((u32)(v_13_i_i_i1101_i) | (u32)(813826048u));
     v_17_i_i_sroa_0_sroa_0_0_insert_insert_i_i_i = TURNED(32, v_231);
     put_u32(v_230, v_17_i_i_sroa_0_sroa_0_0_insert_insert_i_i_i);
-    { p_v_writer_sroa_174_1_i = v_start1_i32_i_i_i_i1125_i; p_v_0_sroa_0_0_i_i_i_i263_i35_i_i = v_start1_i32_i_i_i_i1125_i; goto L_back_writer_BackWriter_exit_i_i; }
-L_bb8_i_i_i_i1095_i:;
-    v_371_i_i_i_i1096_i = (u64)((u64)(v_5_i_i_i1086_i) >> (u64)((24u & 63)));
-    v_36_i_i_i_i1097_i = (u8)(v_371_i_i_i_i1096_i);
-    v_402_i_i_i_i1098_i = (u64)((u64)(v_5_i_i_i1086_i) >> (u64)((16u & 63)));
-    v_38_i_i_i_i1099_i = (u8)(v_402_i_i_i_i1098_i);
-    v_433_i_i_i_i1100_i = (u64)((u64)(v_5_i_i_i1086_i) >> (u64)((8u & 63)));
-    v_41_i_i_i_i1101_i = (u8)(v_433_i_i_i_i1100_i);
-    v_44_i_i_i_i1102_i = (u8)(v_5_i_i_i1086_i);
-    v_4_i68_i_i_i_i1103_i = v_8_i_i_i1085_i < 6u;
-    if (v_4_i68_i_i_i_i1103_i) { p_v_writer_sroa_174_1_i = v_8_i_i_i1085_i; p_v_0_sroa_0_0_i_i_i_i263_i35_i_i = v_8_i_i_i1085_i; goto L_back_writer_BackWriter_exit_i_i; } else { goto L_bb2_i69_i_i_i_i1104_i; }
-L_bb2_i69_i_i_i_i1104_i:;
-    v_10_not_i71_i_i_i_i1105_i = v_8_i_i_i1085_i > v_encoding_sroa_0_0_i14_i2020_i;
-    if (v_10_not_i71_i_i_i_i1105_i) { goto L_bb7_i81_i_i_i_i1109_i; } else { goto L_copy_from_slice_pkcs1_c_exit416_i_i_i; }
-L_bb7_i81_i_i_i_i1109_i:;
+    { p_v_writer_sroa_174_1_i = v_start1_i32_i_i_i_i1139_i; p_v_0_sroa_0_0_i_i_i_i19_i250_i35_i_i = v_start1_i32_i_i_i_i1139_i; goto L_back_writer_BackWriter_exit_i_i; }
+L_bb8_i_i_i_i1109_i:;
+    v_371_i_i_i_i1110_i = (u64)((u64)(v_5_i_i_i1100_i) >> (u64)((24u & 63)));
+    v_36_i_i_i_i1111_i = (u8)(v_371_i_i_i_i1110_i);
+    v_402_i_i_i_i1112_i = (u64)((u64)(v_5_i_i_i1100_i) >> (u64)((16u & 63)));
+    v_38_i_i_i_i1113_i = (u8)(v_402_i_i_i_i1112_i);
+    v_433_i_i_i_i1114_i = (u64)((u64)(v_5_i_i_i1100_i) >> (u64)((8u & 63)));
+    v_41_i_i_i_i1115_i = (u8)(v_433_i_i_i_i1114_i);
+    v_44_i_i_i_i1116_i = (u8)(v_5_i_i_i1100_i);
+    v_4_i68_i_i_i_i1117_i = v_8_i_i_i1099_i < 6u;
+    if (v_4_i68_i_i_i_i1117_i) { p_v_writer_sroa_174_1_i = v_8_i_i_i1099_i; p_v_0_sroa_0_0_i_i_i_i19_i250_i35_i_i = v_8_i_i_i1099_i; goto L_back_writer_BackWriter_exit_i_i; } else { goto L_bb2_i69_i_i_i_i1118_i; }
+L_bb2_i69_i_i_i_i1118_i:;
+    v_10_not_i71_i_i_i_i1119_i = v_8_i_i_i1099_i > v_encoding_sroa_0_0_i12_i2037_i;
+    if (v_10_not_i71_i_i_i_i1119_i) { goto L_bb7_i81_i_i_i_i1123_i; } else { goto L_copy_from_slice_pkcs1_c_exit402_i_i_i; }
+L_bb7_i81_i_i_i_i1123_i:;
     TRAP();
     TRAP();
-L_copy_from_slice_pkcs1_c_exit416_i_i_i:;
-    v_start1_i70_i_i_i_i1106_i = (u64)((u64)(v_8_i_i_i1085_i) + (u64)(18446744073709551610ull));
-    v_232 = v_out + (int64_t)(v_start1_i70_i_i_i_i1106_i);
+L_copy_from_slice_pkcs1_c_exit402_i_i_i:;
+    v_start1_i70_i_i_i_i1120_i = (u64)((u64)(v_8_i_i_i1099_i) + (u64)(18446744073709551610ull));
+    v_232 = v_out + (int64_t)(v_start1_i70_i_i_i_i1120_i);
     put_u8(v_232, 48u);
     v_35_i_i_sroa_4_0_sroa_idx_i_i_i = v_232 + 1;
     put_u8(v_35_i_i_sroa_4_0_sroa_idx_i_i_i, 132u);
     v_35_i_i_sroa_5_0_sroa_idx_i_i_i = v_232 + 2;
-    put_u8(v_35_i_i_sroa_5_0_sroa_idx_i_i_i, v_36_i_i_i_i1097_i);
+    put_u8(v_35_i_i_sroa_5_0_sroa_idx_i_i_i, v_36_i_i_i_i1111_i);
     v_35_i_i_sroa_6_0_sroa_idx_i_i_i = v_232 + 3;
-    put_u8(v_35_i_i_sroa_6_0_sroa_idx_i_i_i, v_38_i_i_i_i1099_i);
+    put_u8(v_35_i_i_sroa_6_0_sroa_idx_i_i_i, v_38_i_i_i_i1113_i);
     v_35_i_i_sroa_7_0_sroa_idx_i_i_i = v_232 + 4;
-    put_u8(v_35_i_i_sroa_7_0_sroa_idx_i_i_i, v_41_i_i_i_i1101_i);
+    put_u8(v_35_i_i_sroa_7_0_sroa_idx_i_i_i, v_41_i_i_i_i1115_i);
     v_35_i_i_sroa_8_0_sroa_idx_i_i_i = v_232 + 5;
-    put_u8(v_35_i_i_sroa_8_0_sroa_idx_i_i_i, v_44_i_i_i_i1102_i);
-    { p_v_writer_sroa_174_1_i = v_start1_i70_i_i_i_i1106_i; p_v_0_sroa_0_0_i_i_i_i263_i35_i_i = v_start1_i70_i_i_i_i1106_i; goto L_back_writer_BackWriter_exit_i_i; }
-L_bb7_i_i_i_i1110_i:;
-    v_274_i_i_i_i1111_i = (u64)((u64)(v_5_i_i_i1086_i) >> (u64)((16u & 63)));
-    v_26_i_i_i_i1112_i = (u8)(v_274_i_i_i_i1111_i);
-    v_305_i_i_i_i1113_i = (u64)((u64)(v_5_i_i_i1086_i) >> (u64)((8u & 63)));
-    v_28_i_i_i_i1114_i = (u8)(v_305_i_i_i_i1113_i);
-    v_31_i_i_i_i1115_i = (u8)(v_5_i_i_i1086_i);
-    v_4_i49_i_i_i_i1116_i = v_8_i_i_i1085_i < 5u;
-    if (v_4_i49_i_i_i_i1116_i) { p_v_writer_sroa_174_1_i = v_8_i_i_i1085_i; p_v_0_sroa_0_0_i_i_i_i263_i35_i_i = v_8_i_i_i1085_i; goto L_back_writer_BackWriter_exit_i_i; } else { goto L_bb2_i50_i_i_i_i1117_i; }
-L_bb2_i50_i_i_i_i1117_i:;
-    v_10_not_i52_i_i_i_i1118_i = v_8_i_i_i1085_i > v_encoding_sroa_0_0_i14_i2020_i;
-    if (v_10_not_i52_i_i_i_i1118_i) { goto L_bb7_i62_i_i_i_i1120_i; } else { goto L_copy_from_slice_pkcs1_c_exit420_i_i_i; }
-L_bb7_i62_i_i_i_i1120_i:;
+    put_u8(v_35_i_i_sroa_8_0_sroa_idx_i_i_i, v_44_i_i_i_i1116_i);
+    { p_v_writer_sroa_174_1_i = v_start1_i70_i_i_i_i1120_i; p_v_0_sroa_0_0_i_i_i_i19_i250_i35_i_i = v_start1_i70_i_i_i_i1120_i; goto L_back_writer_BackWriter_exit_i_i; }
+L_bb7_i_i_i_i1124_i:;
+    v_274_i_i_i_i1125_i = (u64)((u64)(v_5_i_i_i1100_i) >> (u64)((16u & 63)));
+    v_26_i_i_i_i1126_i = (u8)(v_274_i_i_i_i1125_i);
+    v_305_i_i_i_i1127_i = (u64)((u64)(v_5_i_i_i1100_i) >> (u64)((8u & 63)));
+    v_28_i_i_i_i1128_i = (u8)(v_305_i_i_i_i1127_i);
+    v_31_i_i_i_i1129_i = (u8)(v_5_i_i_i1100_i);
+    v_4_i49_i_i_i_i1130_i = v_8_i_i_i1099_i < 5u;
+    if (v_4_i49_i_i_i_i1130_i) { p_v_writer_sroa_174_1_i = v_8_i_i_i1099_i; p_v_0_sroa_0_0_i_i_i_i19_i250_i35_i_i = v_8_i_i_i1099_i; goto L_back_writer_BackWriter_exit_i_i; } else { goto L_bb2_i50_i_i_i_i1131_i; }
+L_bb2_i50_i_i_i_i1131_i:;
+    v_10_not_i52_i_i_i_i1132_i = v_8_i_i_i1099_i > v_encoding_sroa_0_0_i12_i2037_i;
+    if (v_10_not_i52_i_i_i_i1132_i) { goto L_bb7_i62_i_i_i_i1134_i; } else { goto L_copy_from_slice_pkcs1_c_exit406_i_i_i; }
+L_bb7_i62_i_i_i_i1134_i:;
     TRAP();
     TRAP();
-L_copy_from_slice_pkcs1_c_exit420_i_i_i:;
-    v_start1_i51_i_i_i_i1119_i = (u64)((u64)(v_8_i_i_i1085_i) + (u64)(18446744073709551611ull));
-    v_233 = v_out + (int64_t)(v_start1_i51_i_i_i_i1119_i);
+L_copy_from_slice_pkcs1_c_exit406_i_i_i:;
+    v_start1_i51_i_i_i_i1133_i = (u64)((u64)(v_8_i_i_i1099_i) + (u64)(18446744073709551611ull));
+    v_233 = v_out + (int64_t)(v_start1_i51_i_i_i_i1133_i);
     put_u8(v_233, 48u);
     v_25_i_i_sroa_4_0_sroa_idx_i_i_i = v_233 + 1;
     put_u8(v_25_i_i_sroa_4_0_sroa_idx_i_i_i, 131u);
     v_25_i_i_sroa_5_0_sroa_idx_i_i_i = v_233 + 2;
-    put_u8(v_25_i_i_sroa_5_0_sroa_idx_i_i_i, v_26_i_i_i_i1112_i);
+    put_u8(v_25_i_i_sroa_5_0_sroa_idx_i_i_i, v_26_i_i_i_i1126_i);
     v_25_i_i_sroa_6_0_sroa_idx_i_i_i = v_233 + 3;
-    put_u8(v_25_i_i_sroa_6_0_sroa_idx_i_i_i, v_28_i_i_i_i1114_i);
+    put_u8(v_25_i_i_sroa_6_0_sroa_idx_i_i_i, v_28_i_i_i_i1128_i);
     v_25_i_i_sroa_7_0_sroa_idx_i_i_i = v_233 + 4;
-    put_u8(v_25_i_i_sroa_7_0_sroa_idx_i_i_i, v_31_i_i_i_i1115_i);
-    { p_v_writer_sroa_174_1_i = v_start1_i51_i_i_i_i1119_i; p_v_0_sroa_0_0_i_i_i_i263_i35_i_i = v_start1_i51_i_i_i_i1119_i; goto L_back_writer_BackWriter_exit_i_i; }
+    put_u8(v_25_i_i_sroa_7_0_sroa_idx_i_i_i, v_31_i_i_i_i1129_i);
+    { p_v_writer_sroa_174_1_i = v_start1_i51_i_i_i_i1133_i; p_v_0_sroa_0_0_i_i_i_i19_i250_i35_i_i = v_start1_i51_i_i_i_i1133_i; goto L_back_writer_BackWriter_exit_i_i; }
 L_back_writer_BackWriter_exit_i_i:;
     v_writer_sroa_174_1_i = p_v_writer_sroa_174_1_i;
-    v_0_sroa_0_0_i_i_i_i263_i35_i_i = p_v_0_sroa_0_0_i_i_i_i263_i35_i_i;
-    v_4_not_i1107_i = v_186 == 0u;
-    if (v_4_not_i1107_i) { p_v_writer_sroa_174_1_i_lcssa = v_writer_sroa_174_1_i; goto L_back_writer_BackWriter_exit_i; } else { p_v_writer_sroa_174_0_i = v_writer_sroa_174_1_i; p_v_0_sroa_0_0_i_i_i_i263_i36_i_i = v_0_sroa_0_0_i_i_i_i263_i35_i_i; p_v_left_sroa_0_034_i_i = v_186; goto L_bb2_i1027_i; }
+    v_0_sroa_0_0_i_i_i_i19_i250_i35_i_i = p_v_0_sroa_0_0_i_i_i_i19_i250_i35_i_i;
+    v_4_not_i1121_i = v_186 == 0u;
+    if (v_4_not_i1121_i) { p_v_writer_sroa_174_1_i_lcssa = v_writer_sroa_174_1_i; goto L_back_writer_BackWriter_exit_i; } else { p_v_writer_sroa_174_0_i = v_writer_sroa_174_1_i; p_v_0_sroa_0_0_i_i_i_i19_i250_i36_i_i = v_0_sroa_0_0_i_i_i_i19_i250_i35_i_i; p_v_left_sroa_0_034_i_i = v_186; goto L_bb2_i1040_i; }
 L_back_writer_BackWriter_exit_i:;
     v_writer_sroa_174_1_i_lcssa = p_v_writer_sroa_174_1_i_lcssa;
-    v_5_i_i_i_i_i_i250_i = (u64)((u64)(v_encoding_sroa_0_0_i14_i2020_i) - (u64)(v_writer_sroa_174_1_i_lcssa));
-    v_13_i_i_i15_i_i_i_i = (u32)(v_5_i_i_i_i_i_i250_i);
-    v_4_i_i_i_i16_i_i_i_i = v_13_i_i_i15_i_i_i_i < 128u;
-    if (v_4_i_i_i_i16_i_i_i_i) { goto L_bb1_i_i_i_i_i_i_i817_i; } else { goto L_bb2_i_i_i_i17_i_i_i_i; }
-L_bb2_i_i_i_i17_i_i_i_i:;
-    v_9_i_i_i_i18_i_i_i_i = v_13_i_i_i15_i_i_i_i < 256u;
-    if (v_9_i_i_i_i18_i_i_i_i) { goto L_bb3_i_i_i_i_i_i_i797_i; } else { goto L_bb4_i_i_i_i_i_i_i252_i; }
-L_bb1_i_i_i_i_i_i_i817_i:;
-    v_8_i_i_i_i_i_i_i818_i = (u16)(v_5_i_i_i_i_i_i250_i);
-    v_4_i_i_i_i_i_i_i_i822_i = v_writer_sroa_174_1_i_lcssa < 2u;
-    if (v_4_i_i_i_i_i_i_i_i822_i) { p_v_writer_sroa_174_4_i = v_writer_sroa_174_1_i_lcssa; goto L_back_writer_BackWriter_exit_i_i_i_i; } else { goto L_bb2_i_i_i_i_i_i_i_i823_i; }
-L_bb2_i_i_i_i_i_i_i_i823_i:;
-    v_10_not_i_i_i_i_i_i_i_i825_i = v_writer_sroa_174_1_i_lcssa > v_encoding_sroa_0_0_i14_i2020_i;
-    if (v_10_not_i_i_i_i_i_i_i_i825_i) { goto L_bb7_i_i_i_i_i_i_i_i836_i; } else { goto L_copy_from_slice_pkcs1_c_exit_i; }
-L_bb7_i_i_i_i_i_i_i_i836_i:;
+    v_5_i_i_i_i_i_i245_i = (u64)((u64)(v_encoding_sroa_0_0_i12_i2037_i) - (u64)(v_writer_sroa_174_1_i_lcssa));
+    v_13_i_i_i26_i_i_i_i = (u32)(v_5_i_i_i_i_i_i245_i);
+    v_4_i_i_i_i27_i_i_i_i = v_13_i_i_i26_i_i_i_i < 128u;
+    if (v_4_i_i_i_i27_i_i_i_i) { goto L_bb1_i_i_i_i_i_i_i832_i; } else { goto L_bb2_i_i_i_i28_i_i_i_i; }
+L_bb2_i_i_i_i28_i_i_i_i:;
+    v_9_i_i_i_i29_i_i_i_i = v_13_i_i_i26_i_i_i_i < 256u;
+    if (v_9_i_i_i_i29_i_i_i_i) { goto L_bb3_i_i_i_i_i_i_i812_i; } else { goto L_bb4_i_i_i_i_i_i_i247_i; }
+L_bb1_i_i_i_i_i_i_i832_i:;
+    v_8_i_i_i_i_i_i_i833_i = (u16)(v_5_i_i_i_i_i_i245_i);
+    v_4_i_i_i_i_i_i_i_i837_i = v_writer_sroa_174_1_i_lcssa < 2u;
+    if (v_4_i_i_i_i_i_i_i_i837_i) { p_v_writer_sroa_174_4_i = v_writer_sroa_174_1_i_lcssa; goto L_back_writer_BackWriter_exit_i_i_i_i; } else { goto L_bb2_i_i_i_i_i_i_i_i838_i; }
+L_bb2_i_i_i_i_i_i_i_i838_i:;
+    v_10_not_i_i_i_i_i_i_i_i840_i = v_writer_sroa_174_1_i_lcssa > v_encoding_sroa_0_0_i12_i2037_i;
+    if (v_10_not_i_i_i_i_i_i_i_i840_i) { goto L_bb7_i_i_i_i_i_i_i_i851_i; } else { goto L_copy_from_slice_pkcs1_c_exit_i; }
+L_bb7_i_i_i_i_i_i_i_i851_i:;
     TRAP();
     TRAP();
 L_copy_from_slice_pkcs1_c_exit_i:;
-    v_start1_i_i_i_i_i_i_i_i824_i = (u64)((u64)(v_writer_sroa_174_1_i_lcssa) + (u64)(18446744073709551614ull));
-    v_234 = v_out + (int64_t)(v_start1_i_i_i_i_i_i_i_i824_i);
-    v_7_i_i_i_i_i_i_i147_sroa_0_sroa_4_0_insert_shift_i = (u16)((u32)(v_8_i_i_i_i_i_i_i818_i) << (u32)((8u & 31)));
-    v_7_i_i_i_i_i_i_i147_sroa_0_sroa_0_0_insert_insert_i = (u16)((u32)(v_7_i_i_i_i_i_i_i147_sroa_0_sroa_4_0_insert_shift_i) | (u32)(48u));
-    put_u16(v_234, v_7_i_i_i_i_i_i_i147_sroa_0_sroa_0_0_insert_insert_i);
-    { p_v_writer_sroa_174_4_i = v_start1_i_i_i_i_i_i_i_i824_i; goto L_back_writer_BackWriter_exit_i_i_i_i; }
-L_bb4_i_i_i_i_i_i_i252_i:;
-    v_14_i_i_i_i_i_i_i253_i = v_13_i_i_i15_i_i_i_i < 65536u;
-    if (v_14_i_i_i_i_i_i_i253_i) { goto L_bb5_i_i_i_i21_i_i_i_i; } else { goto L_bb6_i_i_i_i_i_i_i254_i; }
-L_bb3_i_i_i_i_i_i_i797_i:;
-    v_13_i_i_i_i_i_i_i798_i = (u8)(v_5_i_i_i_i_i_i250_i);
-    v_4_i11_i_i_i_i_i_i_i802_i = v_writer_sroa_174_1_i_lcssa < 3u;
-    if (v_4_i11_i_i_i_i_i_i_i802_i) { p_v_writer_sroa_174_4_i = v_writer_sroa_174_1_i_lcssa; goto L_back_writer_BackWriter_exit_i_i_i_i; } else { goto L_bb2_i12_i_i_i_i_i_i_i803_i; }
-L_bb2_i12_i_i_i_i_i_i_i803_i:;
-    v_10_not_i14_i_i_i_i_i_i_i805_i = v_writer_sroa_174_1_i_lcssa > v_encoding_sroa_0_0_i14_i2020_i;
-    if (v_10_not_i14_i_i_i_i_i_i_i805_i) { goto L_bb7_i24_i_i_i_i_i_i_i816_i; } else { goto L_copy_from_slice_pkcs1_c_exit1221_i; }
-L_bb7_i24_i_i_i_i_i_i_i816_i:;
+    v_start1_i_i_i_i_i_i_i_i839_i = (u64)((u64)(v_writer_sroa_174_1_i_lcssa) + (u64)(18446744073709551614ull));
+    v_234 = v_out + (int64_t)(v_start1_i_i_i_i_i_i_i_i839_i);
+    v_7_i_i_i_i_i_i_i140_sroa_0_sroa_4_0_insert_shift_i = (u16)((u32)(v_8_i_i_i_i_i_i_i833_i) << (u32)((8u & 31)));
+    v_7_i_i_i_i_i_i_i140_sroa_0_sroa_0_0_insert_insert_i = (u16)((u32)(v_7_i_i_i_i_i_i_i140_sroa_0_sroa_4_0_insert_shift_i) | (u32)(48u));
+    put_u16(v_234, v_7_i_i_i_i_i_i_i140_sroa_0_sroa_0_0_insert_insert_i);
+    { p_v_writer_sroa_174_4_i = v_start1_i_i_i_i_i_i_i_i839_i; goto L_back_writer_BackWriter_exit_i_i_i_i; }
+L_bb4_i_i_i_i_i_i_i247_i:;
+    v_14_i_i_i_i_i_i_i248_i = v_13_i_i_i26_i_i_i_i < 65536u;
+    if (v_14_i_i_i_i_i_i_i248_i) { goto L_bb5_i_i_i_i32_i_i_i_i; } else { goto L_bb6_i_i_i_i_i_i_i249_i; }
+L_bb3_i_i_i_i_i_i_i812_i:;
+    v_13_i_i_i_i_i_i_i813_i = (u8)(v_5_i_i_i_i_i_i245_i);
+    v_4_i11_i_i_i_i_i_i_i817_i = v_writer_sroa_174_1_i_lcssa < 3u;
+    if (v_4_i11_i_i_i_i_i_i_i817_i) { p_v_writer_sroa_174_4_i = v_writer_sroa_174_1_i_lcssa; goto L_back_writer_BackWriter_exit_i_i_i_i; } else { goto L_bb2_i12_i_i_i_i_i_i_i818_i; }
+L_bb2_i12_i_i_i_i_i_i_i818_i:;
+    v_10_not_i14_i_i_i_i_i_i_i820_i = v_writer_sroa_174_1_i_lcssa > v_encoding_sroa_0_0_i12_i2037_i;
+    if (v_10_not_i14_i_i_i_i_i_i_i820_i) { goto L_bb7_i24_i_i_i_i_i_i_i831_i; } else { goto L_copy_from_slice_pkcs1_c_exit1238_i; }
+L_bb7_i24_i_i_i_i_i_i_i831_i:;
     TRAP();
     TRAP();
-L_copy_from_slice_pkcs1_c_exit1221_i:;
-    v_start1_i13_i_i_i_i_i_i_i804_i = (u64)((u64)(v_writer_sroa_174_1_i_lcssa) + (u64)(18446744073709551613ull));
-    v_235 = v_out + (int64_t)(v_start1_i13_i_i_i_i_i_i_i804_i);
+L_copy_from_slice_pkcs1_c_exit1238_i:;
+    v_start1_i13_i_i_i_i_i_i_i819_i = (u64)((u64)(v_writer_sroa_174_1_i_lcssa) + (u64)(18446744073709551613ull));
+    v_235 = v_out + (int64_t)(v_start1_i13_i_i_i_i_i_i_i819_i);
     put_u8(v_235, 48u);
-    v_12_i_i_i_i11_i_i_i_sroa_4_0_sroa_idx_i = v_235 + 1;
-    put_u8(v_12_i_i_i_i11_i_i_i_sroa_4_0_sroa_idx_i, 129u);
-    v_12_i_i_i_i11_i_i_i_sroa_5_0_sroa_idx_i = v_235 + 2;
-    put_u8(v_12_i_i_i_i11_i_i_i_sroa_5_0_sroa_idx_i, v_13_i_i_i_i_i_i_i798_i);
-    { p_v_writer_sroa_174_4_i = v_start1_i13_i_i_i_i_i_i_i804_i; goto L_back_writer_BackWriter_exit_i_i_i_i; }
-L_bb6_i_i_i_i_i_i_i254_i:;
-    v_22_i_i_i_i_i_i_i255_i = v_13_i_i_i15_i_i_i_i < 16777216u;
-    if (v_22_i_i_i_i_i_i_i255_i) { goto L_bb7_i_i_i_i20_i_i_i_i; } else { goto L_bb8_i_i_i_i19_i_i_i_i; }
-L_bb5_i_i_i_i21_i_i_i_i:;
-    v_4_i30_i_i_i_i_i_i_i782_i = v_writer_sroa_174_1_i_lcssa < 4u;
-    if (v_4_i30_i_i_i_i_i_i_i782_i) { p_v_writer_sroa_174_4_i = v_writer_sroa_174_1_i_lcssa; goto L_back_writer_BackWriter_exit_i_i_i_i; } else { goto L_bb2_i31_i_i_i_i_i_i_i783_i; }
-L_bb2_i31_i_i_i_i_i_i_i783_i:;
-    v_10_not_i33_i_i_i_i_i_i_i785_i = v_writer_sroa_174_1_i_lcssa > v_encoding_sroa_0_0_i14_i2020_i;
-    if (v_10_not_i33_i_i_i_i_i_i_i785_i) { goto L_bb7_i43_i_i_i_i_i_i_i796_i; } else { goto L_copy_from_slice_pkcs1_c_exit1225_i; }
-L_bb7_i43_i_i_i_i_i_i_i796_i:;
+    v_12_i_i_i_i22_i_i_i139_sroa_4_0_sroa_idx_i = v_235 + 1;
+    put_u8(v_12_i_i_i_i22_i_i_i139_sroa_4_0_sroa_idx_i, 129u);
+    v_12_i_i_i_i22_i_i_i139_sroa_5_0_sroa_idx_i = v_235 + 2;
+    put_u8(v_12_i_i_i_i22_i_i_i139_sroa_5_0_sroa_idx_i, v_13_i_i_i_i_i_i_i813_i);
+    { p_v_writer_sroa_174_4_i = v_start1_i13_i_i_i_i_i_i_i819_i; goto L_back_writer_BackWriter_exit_i_i_i_i; }
+L_bb6_i_i_i_i_i_i_i249_i:;
+    v_22_i_i_i_i_i_i_i250_i = v_13_i_i_i26_i_i_i_i < 16777216u;
+    if (v_22_i_i_i_i_i_i_i250_i) { goto L_bb7_i_i_i_i31_i_i_i_i; } else { goto L_bb8_i_i_i_i30_i_i_i_i; }
+L_bb5_i_i_i_i32_i_i_i_i:;
+    v_4_i30_i_i_i_i_i_i_i797_i = v_writer_sroa_174_1_i_lcssa < 4u;
+    if (v_4_i30_i_i_i_i_i_i_i797_i) { p_v_writer_sroa_174_4_i = v_writer_sroa_174_1_i_lcssa; goto L_back_writer_BackWriter_exit_i_i_i_i; } else { goto L_bb2_i31_i_i_i_i_i_i_i798_i; }
+L_bb2_i31_i_i_i_i_i_i_i798_i:;
+    v_10_not_i33_i_i_i_i_i_i_i800_i = v_writer_sroa_174_1_i_lcssa > v_encoding_sroa_0_0_i12_i2037_i;
+    if (v_10_not_i33_i_i_i_i_i_i_i800_i) { goto L_bb7_i43_i_i_i_i_i_i_i811_i; } else { goto L_copy_from_slice_pkcs1_c_exit1242_i; }
+L_bb7_i43_i_i_i_i_i_i_i811_i:;
     TRAP();
     TRAP();
-L_copy_from_slice_pkcs1_c_exit1225_i:;
-    v_start1_i32_i_i_i_i_i_i_i784_i = (u64)((u64)(v_writer_sroa_174_1_i_lcssa) + (u64)(18446744073709551612ull));
-    v_236 = v_out + (int64_t)(v_start1_i32_i_i_i_i_i_i_i784_i);
-    v_237 = (u32)((u32)(v_13_i_i_i15_i_i_i_i) | (u32)(813826048u));
-    v_17_i_i_i_i_i_i_i146_sroa_0_sroa_0_0_insert_insert_ = TURNED(32, v_237);
-    put_u32(v_236, v_17_i_i_i_i_i_i_i146_sroa_0_sroa_0_0_insert_insert_);
-    { p_v_writer_sroa_174_4_i = v_start1_i32_i_i_i_i_i_i_i784_i; goto L_back_writer_BackWriter_exit_i_i_i_i; }
-L_bb8_i_i_i_i19_i_i_i_i:;
-    v_371_i_i_i_i_i_i_i256_i = (u64)((u64)(v_5_i_i_i_i_i_i250_i) >> (u64)((24u & 63)));
-    v_36_i_i_i_i_i_i_i257_i = (u8)(v_371_i_i_i_i_i_i_i256_i);
-    v_402_i_i_i_i_i_i_i258_i = (u64)((u64)(v_5_i_i_i_i_i_i250_i) >> (u64)((16u & 63)));
-    v_38_i_i_i_i_i_i_i259_i = (u8)(v_402_i_i_i_i_i_i_i258_i);
-    v_433_i_i_i_i_i_i_i260_i = (u64)((u64)(v_5_i_i_i_i_i_i250_i) >> (u64)((8u & 63)));
-    v_41_i_i_i_i_i_i_i261_i = (u8)(v_433_i_i_i_i_i_i_i260_i);
-    v_44_i_i_i_i_i_i_i262_i = (u8)(v_5_i_i_i_i_i_i250_i);
-    v_4_i68_i_i_i_i_i_i_i266_i = v_writer_sroa_174_1_i_lcssa < 6u;
-    if (v_4_i68_i_i_i_i_i_i_i266_i) { p_v_writer_sroa_174_4_i = v_writer_sroa_174_1_i_lcssa; goto L_back_writer_BackWriter_exit_i_i_i_i; } else { goto L_bb2_i69_i_i_i_i_i_i_i267_i; }
-L_bb2_i69_i_i_i_i_i_i_i267_i:;
-    v_10_not_i71_i_i_i_i_i_i_i269_i = v_writer_sroa_174_1_i_lcssa > v_encoding_sroa_0_0_i14_i2020_i;
-    if (v_10_not_i71_i_i_i_i_i_i_i269_i) { goto L_bb7_i81_i_i_i_i_i_i_i752_i; } else { goto L_copy_from_slice_pkcs1_c_exit1229_i; }
-L_bb7_i81_i_i_i_i_i_i_i752_i:;
+L_copy_from_slice_pkcs1_c_exit1242_i:;
+    v_start1_i32_i_i_i_i_i_i_i799_i = (u64)((u64)(v_writer_sroa_174_1_i_lcssa) + (u64)(18446744073709551612ull));
+    v_236 = v_out + (int64_t)(v_start1_i32_i_i_i_i_i_i_i799_i);
+    v_237 = (u32)((u32)(v_13_i_i_i26_i_i_i_i) | (u32)(813826048u));
+    v_17_i_i_i_i_i_i_i138_sroa_0_sroa_0_0_insert_insert_ = TURNED(32, v_237);
+    put_u32(v_236, v_17_i_i_i_i_i_i_i138_sroa_0_sroa_0_0_insert_insert_);
+    { p_v_writer_sroa_174_4_i = v_start1_i32_i_i_i_i_i_i_i799_i; goto L_back_writer_BackWriter_exit_i_i_i_i; }
+L_bb8_i_i_i_i30_i_i_i_i:;
+    v_371_i_i_i_i_i_i_i251_i = (u64)((u64)(v_5_i_i_i_i_i_i245_i) >> (u64)((24u & 63)));
+    v_36_i_i_i_i_i_i_i252_i = (u8)(v_371_i_i_i_i_i_i_i251_i);
+    v_402_i_i_i_i_i_i_i253_i = (u64)((u64)(v_5_i_i_i_i_i_i245_i) >> (u64)((16u & 63)));
+    v_38_i_i_i_i_i_i_i254_i = (u8)(v_402_i_i_i_i_i_i_i253_i);
+    v_433_i_i_i_i_i_i_i255_i = (u64)((u64)(v_5_i_i_i_i_i_i245_i) >> (u64)((8u & 63)));
+    v_41_i_i_i_i_i_i_i256_i = (u8)(v_433_i_i_i_i_i_i_i255_i);
+    v_44_i_i_i_i_i_i_i257_i = (u8)(v_5_i_i_i_i_i_i245_i);
+    v_4_i68_i_i_i_i_i_i_i261_i = v_writer_sroa_174_1_i_lcssa < 6u;
+    if (v_4_i68_i_i_i_i_i_i_i261_i) { p_v_writer_sroa_174_4_i = v_writer_sroa_174_1_i_lcssa; goto L_back_writer_BackWriter_exit_i_i_i_i; } else { goto L_bb2_i69_i_i_i_i_i_i_i262_i; }
+L_bb2_i69_i_i_i_i_i_i_i262_i:;
+    v_10_not_i71_i_i_i_i_i_i_i264_i = v_writer_sroa_174_1_i_lcssa > v_encoding_sroa_0_0_i12_i2037_i;
+    if (v_10_not_i71_i_i_i_i_i_i_i264_i) { goto L_bb7_i81_i_i_i_i_i_i_i767_i; } else { goto L_copy_from_slice_pkcs1_c_exit1246_i; }
+L_bb7_i81_i_i_i_i_i_i_i767_i:;
     TRAP();
     TRAP();
-L_copy_from_slice_pkcs1_c_exit1229_i:;
-    v_start1_i70_i_i_i_i_i_i_i268_i = (u64)((u64)(v_writer_sroa_174_1_i_lcssa) + (u64)(18446744073709551610ull));
-    v_238 = v_out + (int64_t)(v_start1_i70_i_i_i_i_i_i_i268_i);
+L_copy_from_slice_pkcs1_c_exit1246_i:;
+    v_start1_i70_i_i_i_i_i_i_i263_i = (u64)((u64)(v_writer_sroa_174_1_i_lcssa) + (u64)(18446744073709551610ull));
+    v_238 = v_out + (int64_t)(v_start1_i70_i_i_i_i_i_i_i263_i);
     put_u8(v_238, 48u);
-    v_35_i_i_i_i_i_i_i144_sroa_4_0_sroa_idx_i = v_238 + 1;
-    put_u8(v_35_i_i_i_i_i_i_i144_sroa_4_0_sroa_idx_i, 132u);
-    v_35_i_i_i_i_i_i_i144_sroa_5_0_sroa_idx_i = v_238 + 2;
-    put_u8(v_35_i_i_i_i_i_i_i144_sroa_5_0_sroa_idx_i, v_36_i_i_i_i_i_i_i257_i);
-    v_35_i_i_i_i_i_i_i144_sroa_6_0_sroa_idx_i = v_238 + 3;
-    put_u8(v_35_i_i_i_i_i_i_i144_sroa_6_0_sroa_idx_i, v_38_i_i_i_i_i_i_i259_i);
-    v_35_i_i_i_i_i_i_i144_sroa_7_0_sroa_idx_i = v_238 + 4;
-    put_u8(v_35_i_i_i_i_i_i_i144_sroa_7_0_sroa_idx_i, v_41_i_i_i_i_i_i_i261_i);
-    v_35_i_i_i_i_i_i_i144_sroa_8_0_sroa_idx_i = v_238 + 5;
-    put_u8(v_35_i_i_i_i_i_i_i144_sroa_8_0_sroa_idx_i, v_44_i_i_i_i_i_i_i262_i);
-    { p_v_writer_sroa_174_4_i = v_start1_i70_i_i_i_i_i_i_i268_i; goto L_back_writer_BackWriter_exit_i_i_i_i; }
-L_bb7_i_i_i_i20_i_i_i_i:;
-    v_274_i_i_i_i_i_i_i753_i = (u64)((u64)(v_5_i_i_i_i_i_i250_i) >> (u64)((16u & 63)));
-    v_26_i_i_i_i_i_i_i754_i = (u8)(v_274_i_i_i_i_i_i_i753_i);
-    v_305_i_i_i_i_i_i_i755_i = (u64)((u64)(v_5_i_i_i_i_i_i250_i) >> (u64)((8u & 63)));
-    v_28_i_i_i_i_i_i_i756_i = (u8)(v_305_i_i_i_i_i_i_i755_i);
-    v_31_i_i_i_i_i_i_i757_i = (u8)(v_5_i_i_i_i_i_i250_i);
-    v_4_i49_i_i_i_i_i_i_i761_i = v_writer_sroa_174_1_i_lcssa < 5u;
-    if (v_4_i49_i_i_i_i_i_i_i761_i) { p_v_writer_sroa_174_4_i = v_writer_sroa_174_1_i_lcssa; goto L_back_writer_BackWriter_exit_i_i_i_i; } else { goto L_bb2_i50_i_i_i_i_i_i_i762_i; }
-L_bb2_i50_i_i_i_i_i_i_i762_i:;
-    v_10_not_i52_i_i_i_i_i_i_i764_i = v_writer_sroa_174_1_i_lcssa > v_encoding_sroa_0_0_i14_i2020_i;
-    if (v_10_not_i52_i_i_i_i_i_i_i764_i) { goto L_bb7_i62_i_i_i_i_i_i_i775_i; } else { goto L_copy_from_slice_pkcs1_c_exit1233_i; }
-L_bb7_i62_i_i_i_i_i_i_i775_i:;
+    v_35_i_i_i_i_i_i_i136_sroa_4_0_sroa_idx_i = v_238 + 1;
+    put_u8(v_35_i_i_i_i_i_i_i136_sroa_4_0_sroa_idx_i, 132u);
+    v_35_i_i_i_i_i_i_i136_sroa_5_0_sroa_idx_i = v_238 + 2;
+    put_u8(v_35_i_i_i_i_i_i_i136_sroa_5_0_sroa_idx_i, v_36_i_i_i_i_i_i_i252_i);
+    v_35_i_i_i_i_i_i_i136_sroa_6_0_sroa_idx_i = v_238 + 3;
+    put_u8(v_35_i_i_i_i_i_i_i136_sroa_6_0_sroa_idx_i, v_38_i_i_i_i_i_i_i254_i);
+    v_35_i_i_i_i_i_i_i136_sroa_7_0_sroa_idx_i = v_238 + 4;
+    put_u8(v_35_i_i_i_i_i_i_i136_sroa_7_0_sroa_idx_i, v_41_i_i_i_i_i_i_i256_i);
+    v_35_i_i_i_i_i_i_i136_sroa_8_0_sroa_idx_i = v_238 + 5;
+    put_u8(v_35_i_i_i_i_i_i_i136_sroa_8_0_sroa_idx_i, v_44_i_i_i_i_i_i_i257_i);
+    { p_v_writer_sroa_174_4_i = v_start1_i70_i_i_i_i_i_i_i263_i; goto L_back_writer_BackWriter_exit_i_i_i_i; }
+L_bb7_i_i_i_i31_i_i_i_i:;
+    v_274_i_i_i_i_i_i_i768_i = (u64)((u64)(v_5_i_i_i_i_i_i245_i) >> (u64)((16u & 63)));
+    v_26_i_i_i_i_i_i_i769_i = (u8)(v_274_i_i_i_i_i_i_i768_i);
+    v_305_i_i_i_i_i_i_i770_i = (u64)((u64)(v_5_i_i_i_i_i_i245_i) >> (u64)((8u & 63)));
+    v_28_i_i_i_i_i_i_i771_i = (u8)(v_305_i_i_i_i_i_i_i770_i);
+    v_31_i_i_i_i_i_i_i772_i = (u8)(v_5_i_i_i_i_i_i245_i);
+    v_4_i49_i_i_i_i_i_i_i776_i = v_writer_sroa_174_1_i_lcssa < 5u;
+    if (v_4_i49_i_i_i_i_i_i_i776_i) { p_v_writer_sroa_174_4_i = v_writer_sroa_174_1_i_lcssa; goto L_back_writer_BackWriter_exit_i_i_i_i; } else { goto L_bb2_i50_i_i_i_i_i_i_i777_i; }
+L_bb2_i50_i_i_i_i_i_i_i777_i:;
+    v_10_not_i52_i_i_i_i_i_i_i779_i = v_writer_sroa_174_1_i_lcssa > v_encoding_sroa_0_0_i12_i2037_i;
+    if (v_10_not_i52_i_i_i_i_i_i_i779_i) { goto L_bb7_i62_i_i_i_i_i_i_i790_i; } else { goto L_copy_from_slice_pkcs1_c_exit1250_i; }
+L_bb7_i62_i_i_i_i_i_i_i790_i:;
     TRAP();
     TRAP();
-L_copy_from_slice_pkcs1_c_exit1233_i:;
-    v_start1_i51_i_i_i_i_i_i_i763_i = (u64)((u64)(v_writer_sroa_174_1_i_lcssa) + (u64)(18446744073709551611ull));
-    v_239 = v_out + (int64_t)(v_start1_i51_i_i_i_i_i_i_i763_i);
+L_copy_from_slice_pkcs1_c_exit1250_i:;
+    v_start1_i51_i_i_i_i_i_i_i778_i = (u64)((u64)(v_writer_sroa_174_1_i_lcssa) + (u64)(18446744073709551611ull));
+    v_239 = v_out + (int64_t)(v_start1_i51_i_i_i_i_i_i_i778_i);
     put_u8(v_239, 48u);
-    v_25_i_i_i_i_i_i_i145_sroa_4_0_sroa_idx_i = v_239 + 1;
-    put_u8(v_25_i_i_i_i_i_i_i145_sroa_4_0_sroa_idx_i, 131u);
-    v_25_i_i_i_i_i_i_i145_sroa_5_0_sroa_idx_i = v_239 + 2;
-    put_u8(v_25_i_i_i_i_i_i_i145_sroa_5_0_sroa_idx_i, v_26_i_i_i_i_i_i_i754_i);
-    v_25_i_i_i_i_i_i_i145_sroa_6_0_sroa_idx_i = v_239 + 3;
-    put_u8(v_25_i_i_i_i_i_i_i145_sroa_6_0_sroa_idx_i, v_28_i_i_i_i_i_i_i756_i);
-    v_25_i_i_i_i_i_i_i145_sroa_7_0_sroa_idx_i = v_239 + 4;
-    put_u8(v_25_i_i_i_i_i_i_i145_sroa_7_0_sroa_idx_i, v_31_i_i_i_i_i_i_i757_i);
-    { p_v_writer_sroa_174_4_i = v_start1_i51_i_i_i_i_i_i_i763_i; goto L_back_writer_BackWriter_exit_i_i_i_i; }
+    v_25_i_i_i_i_i_i_i137_sroa_4_0_sroa_idx_i = v_239 + 1;
+    put_u8(v_25_i_i_i_i_i_i_i137_sroa_4_0_sroa_idx_i, 131u);
+    v_25_i_i_i_i_i_i_i137_sroa_5_0_sroa_idx_i = v_239 + 2;
+    put_u8(v_25_i_i_i_i_i_i_i137_sroa_5_0_sroa_idx_i, v_26_i_i_i_i_i_i_i769_i);
+    v_25_i_i_i_i_i_i_i137_sroa_6_0_sroa_idx_i = v_239 + 3;
+    put_u8(v_25_i_i_i_i_i_i_i137_sroa_6_0_sroa_idx_i, v_28_i_i_i_i_i_i_i771_i);
+    v_25_i_i_i_i_i_i_i137_sroa_7_0_sroa_idx_i = v_239 + 4;
+    put_u8(v_25_i_i_i_i_i_i_i137_sroa_7_0_sroa_idx_i, v_31_i_i_i_i_i_i_i772_i);
+    { p_v_writer_sroa_174_4_i = v_start1_i51_i_i_i_i_i_i_i778_i; goto L_back_writer_BackWriter_exit_i_i_i_i; }
 L_back_writer_BackWriter_exit_i_i_i_i:;
     v_writer_sroa_174_4_i = p_v_writer_sroa_174_4_i;
-    v_4_i_i8_i_i_i_i286_i = v_34_sroa_6_0_i_ph > v_writer_sroa_174_4_i;
-    if (v_4_i_i8_i_i_i_i286_i) { p_v_0_sroa_0_0_i_i19_i_i_i_i298_i = v_writer_sroa_174_4_i; goto L_bb2_i_i_i14_i_i; } else { goto L_bb2_i_i9_i_i_i_i287_i; }
-L_bb2_i_i9_i_i_i_i287_i:;
-    v_10_not_i_i11_i_i_i_i289_i = v_writer_sroa_174_4_i > v_encoding_sroa_0_0_i14_i2020_i;
-    if (v_10_not_i_i11_i_i_i_i289_i) { goto L_bb7_i_i21_i_i_i_i750_i; } else { goto L_copy_from_slice_pkcs1_c_exit1237_i; }
-L_bb7_i_i21_i_i_i_i750_i:;
+    v_4_i_i8_i_i_i_i_i280_i = v_34_sroa_6_0_i_ph > v_writer_sroa_174_4_i;
+    if (v_4_i_i8_i_i_i_i_i280_i) { p_v_0_sroa_0_0_i_i19_i_i_i_i_i292_i = v_writer_sroa_174_4_i; goto L_bb2_i_i_i28_i_i_i; } else { goto L_bb2_i_i9_i_i_i_i_i281_i; }
+L_bb2_i_i9_i_i_i_i_i281_i:;
+    v_10_not_i_i11_i_i_i_i_i283_i = v_writer_sroa_174_4_i > v_encoding_sroa_0_0_i12_i2037_i;
+    if (v_10_not_i_i11_i_i_i_i_i283_i) { goto L_bb7_i_i21_i_i_i_i_i765_i; } else { goto L_copy_from_slice_pkcs1_c_exit1254_i; }
+L_bb7_i_i21_i_i_i_i_i765_i:;
     TRAP();
     TRAP();
-L_copy_from_slice_pkcs1_c_exit1237_i:;
-    v_start1_i_i10_i_i_i_i288_i = (u64)((u64)(v_writer_sroa_174_4_i) - (u64)(v_34_sroa_6_0_i_ph));
-    v_240 = v_out + (int64_t)(v_start1_i_i10_i_i_i_i288_i);
+L_copy_from_slice_pkcs1_c_exit1254_i:;
+    v_start1_i_i10_i_i_i_i_i282_i = (u64)((u64)(v_writer_sroa_174_4_i) - (u64)(v_34_sroa_6_0_i_ph));
+    v_240 = v_out + (int64_t)(v_start1_i_i10_i_i_i_i_i282_i);
     copy(v_240, v_34_sroa_0_0_i_ph, v_34_sroa_6_0_i_ph);
-    { p_v_0_sroa_0_0_i_i19_i_i_i_i298_i = v_start1_i_i10_i_i_i_i288_i; goto L_bb2_i_i_i14_i_i; }
-L_bb2_i_i_i14_i_i:;
-    v_0_sroa_0_0_i_i19_i_i_i_i298_i = p_v_0_sroa_0_0_i_i19_i_i_i_i298_i;
-    v_5_i_i17_i_i_i = get_u8(v_34_sroa_0_0_i_ph);
-    v_4_i3_i_i_i301_i = (u8)(v_5_i_i17_i_i_i ^ ((u8)1 << 7)) < (u8)(0u ^ ((u8)1 << 7));
-    if (v_4_i3_i_i_i301_i) { goto L_bb3_i_i_i35_i_i; } else { p_v_writer_sroa_174_5_i = v_0_sroa_0_0_i_i19_i_i_i_i298_i; goto L_back_writer_BackWriter_exit_i_i_i302_i; }
-L_bb3_i_i_i35_i_i:;
-    v_4_i_i_i6_i_i_i742_i = v_0_sroa_0_0_i_i19_i_i_i_i298_i == 0u;
-    if (v_4_i_i_i6_i_i_i742_i) { p_v_writer_sroa_174_6_i = 0u; goto L_back_writer_BackWriter_exit_i_i_i__4; } else { goto L_bb2_i_i_i7_i_i_i743_i; }
-L_bb2_i_i_i7_i_i_i743_i:;
-    v_10_not_i_i_i_i27_i_i_i = v_0_sroa_0_0_i_i19_i_i_i_i298_i > v_encoding_sroa_0_0_i14_i2020_i;
-    if (v_10_not_i_i_i_i27_i_i_i) { goto L_bb7_i_i_i10_i_i_i747_i; } else { goto L_copy_from_slice_pkcs1_c_exit1241_i; }
-L_bb7_i_i_i10_i_i_i747_i:;
+    { p_v_0_sroa_0_0_i_i19_i_i_i_i_i292_i = v_start1_i_i10_i_i_i_i_i282_i; goto L_bb2_i_i_i28_i_i_i; }
+L_bb2_i_i_i28_i_i_i:;
+    v_0_sroa_0_0_i_i19_i_i_i_i_i292_i = p_v_0_sroa_0_0_i_i19_i_i_i_i_i292_i;
+    v_5_i_i5_i_i_i294_i = get_u8(v_34_sroa_0_0_i_ph);
+    v_4_i_i6_i_i_i295_i = (u8)(v_5_i_i5_i_i_i294_i ^ ((u8)1 << 7)) < (u8)(0u ^ ((u8)1 << 7));
+    if (v_4_i_i6_i_i_i295_i) { goto L_bb3_i_i_i37_i_i_i; } else { p_v_writer_sroa_174_5_i = v_0_sroa_0_0_i_i19_i_i_i_i_i292_i; goto L_back_writer_BackWriter_exit_i_i_i296_i; }
+L_bb3_i_i_i37_i_i_i:;
+    v_4_i_i_i_i8_i_i_i748_i = v_0_sroa_0_0_i_i19_i_i_i_i_i292_i == 0u;
+    if (v_4_i_i_i_i8_i_i_i748_i) { p_v_writer_sroa_174_6_i = 0u; goto L_back_writer_BackWriter_exit_i_i_i__4; } else { goto L_bb2_i_i_i_i9_i_i_i749_i; }
+L_bb2_i_i_i_i9_i_i_i749_i:;
+    v_10_not_i_i_i_i11_i_i_i751_i = v_0_sroa_0_0_i_i19_i_i_i_i_i292_i > v_encoding_sroa_0_0_i12_i2037_i;
+    if (v_10_not_i_i_i_i11_i_i_i751_i) { goto L_bb7_i_i_i_i21_i_i_i762_i; } else { goto L_copy_from_slice_pkcs1_c_exit1258_i; }
+L_bb7_i_i_i_i21_i_i_i762_i:;
     TRAP();
     TRAP();
-L_copy_from_slice_pkcs1_c_exit1241_i:;
-    v_start1_i_i_i_i26_i_i_i = (u64)((u64)(v_0_sroa_0_0_i_i19_i_i_i_i298_i) + (u64)(18446744073709551615ull));
-    v_241 = v_out + (int64_t)(v_start1_i_i_i_i26_i_i_i);
+L_copy_from_slice_pkcs1_c_exit1258_i:;
+    v_start1_i_i_i_i10_i_i_i750_i = (u64)((u64)(v_0_sroa_0_0_i_i19_i_i_i_i_i292_i) + (u64)(18446744073709551615ull));
+    v_241 = v_out + (int64_t)(v_start1_i_i_i_i10_i_i_i750_i);
     put_u8(v_241, 0u);
-    { p_v_writer_sroa_174_5_i = v_start1_i_i_i_i26_i_i_i; goto L_back_writer_BackWriter_exit_i_i_i302_i; }
-L_back_writer_BackWriter_exit_i_i_i302_i:;
+    { p_v_writer_sroa_174_5_i = v_start1_i_i_i_i10_i_i_i750_i; goto L_back_writer_BackWriter_exit_i_i_i296_i; }
+L_back_writer_BackWriter_exit_i_i_i296_i:;
     v_writer_sroa_174_5_i = p_v_writer_sroa_174_5_i;
-    v_5_i_i_i_i_i304_i = (u64)((u64)(v_writer_sroa_174_4_i) - (u64)(v_writer_sroa_174_5_i));
-    v_13_i_i_i19_i_i_i = (u32)(v_5_i_i_i_i_i304_i);
-    v_4_i_i_i_i20_i_i_i = v_13_i_i_i19_i_i_i < 128u;
-    if (v_4_i_i_i_i20_i_i_i) { goto L_bb1_i_i_i_i_i_i719_i; } else { goto L_bb2_i_i_i_i21_i_i_i; }
-L_bb2_i_i_i_i21_i_i_i:;
-    v_9_i_i_i_i22_i_i_i = v_13_i_i_i19_i_i_i < 256u;
-    if (v_9_i_i_i_i22_i_i_i) { goto L_bb3_i_i_i_i_i_i699_i; } else { goto L_bb4_i_i_i_i_i_i306_i; }
-L_bb1_i_i_i_i_i_i719_i:;
-    v_8_i_i_i_i_i_i720_i = (u16)(v_5_i_i_i_i_i304_i);
-    v_4_i_i_i_i_i_i_i724_i = v_writer_sroa_174_5_i < 2u;
-    if (v_4_i_i_i_i_i_i_i724_i) { p_v_writer_sroa_174_6_i = v_writer_sroa_174_5_i; goto L_back_writer_BackWriter_exit_i_i_i__4; } else { goto L_bb2_i_i_i_i_i_i_i725_i; }
-L_bb2_i_i_i_i_i_i_i725_i:;
-    v_10_not_i_i_i_i_i_i_i727_i = v_writer_sroa_174_5_i > v_encoding_sroa_0_0_i14_i2020_i;
-    if (v_10_not_i_i_i_i_i_i_i727_i) { goto L_bb7_i_i_i_i_i_i_i738_i; } else { goto L_copy_from_slice_pkcs1_c_exit1245_i; }
-L_bb7_i_i_i_i_i_i_i738_i:;
+    v_5_i_i_i_i_i298_i = (u64)((u64)(v_writer_sroa_174_4_i) - (u64)(v_writer_sroa_174_5_i));
+    v_13_i_i_i30_i_i_i = (u32)(v_5_i_i_i_i_i298_i);
+    v_4_i_i_i_i31_i_i_i = v_13_i_i_i30_i_i_i < 128u;
+    if (v_4_i_i_i_i31_i_i_i) { goto L_bb1_i_i_i_i_i_i725_i; } else { goto L_bb2_i_i_i_i32_i_i_i; }
+L_bb2_i_i_i_i32_i_i_i:;
+    v_9_i_i_i_i33_i_i_i = v_13_i_i_i30_i_i_i < 256u;
+    if (v_9_i_i_i_i33_i_i_i) { goto L_bb3_i_i_i_i_i_i705_i; } else { goto L_bb4_i_i_i_i_i_i300_i; }
+L_bb1_i_i_i_i_i_i725_i:;
+    v_8_i_i_i_i_i_i726_i = (u16)(v_5_i_i_i_i_i298_i);
+    v_4_i_i_i_i_i_i_i730_i = v_writer_sroa_174_5_i < 2u;
+    if (v_4_i_i_i_i_i_i_i730_i) { p_v_writer_sroa_174_6_i = v_writer_sroa_174_5_i; goto L_back_writer_BackWriter_exit_i_i_i__4; } else { goto L_bb2_i_i_i_i_i_i_i731_i; }
+L_bb2_i_i_i_i_i_i_i731_i:;
+    v_10_not_i_i_i_i_i_i_i733_i = v_writer_sroa_174_5_i > v_encoding_sroa_0_0_i12_i2037_i;
+    if (v_10_not_i_i_i_i_i_i_i733_i) { goto L_bb7_i_i_i_i_i_i_i744_i; } else { goto L_copy_from_slice_pkcs1_c_exit1262_i; }
+L_bb7_i_i_i_i_i_i_i744_i:;
     TRAP();
     TRAP();
-L_copy_from_slice_pkcs1_c_exit1245_i:;
-    v_start1_i_i_i_i_i_i_i726_i = (u64)((u64)(v_writer_sroa_174_5_i) + (u64)(18446744073709551614ull));
-    v_242 = v_out + (int64_t)(v_start1_i_i_i_i_i_i_i726_i);
-    v_7_i_i_i_i_i_i180_sroa_0_sroa_4_0_insert_shift_i = (u16)((u32)(v_8_i_i_i_i_i_i720_i) << (u32)((8u & 31)));
-    v_7_i_i_i_i_i_i180_sroa_0_sroa_0_0_insert_insert_i = (u16)((u32)(v_7_i_i_i_i_i_i180_sroa_0_sroa_4_0_insert_shift_i) | (u32)(2u));
-    put_u16(v_242, v_7_i_i_i_i_i_i180_sroa_0_sroa_0_0_insert_insert_i);
-    { p_v_writer_sroa_174_6_i = v_start1_i_i_i_i_i_i_i726_i; goto L_back_writer_BackWriter_exit_i_i_i__4; }
-L_bb4_i_i_i_i_i_i306_i:;
-    v_14_i_i_i_i_i_i307_i = v_13_i_i_i19_i_i_i < 65536u;
-    if (v_14_i_i_i_i_i_i307_i) { goto L_bb5_i_i_i_i25_i_i_i; } else { goto L_bb6_i_i_i_i_i_i308_i; }
-L_bb3_i_i_i_i_i_i699_i:;
-    v_13_i_i_i_i_i_i700_i = (u8)(v_5_i_i_i_i_i304_i);
-    v_4_i11_i_i_i_i_i_i704_i = v_writer_sroa_174_5_i < 3u;
-    if (v_4_i11_i_i_i_i_i_i704_i) { p_v_writer_sroa_174_6_i = v_writer_sroa_174_5_i; goto L_back_writer_BackWriter_exit_i_i_i__4; } else { goto L_bb2_i12_i_i_i_i_i_i705_i; }
-L_bb2_i12_i_i_i_i_i_i705_i:;
-    v_10_not_i14_i_i_i_i_i_i707_i = v_writer_sroa_174_5_i > v_encoding_sroa_0_0_i14_i2020_i;
-    if (v_10_not_i14_i_i_i_i_i_i707_i) { goto L_bb7_i24_i_i_i_i_i_i718_i; } else { goto L_copy_from_slice_pkcs1_c_exit1249_i; }
-L_bb7_i24_i_i_i_i_i_i718_i:;
+L_copy_from_slice_pkcs1_c_exit1262_i:;
+    v_start1_i_i_i_i_i_i_i732_i = (u64)((u64)(v_writer_sroa_174_5_i) + (u64)(18446744073709551614ull));
+    v_242 = v_out + (int64_t)(v_start1_i_i_i_i_i_i_i732_i);
+    v_7_i_i_i_i_i_i173_sroa_0_sroa_4_0_insert_shift_i = (u16)((u32)(v_8_i_i_i_i_i_i726_i) << (u32)((8u & 31)));
+    v_7_i_i_i_i_i_i173_sroa_0_sroa_0_0_insert_insert_i = (u16)((u32)(v_7_i_i_i_i_i_i173_sroa_0_sroa_4_0_insert_shift_i) | (u32)(2u));
+    put_u16(v_242, v_7_i_i_i_i_i_i173_sroa_0_sroa_0_0_insert_insert_i);
+    { p_v_writer_sroa_174_6_i = v_start1_i_i_i_i_i_i_i732_i; goto L_back_writer_BackWriter_exit_i_i_i__4; }
+L_bb4_i_i_i_i_i_i300_i:;
+    v_14_i_i_i_i_i_i301_i = v_13_i_i_i30_i_i_i < 65536u;
+    if (v_14_i_i_i_i_i_i301_i) { goto L_bb5_i_i_i_i36_i_i_i; } else { goto L_bb6_i_i_i_i_i_i302_i; }
+L_bb3_i_i_i_i_i_i705_i:;
+    v_13_i_i_i_i_i_i706_i = (u8)(v_5_i_i_i_i_i298_i);
+    v_4_i11_i_i_i_i_i_i710_i = v_writer_sroa_174_5_i < 3u;
+    if (v_4_i11_i_i_i_i_i_i710_i) { p_v_writer_sroa_174_6_i = v_writer_sroa_174_5_i; goto L_back_writer_BackWriter_exit_i_i_i__4; } else { goto L_bb2_i12_i_i_i_i_i_i711_i; }
+L_bb2_i12_i_i_i_i_i_i711_i:;
+    v_10_not_i14_i_i_i_i_i_i713_i = v_writer_sroa_174_5_i > v_encoding_sroa_0_0_i12_i2037_i;
+    if (v_10_not_i14_i_i_i_i_i_i713_i) { goto L_bb7_i24_i_i_i_i_i_i724_i; } else { goto L_copy_from_slice_pkcs1_c_exit1266_i; }
+L_bb7_i24_i_i_i_i_i_i724_i:;
     TRAP();
     TRAP();
-L_copy_from_slice_pkcs1_c_exit1249_i:;
-    v_start1_i13_i_i_i_i_i_i706_i = (u64)((u64)(v_writer_sroa_174_5_i) + (u64)(18446744073709551613ull));
-    v_243 = v_out + (int64_t)(v_start1_i13_i_i_i_i_i_i706_i);
+L_copy_from_slice_pkcs1_c_exit1266_i:;
+    v_start1_i13_i_i_i_i_i_i712_i = (u64)((u64)(v_writer_sroa_174_5_i) + (u64)(18446744073709551613ull));
+    v_243 = v_out + (int64_t)(v_start1_i13_i_i_i_i_i_i712_i);
     put_u8(v_243, 2u);
-    v_12_i_i_i_i13_i_i179_sroa_4_0_sroa_idx_i = v_243 + 1;
-    put_u8(v_12_i_i_i_i13_i_i179_sroa_4_0_sroa_idx_i, 129u);
-    v_12_i_i_i_i13_i_i179_sroa_5_0_sroa_idx_i = v_243 + 2;
-    put_u8(v_12_i_i_i_i13_i_i179_sroa_5_0_sroa_idx_i, v_13_i_i_i_i_i_i700_i);
-    { p_v_writer_sroa_174_6_i = v_start1_i13_i_i_i_i_i_i706_i; goto L_back_writer_BackWriter_exit_i_i_i__4; }
-L_bb6_i_i_i_i_i_i308_i:;
-    v_22_i_i_i_i_i_i309_i = v_13_i_i_i19_i_i_i < 16777216u;
-    if (v_22_i_i_i_i_i_i309_i) { goto L_bb7_i_i_i_i24_i_i_i; } else { goto L_bb8_i_i_i_i23_i_i_i; }
-L_bb5_i_i_i_i25_i_i_i:;
-    v_4_i30_i_i_i_i_i_i684_i = v_writer_sroa_174_5_i < 4u;
-    if (v_4_i30_i_i_i_i_i_i684_i) { p_v_writer_sroa_174_6_i = v_writer_sroa_174_5_i; goto L_back_writer_BackWriter_exit_i_i_i__4; } else { goto L_bb2_i31_i_i_i_i_i_i685_i; }
-L_bb2_i31_i_i_i_i_i_i685_i:;
-    v_10_not_i33_i_i_i_i_i_i687_i = v_writer_sroa_174_5_i > v_encoding_sroa_0_0_i14_i2020_i;
-    if (v_10_not_i33_i_i_i_i_i_i687_i) { goto L_bb7_i43_i_i_i_i_i_i698_i; } else { goto L_copy_from_slice_pkcs1_c_exit1253_i; }
-L_bb7_i43_i_i_i_i_i_i698_i:;
+    v_12_i_i_i_i22_i_i172_sroa_4_0_sroa_idx_i = v_243 + 1;
+    put_u8(v_12_i_i_i_i22_i_i172_sroa_4_0_sroa_idx_i, 129u);
+    v_12_i_i_i_i22_i_i172_sroa_5_0_sroa_idx_i = v_243 + 2;
+    put_u8(v_12_i_i_i_i22_i_i172_sroa_5_0_sroa_idx_i, v_13_i_i_i_i_i_i706_i);
+    { p_v_writer_sroa_174_6_i = v_start1_i13_i_i_i_i_i_i712_i; goto L_back_writer_BackWriter_exit_i_i_i__4; }
+L_bb6_i_i_i_i_i_i302_i:;
+    v_22_i_i_i_i_i_i303_i = v_13_i_i_i30_i_i_i < 16777216u;
+    if (v_22_i_i_i_i_i_i303_i) { goto L_bb7_i_i_i_i35_i_i_i; } else { goto L_bb8_i_i_i_i34_i_i_i; }
+L_bb5_i_i_i_i36_i_i_i:;
+    v_4_i30_i_i_i_i_i_i690_i = v_writer_sroa_174_5_i < 4u;
+    if (v_4_i30_i_i_i_i_i_i690_i) { p_v_writer_sroa_174_6_i = v_writer_sroa_174_5_i; goto L_back_writer_BackWriter_exit_i_i_i__4; } else { goto L_bb2_i31_i_i_i_i_i_i691_i; }
+L_bb2_i31_i_i_i_i_i_i691_i:;
+    v_10_not_i33_i_i_i_i_i_i693_i = v_writer_sroa_174_5_i > v_encoding_sroa_0_0_i12_i2037_i;
+    if (v_10_not_i33_i_i_i_i_i_i693_i) { goto L_bb7_i43_i_i_i_i_i_i704_i; } else { goto L_copy_from_slice_pkcs1_c_exit1270_i; }
+L_bb7_i43_i_i_i_i_i_i704_i:;
     TRAP();
     TRAP();
-L_copy_from_slice_pkcs1_c_exit1253_i:;
-    v_start1_i32_i_i_i_i_i_i686_i = (u64)((u64)(v_writer_sroa_174_5_i) + (u64)(18446744073709551612ull));
-    v_244 = v_out + (int64_t)(v_start1_i32_i_i_i_i_i_i686_i);
-    v_245 = (u32)((u32)(v_13_i_i_i19_i_i_i) | (u32)(42074112u));
-    v_17_i_i_i_i_i_i178_sroa_0_sroa_0_0_insert_insert_i = TURNED(32, v_245);
-    put_u32(v_244, v_17_i_i_i_i_i_i178_sroa_0_sroa_0_0_insert_insert_i);
-    { p_v_writer_sroa_174_6_i = v_start1_i32_i_i_i_i_i_i686_i; goto L_back_writer_BackWriter_exit_i_i_i__4; }
-L_bb8_i_i_i_i23_i_i_i:;
-    v_371_i_i_i_i_i_i310_i = (u64)((u64)(v_5_i_i_i_i_i304_i) >> (u64)((24u & 63)));
-    v_36_i_i_i_i_i_i311_i = (u8)(v_371_i_i_i_i_i_i310_i);
-    v_402_i_i_i_i_i_i312_i = (u64)((u64)(v_5_i_i_i_i_i304_i) >> (u64)((16u & 63)));
-    v_38_i_i_i_i_i_i313_i = (u8)(v_402_i_i_i_i_i_i312_i);
-    v_433_i_i_i_i_i_i314_i = (u64)((u64)(v_5_i_i_i_i_i304_i) >> (u64)((8u & 63)));
-    v_41_i_i_i_i_i_i315_i = (u8)(v_433_i_i_i_i_i_i314_i);
-    v_44_i_i_i_i_i_i316_i = (u8)(v_5_i_i_i_i_i304_i);
-    v_4_i68_i_i_i_i_i_i320_i = v_writer_sroa_174_5_i < 6u;
-    if (v_4_i68_i_i_i_i_i_i320_i) { p_v_writer_sroa_174_6_i = v_writer_sroa_174_5_i; goto L_back_writer_BackWriter_exit_i_i_i__4; } else { goto L_bb2_i69_i_i_i_i_i_i321_i; }
-L_bb2_i69_i_i_i_i_i_i321_i:;
-    v_10_not_i71_i_i_i_i_i_i323_i = v_writer_sroa_174_5_i > v_encoding_sroa_0_0_i14_i2020_i;
-    if (v_10_not_i71_i_i_i_i_i_i323_i) { goto L_bb7_i81_i_i_i_i_i_i654_i; } else { goto L_copy_from_slice_pkcs1_c_exit1257_i; }
-L_bb7_i81_i_i_i_i_i_i654_i:;
+L_copy_from_slice_pkcs1_c_exit1270_i:;
+    v_start1_i32_i_i_i_i_i_i692_i = (u64)((u64)(v_writer_sroa_174_5_i) + (u64)(18446744073709551612ull));
+    v_244 = v_out + (int64_t)(v_start1_i32_i_i_i_i_i_i692_i);
+    v_245 = (u32)((u32)(v_13_i_i_i30_i_i_i) | (u32)(42074112u));
+    v_17_i_i_i_i_i_i171_sroa_0_sroa_0_0_insert_insert_i = TURNED(32, v_245);
+    put_u32(v_244, v_17_i_i_i_i_i_i171_sroa_0_sroa_0_0_insert_insert_i);
+    { p_v_writer_sroa_174_6_i = v_start1_i32_i_i_i_i_i_i692_i; goto L_back_writer_BackWriter_exit_i_i_i__4; }
+L_bb8_i_i_i_i34_i_i_i:;
+    v_371_i_i_i_i_i_i304_i = (u64)((u64)(v_5_i_i_i_i_i298_i) >> (u64)((24u & 63)));
+    v_36_i_i_i_i_i_i305_i = (u8)(v_371_i_i_i_i_i_i304_i);
+    v_402_i_i_i_i_i_i306_i = (u64)((u64)(v_5_i_i_i_i_i298_i) >> (u64)((16u & 63)));
+    v_38_i_i_i_i_i_i307_i = (u8)(v_402_i_i_i_i_i_i306_i);
+    v_433_i_i_i_i_i_i308_i = (u64)((u64)(v_5_i_i_i_i_i298_i) >> (u64)((8u & 63)));
+    v_41_i_i_i_i_i_i309_i = (u8)(v_433_i_i_i_i_i_i308_i);
+    v_44_i_i_i_i_i_i310_i = (u8)(v_5_i_i_i_i_i298_i);
+    v_4_i68_i_i_i_i_i_i314_i = v_writer_sroa_174_5_i < 6u;
+    if (v_4_i68_i_i_i_i_i_i314_i) { p_v_writer_sroa_174_6_i = v_writer_sroa_174_5_i; goto L_back_writer_BackWriter_exit_i_i_i__4; } else { goto L_bb2_i69_i_i_i_i_i_i315_i; }
+L_bb2_i69_i_i_i_i_i_i315_i:;
+    v_10_not_i71_i_i_i_i_i_i317_i = v_writer_sroa_174_5_i > v_encoding_sroa_0_0_i12_i2037_i;
+    if (v_10_not_i71_i_i_i_i_i_i317_i) { goto L_bb7_i81_i_i_i_i_i_i660_i; } else { goto L_copy_from_slice_pkcs1_c_exit1274_i; }
+L_bb7_i81_i_i_i_i_i_i660_i:;
     TRAP();
     TRAP();
-L_copy_from_slice_pkcs1_c_exit1257_i:;
-    v_start1_i70_i_i_i_i_i_i322_i = (u64)((u64)(v_writer_sroa_174_5_i) + (u64)(18446744073709551610ull));
-    v_246 = v_out + (int64_t)(v_start1_i70_i_i_i_i_i_i322_i);
+L_copy_from_slice_pkcs1_c_exit1274_i:;
+    v_start1_i70_i_i_i_i_i_i316_i = (u64)((u64)(v_writer_sroa_174_5_i) + (u64)(18446744073709551610ull));
+    v_246 = v_out + (int64_t)(v_start1_i70_i_i_i_i_i_i316_i);
     put_u8(v_246, 2u);
-    v_35_i_i_i_i_i_i176_sroa_4_0_sroa_idx_i = v_246 + 1;
-    put_u8(v_35_i_i_i_i_i_i176_sroa_4_0_sroa_idx_i, 132u);
-    v_35_i_i_i_i_i_i176_sroa_5_0_sroa_idx_i = v_246 + 2;
-    put_u8(v_35_i_i_i_i_i_i176_sroa_5_0_sroa_idx_i, v_36_i_i_i_i_i_i311_i);
-    v_35_i_i_i_i_i_i176_sroa_6_0_sroa_idx_i = v_246 + 3;
-    put_u8(v_35_i_i_i_i_i_i176_sroa_6_0_sroa_idx_i, v_38_i_i_i_i_i_i313_i);
-    v_35_i_i_i_i_i_i176_sroa_7_0_sroa_idx_i = v_246 + 4;
-    put_u8(v_35_i_i_i_i_i_i176_sroa_7_0_sroa_idx_i, v_41_i_i_i_i_i_i315_i);
-    v_35_i_i_i_i_i_i176_sroa_8_0_sroa_idx_i = v_246 + 5;
-    put_u8(v_35_i_i_i_i_i_i176_sroa_8_0_sroa_idx_i, v_44_i_i_i_i_i_i316_i);
-    { p_v_writer_sroa_174_6_i = v_start1_i70_i_i_i_i_i_i322_i; goto L_back_writer_BackWriter_exit_i_i_i__4; }
-L_bb7_i_i_i_i24_i_i_i:;
-    v_274_i_i_i_i_i_i655_i = (u64)((u64)(v_5_i_i_i_i_i304_i) >> (u64)((16u & 63)));
-    v_26_i_i_i_i_i_i656_i = (u8)(v_274_i_i_i_i_i_i655_i);
-    v_305_i_i_i_i_i_i657_i = (u64)((u64)(v_5_i_i_i_i_i304_i) >> (u64)((8u & 63)));
-    v_28_i_i_i_i_i_i658_i = (u8)(v_305_i_i_i_i_i_i657_i);
-    v_31_i_i_i_i_i_i659_i = (u8)(v_5_i_i_i_i_i304_i);
-    v_4_i49_i_i_i_i_i_i663_i = v_writer_sroa_174_5_i < 5u;
-    if (v_4_i49_i_i_i_i_i_i663_i) { p_v_writer_sroa_174_6_i = v_writer_sroa_174_5_i; goto L_back_writer_BackWriter_exit_i_i_i__4; } else { goto L_bb2_i50_i_i_i_i_i_i664_i; }
-L_bb2_i50_i_i_i_i_i_i664_i:;
-    v_10_not_i52_i_i_i_i_i_i666_i = v_writer_sroa_174_5_i > v_encoding_sroa_0_0_i14_i2020_i;
-    if (v_10_not_i52_i_i_i_i_i_i666_i) { goto L_bb7_i62_i_i_i_i_i_i677_i; } else { goto L_copy_from_slice_pkcs1_c_exit1261_i; }
-L_bb7_i62_i_i_i_i_i_i677_i:;
+    v_35_i_i_i_i_i_i169_sroa_4_0_sroa_idx_i = v_246 + 1;
+    put_u8(v_35_i_i_i_i_i_i169_sroa_4_0_sroa_idx_i, 132u);
+    v_35_i_i_i_i_i_i169_sroa_5_0_sroa_idx_i = v_246 + 2;
+    put_u8(v_35_i_i_i_i_i_i169_sroa_5_0_sroa_idx_i, v_36_i_i_i_i_i_i305_i);
+    v_35_i_i_i_i_i_i169_sroa_6_0_sroa_idx_i = v_246 + 3;
+    put_u8(v_35_i_i_i_i_i_i169_sroa_6_0_sroa_idx_i, v_38_i_i_i_i_i_i307_i);
+    v_35_i_i_i_i_i_i169_sroa_7_0_sroa_idx_i = v_246 + 4;
+    put_u8(v_35_i_i_i_i_i_i169_sroa_7_0_sroa_idx_i, v_41_i_i_i_i_i_i309_i);
+    v_35_i_i_i_i_i_i169_sroa_8_0_sroa_idx_i = v_246 + 5;
+    put_u8(v_35_i_i_i_i_i_i169_sroa_8_0_sroa_idx_i, v_44_i_i_i_i_i_i310_i);
+    { p_v_writer_sroa_174_6_i = v_start1_i70_i_i_i_i_i_i316_i; goto L_back_writer_BackWriter_exit_i_i_i__4; }
+L_bb7_i_i_i_i35_i_i_i:;
+    v_274_i_i_i_i_i_i661_i = (u64)((u64)(v_5_i_i_i_i_i298_i) >> (u64)((16u & 63)));
+    v_26_i_i_i_i_i_i662_i = (u8)(v_274_i_i_i_i_i_i661_i);
+    v_305_i_i_i_i_i_i663_i = (u64)((u64)(v_5_i_i_i_i_i298_i) >> (u64)((8u & 63)));
+    v_28_i_i_i_i_i_i664_i = (u8)(v_305_i_i_i_i_i_i663_i);
+    v_31_i_i_i_i_i_i665_i = (u8)(v_5_i_i_i_i_i298_i);
+    v_4_i49_i_i_i_i_i_i669_i = v_writer_sroa_174_5_i < 5u;
+    if (v_4_i49_i_i_i_i_i_i669_i) { p_v_writer_sroa_174_6_i = v_writer_sroa_174_5_i; goto L_back_writer_BackWriter_exit_i_i_i__4; } else { goto L_bb2_i50_i_i_i_i_i_i670_i; }
+L_bb2_i50_i_i_i_i_i_i670_i:;
+    v_10_not_i52_i_i_i_i_i_i672_i = v_writer_sroa_174_5_i > v_encoding_sroa_0_0_i12_i2037_i;
+    if (v_10_not_i52_i_i_i_i_i_i672_i) { goto L_bb7_i62_i_i_i_i_i_i683_i; } else { goto L_copy_from_slice_pkcs1_c_exit1278_i; }
+L_bb7_i62_i_i_i_i_i_i683_i:;
     TRAP();
     TRAP();
-L_copy_from_slice_pkcs1_c_exit1261_i:;
-    v_start1_i51_i_i_i_i_i_i665_i = (u64)((u64)(v_writer_sroa_174_5_i) + (u64)(18446744073709551611ull));
-    v_247 = v_out + (int64_t)(v_start1_i51_i_i_i_i_i_i665_i);
+L_copy_from_slice_pkcs1_c_exit1278_i:;
+    v_start1_i51_i_i_i_i_i_i671_i = (u64)((u64)(v_writer_sroa_174_5_i) + (u64)(18446744073709551611ull));
+    v_247 = v_out + (int64_t)(v_start1_i51_i_i_i_i_i_i671_i);
     put_u8(v_247, 2u);
-    v_25_i_i_i_i_i_i177_sroa_4_0_sroa_idx_i = v_247 + 1;
-    put_u8(v_25_i_i_i_i_i_i177_sroa_4_0_sroa_idx_i, 131u);
-    v_25_i_i_i_i_i_i177_sroa_5_0_sroa_idx_i = v_247 + 2;
-    put_u8(v_25_i_i_i_i_i_i177_sroa_5_0_sroa_idx_i, v_26_i_i_i_i_i_i656_i);
-    v_25_i_i_i_i_i_i177_sroa_6_0_sroa_idx_i = v_247 + 3;
-    put_u8(v_25_i_i_i_i_i_i177_sroa_6_0_sroa_idx_i, v_28_i_i_i_i_i_i658_i);
-    v_25_i_i_i_i_i_i177_sroa_7_0_sroa_idx_i = v_247 + 4;
-    put_u8(v_25_i_i_i_i_i_i177_sroa_7_0_sroa_idx_i, v_31_i_i_i_i_i_i659_i);
-    { p_v_writer_sroa_174_6_i = v_start1_i51_i_i_i_i_i_i665_i; goto L_back_writer_BackWriter_exit_i_i_i__4; }
+    v_25_i_i_i_i_i_i170_sroa_4_0_sroa_idx_i = v_247 + 1;
+    put_u8(v_25_i_i_i_i_i_i170_sroa_4_0_sroa_idx_i, 131u);
+    v_25_i_i_i_i_i_i170_sroa_5_0_sroa_idx_i = v_247 + 2;
+    put_u8(v_25_i_i_i_i_i_i170_sroa_5_0_sroa_idx_i, v_26_i_i_i_i_i_i662_i);
+    v_25_i_i_i_i_i_i170_sroa_6_0_sroa_idx_i = v_247 + 3;
+    put_u8(v_25_i_i_i_i_i_i170_sroa_6_0_sroa_idx_i, v_28_i_i_i_i_i_i664_i);
+    v_25_i_i_i_i_i_i170_sroa_7_0_sroa_idx_i = v_247 + 4;
+    put_u8(v_25_i_i_i_i_i_i170_sroa_7_0_sroa_idx_i, v_31_i_i_i_i_i_i665_i);
+    { p_v_writer_sroa_174_6_i = v_start1_i51_i_i_i_i_i_i671_i; goto L_back_writer_BackWriter_exit_i_i_i__4; }
 L_back_writer_BackWriter_exit_i_i_i__4:;
     v_writer_sroa_174_6_i = p_v_writer_sroa_174_6_i;
-    v_4_i_i8_i_i_i340_i = v_30_sroa_7_0_i_ph > v_writer_sroa_174_6_i;
-    if (v_4_i_i8_i_i_i340_i) { p_v_0_sroa_0_0_i_i19_i_i_i352_i = v_writer_sroa_174_6_i; goto L_bb2_i_i_i354_i; } else { goto L_bb2_i_i9_i_i_i341_i; }
-L_bb2_i_i9_i_i_i341_i:;
-    v_10_not_i_i11_i_i_i343_i = v_writer_sroa_174_6_i > v_encoding_sroa_0_0_i14_i2020_i;
-    if (v_10_not_i_i11_i_i_i343_i) { goto L_bb7_i_i21_i_i_i652_i; } else { goto L_copy_from_slice_pkcs1_c_exit1265_i; }
-L_bb7_i_i21_i_i_i652_i:;
+    v_4_i_i8_i_i_i_i333_i = v_30_sroa_7_0_i_ph > v_writer_sroa_174_6_i;
+    if (v_4_i_i8_i_i_i_i333_i) { p_v_0_sroa_0_0_i_i19_i_i_i_i345_i = v_writer_sroa_174_6_i; goto L_bb2_i_i_i26_i_i; } else { goto L_bb2_i_i9_i_i_i_i334_i; }
+L_bb2_i_i9_i_i_i_i334_i:;
+    v_10_not_i_i11_i_i_i_i336_i = v_writer_sroa_174_6_i > v_encoding_sroa_0_0_i12_i2037_i;
+    if (v_10_not_i_i11_i_i_i_i336_i) { goto L_bb7_i_i21_i_i_i_i658_i; } else { goto L_copy_from_slice_pkcs1_c_exit1282_i; }
+L_bb7_i_i21_i_i_i_i658_i:;
     TRAP();
     TRAP();
-L_copy_from_slice_pkcs1_c_exit1265_i:;
-    v_start1_i_i10_i_i_i342_i = (u64)((u64)(v_writer_sroa_174_6_i) - (u64)(v_30_sroa_7_0_i_ph));
-    v_248 = v_out + (int64_t)(v_start1_i_i10_i_i_i342_i);
+L_copy_from_slice_pkcs1_c_exit1282_i:;
+    v_start1_i_i10_i_i_i_i335_i = (u64)((u64)(v_writer_sroa_174_6_i) - (u64)(v_30_sroa_7_0_i_ph));
+    v_248 = v_out + (int64_t)(v_start1_i_i10_i_i_i_i335_i);
     copy(v_248, v_30_sroa_0_0_i_ph, v_30_sroa_7_0_i_ph);
-    { p_v_0_sroa_0_0_i_i19_i_i_i352_i = v_start1_i_i10_i_i_i342_i; goto L_bb2_i_i_i354_i; }
-L_bb2_i_i_i354_i:;
-    v_0_sroa_0_0_i_i19_i_i_i352_i = p_v_0_sroa_0_0_i_i19_i_i_i352_i;
-    v_5_i_i17_i_i = get_u8(v_30_sroa_0_0_i_ph);
-    v_4_i3_i_i356_i = (u8)(v_5_i_i17_i_i ^ ((u8)1 << 7)) < (u8)(0u ^ ((u8)1 << 7));
-    if (v_4_i3_i_i356_i) { goto L_bb3_i_i_i640_i; } else { p_v_writer_sroa_174_7_i = v_0_sroa_0_0_i_i19_i_i_i352_i; goto L_back_writer_BackWriter_exit_i_i357_i; }
-L_bb3_i_i_i640_i:;
-    v_4_i_i_i6_i_i644_i = v_0_sroa_0_0_i_i19_i_i_i352_i == 0u;
-    if (v_4_i_i_i6_i_i644_i) { p_v_writer_sroa_174_8_i = 0u; goto L_back_writer_BackWriter_exit_i_i__2; } else { goto L_bb2_i_i_i7_i_i645_i; }
-L_bb2_i_i_i7_i_i645_i:;
-    v_10_not_i_i_i_i27_i_i = v_0_sroa_0_0_i_i19_i_i_i352_i > v_encoding_sroa_0_0_i14_i2020_i;
-    if (v_10_not_i_i_i_i27_i_i) { goto L_bb7_i_i_i10_i_i649_i; } else { goto L_copy_from_slice_pkcs1_c_exit1269_i; }
-L_bb7_i_i_i10_i_i649_i:;
+    { p_v_0_sroa_0_0_i_i19_i_i_i_i345_i = v_start1_i_i10_i_i_i_i335_i; goto L_bb2_i_i_i26_i_i; }
+L_bb2_i_i_i26_i_i:;
+    v_0_sroa_0_0_i_i19_i_i_i_i345_i = p_v_0_sroa_0_0_i_i19_i_i_i_i345_i;
+    v_5_i_i5_i_i347_i = get_u8(v_30_sroa_0_0_i_ph);
+    v_4_i_i6_i_i348_i = (u8)(v_5_i_i5_i_i347_i ^ ((u8)1 << 7)) < (u8)(0u ^ ((u8)1 << 7));
+    if (v_4_i_i6_i_i348_i) { goto L_bb3_i_i_i35_i_i; } else { p_v_writer_sroa_174_7_i = v_0_sroa_0_0_i_i19_i_i_i_i345_i; goto L_back_writer_BackWriter_exit_i_i349_i; }
+L_bb3_i_i_i35_i_i:;
+    v_4_i_i_i_i8_i_i641_i = v_0_sroa_0_0_i_i19_i_i_i_i345_i == 0u;
+    if (v_4_i_i_i_i8_i_i641_i) { p_v_writer_sroa_174_8_i = 0u; goto L_back_writer_BackWriter_exit_i_i__2; } else { goto L_bb2_i_i_i_i9_i_i642_i; }
+L_bb2_i_i_i_i9_i_i642_i:;
+    v_10_not_i_i_i_i11_i_i644_i = v_0_sroa_0_0_i_i19_i_i_i_i345_i > v_encoding_sroa_0_0_i12_i2037_i;
+    if (v_10_not_i_i_i_i11_i_i644_i) { goto L_bb7_i_i_i_i21_i_i655_i; } else { goto L_copy_from_slice_pkcs1_c_exit1286_i; }
+L_bb7_i_i_i_i21_i_i655_i:;
     TRAP();
     TRAP();
-L_copy_from_slice_pkcs1_c_exit1269_i:;
-    v_start1_i_i_i_i26_i_i = (u64)((u64)(v_0_sroa_0_0_i_i19_i_i_i352_i) + (u64)(18446744073709551615ull));
-    v_249 = v_out + (int64_t)(v_start1_i_i_i_i26_i_i);
+L_copy_from_slice_pkcs1_c_exit1286_i:;
+    v_start1_i_i_i_i10_i_i643_i = (u64)((u64)(v_0_sroa_0_0_i_i19_i_i_i_i345_i) + (u64)(18446744073709551615ull));
+    v_249 = v_out + (int64_t)(v_start1_i_i_i_i10_i_i643_i);
     put_u8(v_249, 0u);
-    { p_v_writer_sroa_174_7_i = v_start1_i_i_i_i26_i_i; goto L_back_writer_BackWriter_exit_i_i357_i; }
-L_back_writer_BackWriter_exit_i_i357_i:;
+    { p_v_writer_sroa_174_7_i = v_start1_i_i_i_i10_i_i643_i; goto L_back_writer_BackWriter_exit_i_i349_i; }
+L_back_writer_BackWriter_exit_i_i349_i:;
     v_writer_sroa_174_7_i = p_v_writer_sroa_174_7_i;
-    v_5_i_i_i_i359_i = (u64)((u64)(v_writer_sroa_174_6_i) - (u64)(v_writer_sroa_174_7_i));
-    v_13_i_i_i19_i_i = (u32)(v_5_i_i_i_i359_i);
-    v_4_i_i_i_i20_i_i = v_13_i_i_i19_i_i < 128u;
-    if (v_4_i_i_i_i20_i_i) { goto L_bb1_i_i_i_i_i620_i; } else { goto L_bb2_i_i_i_i21_i_i; }
-L_bb2_i_i_i_i21_i_i:;
-    v_9_i_i_i_i22_i_i = v_13_i_i_i19_i_i < 256u;
-    if (v_9_i_i_i_i22_i_i) { goto L_bb3_i_i_i_i_i600_i; } else { goto L_bb4_i_i_i_i_i361_i; }
-L_bb1_i_i_i_i_i620_i:;
-    v_8_i_i_i_i_i621_i = (u16)(v_5_i_i_i_i359_i);
-    v_4_i_i_i_i_i_i625_i = v_writer_sroa_174_7_i < 2u;
-    if (v_4_i_i_i_i_i_i625_i) { p_v_writer_sroa_174_8_i = v_writer_sroa_174_7_i; goto L_back_writer_BackWriter_exit_i_i__2; } else { goto L_bb2_i_i_i_i_i_i626_i; }
-L_bb2_i_i_i_i_i_i626_i:;
-    v_10_not_i_i_i_i_i_i628_i = v_writer_sroa_174_7_i > v_encoding_sroa_0_0_i14_i2020_i;
-    if (v_10_not_i_i_i_i_i_i628_i) { goto L_bb7_i_i_i_i_i_i639_i; } else { goto L_copy_from_slice_pkcs1_c_exit1273_i; }
-L_bb7_i_i_i_i_i_i639_i:;
+    v_5_i_i_i_i351_i = (u64)((u64)(v_writer_sroa_174_6_i) - (u64)(v_writer_sroa_174_7_i));
+    v_13_i_i_i28_i_i = (u32)(v_5_i_i_i_i351_i);
+    v_4_i_i_i_i29_i_i = v_13_i_i_i28_i_i < 128u;
+    if (v_4_i_i_i_i29_i_i) { goto L_bb1_i_i_i_i_i618_i; } else { goto L_bb2_i_i_i_i30_i_i; }
+L_bb2_i_i_i_i30_i_i:;
+    v_9_i_i_i_i31_i_i = v_13_i_i_i28_i_i < 256u;
+    if (v_9_i_i_i_i31_i_i) { goto L_bb3_i_i_i_i_i598_i; } else { goto L_bb4_i_i_i_i_i353_i; }
+L_bb1_i_i_i_i_i618_i:;
+    v_8_i_i_i_i_i619_i = (u16)(v_5_i_i_i_i351_i);
+    v_4_i_i_i_i_i_i623_i = v_writer_sroa_174_7_i < 2u;
+    if (v_4_i_i_i_i_i_i623_i) { p_v_writer_sroa_174_8_i = v_writer_sroa_174_7_i; goto L_back_writer_BackWriter_exit_i_i__2; } else { goto L_bb2_i_i_i_i_i_i624_i; }
+L_bb2_i_i_i_i_i_i624_i:;
+    v_10_not_i_i_i_i_i_i626_i = v_writer_sroa_174_7_i > v_encoding_sroa_0_0_i12_i2037_i;
+    if (v_10_not_i_i_i_i_i_i626_i) { goto L_bb7_i_i_i_i_i_i637_i; } else { goto L_copy_from_slice_pkcs1_c_exit1290_i; }
+L_bb7_i_i_i_i_i_i637_i:;
     TRAP();
     TRAP();
-L_copy_from_slice_pkcs1_c_exit1273_i:;
-    v_start1_i_i_i_i_i_i627_i = (u64)((u64)(v_writer_sroa_174_7_i) + (u64)(18446744073709551614ull));
-    v_250 = v_out + (int64_t)(v_start1_i_i_i_i_i_i627_i);
-    v_7_i_i_i_i_i210_sroa_0_sroa_4_0_insert_shift_i = (u16)((u32)(v_8_i_i_i_i_i621_i) << (u32)((8u & 31)));
-    v_7_i_i_i_i_i210_sroa_0_sroa_0_0_insert_insert_i = (u16)((u32)(v_7_i_i_i_i_i210_sroa_0_sroa_4_0_insert_shift_i) | (u32)(2u));
-    put_u16(v_250, v_7_i_i_i_i_i210_sroa_0_sroa_0_0_insert_insert_i);
-    { p_v_writer_sroa_174_8_i = v_start1_i_i_i_i_i_i627_i; goto L_back_writer_BackWriter_exit_i_i__2; }
-L_bb4_i_i_i_i_i361_i:;
-    v_14_i_i_i_i_i362_i = v_13_i_i_i19_i_i < 65536u;
-    if (v_14_i_i_i_i_i362_i) { goto L_bb5_i_i_i_i25_i_i; } else { goto L_bb6_i_i_i_i_i363_i; }
-L_bb3_i_i_i_i_i600_i:;
-    v_13_i_i_i_i_i601_i = (u8)(v_5_i_i_i_i359_i);
-    v_4_i11_i_i_i_i_i605_i = v_writer_sroa_174_7_i < 3u;
-    if (v_4_i11_i_i_i_i_i605_i) { p_v_writer_sroa_174_8_i = v_writer_sroa_174_7_i; goto L_back_writer_BackWriter_exit_i_i__2; } else { goto L_bb2_i12_i_i_i_i_i606_i; }
-L_bb2_i12_i_i_i_i_i606_i:;
-    v_10_not_i14_i_i_i_i_i608_i = v_writer_sroa_174_7_i > v_encoding_sroa_0_0_i14_i2020_i;
-    if (v_10_not_i14_i_i_i_i_i608_i) { goto L_bb7_i24_i_i_i_i_i619_i; } else { goto L_copy_from_slice_pkcs1_c_exit1277_i; }
-L_bb7_i24_i_i_i_i_i619_i:;
+L_copy_from_slice_pkcs1_c_exit1290_i:;
+    v_start1_i_i_i_i_i_i625_i = (u64)((u64)(v_writer_sroa_174_7_i) + (u64)(18446744073709551614ull));
+    v_250 = v_out + (int64_t)(v_start1_i_i_i_i_i_i625_i);
+    v_7_i_i_i_i_i206_sroa_0_sroa_4_0_insert_shift_i = (u16)((u32)(v_8_i_i_i_i_i619_i) << (u32)((8u & 31)));
+    v_7_i_i_i_i_i206_sroa_0_sroa_0_0_insert_insert_i = (u16)((u32)(v_7_i_i_i_i_i206_sroa_0_sroa_4_0_insert_shift_i) | (u32)(2u));
+    put_u16(v_250, v_7_i_i_i_i_i206_sroa_0_sroa_0_0_insert_insert_i);
+    { p_v_writer_sroa_174_8_i = v_start1_i_i_i_i_i_i625_i; goto L_back_writer_BackWriter_exit_i_i__2; }
+L_bb4_i_i_i_i_i353_i:;
+    v_14_i_i_i_i_i354_i = v_13_i_i_i28_i_i < 65536u;
+    if (v_14_i_i_i_i_i354_i) { goto L_bb5_i_i_i_i34_i_i; } else { goto L_bb6_i_i_i_i_i355_i; }
+L_bb3_i_i_i_i_i598_i:;
+    v_13_i_i_i_i_i599_i = (u8)(v_5_i_i_i_i351_i);
+    v_4_i11_i_i_i_i_i603_i = v_writer_sroa_174_7_i < 3u;
+    if (v_4_i11_i_i_i_i_i603_i) { p_v_writer_sroa_174_8_i = v_writer_sroa_174_7_i; goto L_back_writer_BackWriter_exit_i_i__2; } else { goto L_bb2_i12_i_i_i_i_i604_i; }
+L_bb2_i12_i_i_i_i_i604_i:;
+    v_10_not_i14_i_i_i_i_i606_i = v_writer_sroa_174_7_i > v_encoding_sroa_0_0_i12_i2037_i;
+    if (v_10_not_i14_i_i_i_i_i606_i) { goto L_bb7_i24_i_i_i_i_i617_i; } else { goto L_copy_from_slice_pkcs1_c_exit1294_i; }
+L_bb7_i24_i_i_i_i_i617_i:;
     TRAP();
     TRAP();
-L_copy_from_slice_pkcs1_c_exit1277_i:;
-    v_start1_i13_i_i_i_i_i607_i = (u64)((u64)(v_writer_sroa_174_7_i) + (u64)(18446744073709551613ull));
-    v_251 = v_out + (int64_t)(v_start1_i13_i_i_i_i_i607_i);
+L_copy_from_slice_pkcs1_c_exit1294_i:;
+    v_start1_i13_i_i_i_i_i605_i = (u64)((u64)(v_writer_sroa_174_7_i) + (u64)(18446744073709551613ull));
+    v_251 = v_out + (int64_t)(v_start1_i13_i_i_i_i_i605_i);
     put_u8(v_251, 2u);
-    v_12_i_i_i_i12_i_sroa_4_0_sroa_idx_i = v_251 + 1;
-    put_u8(v_12_i_i_i_i12_i_sroa_4_0_sroa_idx_i, 129u);
-    v_12_i_i_i_i12_i_sroa_5_0_sroa_idx_i = v_251 + 2;
-    put_u8(v_12_i_i_i_i12_i_sroa_5_0_sroa_idx_i, v_13_i_i_i_i_i601_i);
-    { p_v_writer_sroa_174_8_i = v_start1_i13_i_i_i_i_i607_i; goto L_back_writer_BackWriter_exit_i_i__2; }
-L_bb6_i_i_i_i_i363_i:;
-    v_22_i_i_i_i_i364_i = v_13_i_i_i19_i_i < 16777216u;
-    if (v_22_i_i_i_i_i364_i) { goto L_bb7_i_i_i_i24_i_i; } else { goto L_bb8_i_i_i_i23_i_i; }
-L_bb5_i_i_i_i25_i_i:;
-    v_4_i30_i_i_i_i_i585_i = v_writer_sroa_174_7_i < 4u;
-    if (v_4_i30_i_i_i_i_i585_i) { p_v_writer_sroa_174_8_i = v_writer_sroa_174_7_i; goto L_back_writer_BackWriter_exit_i_i__2; } else { goto L_bb2_i31_i_i_i_i_i586_i; }
-L_bb2_i31_i_i_i_i_i586_i:;
-    v_10_not_i33_i_i_i_i_i588_i = v_writer_sroa_174_7_i > v_encoding_sroa_0_0_i14_i2020_i;
-    if (v_10_not_i33_i_i_i_i_i588_i) { goto L_bb7_i43_i_i_i_i_i599_i; } else { goto L_copy_from_slice_pkcs1_c_exit1281_i; }
-L_bb7_i43_i_i_i_i_i599_i:;
+    v_12_i_i_i_i22_i205_sroa_4_0_sroa_idx_i = v_251 + 1;
+    put_u8(v_12_i_i_i_i22_i205_sroa_4_0_sroa_idx_i, 129u);
+    v_12_i_i_i_i22_i205_sroa_5_0_sroa_idx_i = v_251 + 2;
+    put_u8(v_12_i_i_i_i22_i205_sroa_5_0_sroa_idx_i, v_13_i_i_i_i_i599_i);
+    { p_v_writer_sroa_174_8_i = v_start1_i13_i_i_i_i_i605_i; goto L_back_writer_BackWriter_exit_i_i__2; }
+L_bb6_i_i_i_i_i355_i:;
+    v_22_i_i_i_i_i356_i = v_13_i_i_i28_i_i < 16777216u;
+    if (v_22_i_i_i_i_i356_i) { goto L_bb7_i_i_i_i33_i_i; } else { goto L_bb8_i_i_i_i32_i_i; }
+L_bb5_i_i_i_i34_i_i:;
+    v_4_i30_i_i_i_i_i583_i = v_writer_sroa_174_7_i < 4u;
+    if (v_4_i30_i_i_i_i_i583_i) { p_v_writer_sroa_174_8_i = v_writer_sroa_174_7_i; goto L_back_writer_BackWriter_exit_i_i__2; } else { goto L_bb2_i31_i_i_i_i_i584_i; }
+L_bb2_i31_i_i_i_i_i584_i:;
+    v_10_not_i33_i_i_i_i_i586_i = v_writer_sroa_174_7_i > v_encoding_sroa_0_0_i12_i2037_i;
+    if (v_10_not_i33_i_i_i_i_i586_i) { goto L_bb7_i43_i_i_i_i_i597_i; } else { goto L_copy_from_slice_pkcs1_c_exit1298_i; }
+L_bb7_i43_i_i_i_i_i597_i:;
     TRAP();
     TRAP();
-L_copy_from_slice_pkcs1_c_exit1281_i:;
-    v_start1_i32_i_i_i_i_i587_i = (u64)((u64)(v_writer_sroa_174_7_i) + (u64)(18446744073709551612ull));
-    v_252 = v_out + (int64_t)(v_start1_i32_i_i_i_i_i587_i);
-    v_253 = (u32)((u32)(v_13_i_i_i19_i_i) | (u32)(42074112u));
-    v_17_i_i_i_i_i209_sroa_0_sroa_0_0_insert_insert_i = TURNED(32, v_253);
-    put_u32(v_252, v_17_i_i_i_i_i209_sroa_0_sroa_0_0_insert_insert_i);
-    { p_v_writer_sroa_174_8_i = v_start1_i32_i_i_i_i_i587_i; goto L_back_writer_BackWriter_exit_i_i__2; }
-L_bb8_i_i_i_i23_i_i:;
-    v_371_i_i_i_i_i365_i = (u64)((u64)(v_5_i_i_i_i359_i) >> (u64)((24u & 63)));
-    v_36_i_i_i_i_i366_i = (u8)(v_371_i_i_i_i_i365_i);
-    v_402_i_i_i_i_i367_i = (u64)((u64)(v_5_i_i_i_i359_i) >> (u64)((16u & 63)));
-    v_38_i_i_i_i_i368_i = (u8)(v_402_i_i_i_i_i367_i);
-    v_433_i_i_i_i_i369_i = (u64)((u64)(v_5_i_i_i_i359_i) >> (u64)((8u & 63)));
-    v_41_i_i_i_i_i370_i = (u8)(v_433_i_i_i_i_i369_i);
-    v_44_i_i_i_i_i371_i = (u8)(v_5_i_i_i_i359_i);
-    v_4_i68_i_i_i_i_i375_i = v_writer_sroa_174_7_i < 6u;
-    if (v_4_i68_i_i_i_i_i375_i) { p_v_writer_sroa_174_8_i = v_writer_sroa_174_7_i; goto L_back_writer_BackWriter_exit_i_i__2; } else { goto L_bb2_i69_i_i_i_i_i376_i; }
-L_bb2_i69_i_i_i_i_i376_i:;
-    v_10_not_i71_i_i_i_i_i378_i = v_writer_sroa_174_7_i > v_encoding_sroa_0_0_i14_i2020_i;
-    if (v_10_not_i71_i_i_i_i_i378_i) { goto L_bb7_i81_i_i_i_i_i555_i; } else { goto L_copy_from_slice_pkcs1_c_exit1285_i; }
-L_bb7_i81_i_i_i_i_i555_i:;
+L_copy_from_slice_pkcs1_c_exit1298_i:;
+    v_start1_i32_i_i_i_i_i585_i = (u64)((u64)(v_writer_sroa_174_7_i) + (u64)(18446744073709551612ull));
+    v_252 = v_out + (int64_t)(v_start1_i32_i_i_i_i_i585_i);
+    v_253 = (u32)((u32)(v_13_i_i_i28_i_i) | (u32)(42074112u));
+    v_17_i_i_i_i_i204_sroa_0_sroa_0_0_insert_insert_i = TURNED(32, v_253);
+    put_u32(v_252, v_17_i_i_i_i_i204_sroa_0_sroa_0_0_insert_insert_i);
+    { p_v_writer_sroa_174_8_i = v_start1_i32_i_i_i_i_i585_i; goto L_back_writer_BackWriter_exit_i_i__2; }
+L_bb8_i_i_i_i32_i_i:;
+    v_371_i_i_i_i_i357_i = (u64)((u64)(v_5_i_i_i_i351_i) >> (u64)((24u & 63)));
+    v_36_i_i_i_i_i358_i = (u8)(v_371_i_i_i_i_i357_i);
+    v_402_i_i_i_i_i359_i = (u64)((u64)(v_5_i_i_i_i351_i) >> (u64)((16u & 63)));
+    v_38_i_i_i_i_i360_i = (u8)(v_402_i_i_i_i_i359_i);
+    v_433_i_i_i_i_i361_i = (u64)((u64)(v_5_i_i_i_i351_i) >> (u64)((8u & 63)));
+    v_41_i_i_i_i_i362_i = (u8)(v_433_i_i_i_i_i361_i);
+    v_44_i_i_i_i_i363_i = (u8)(v_5_i_i_i_i351_i);
+    v_4_i68_i_i_i_i_i367_i = v_writer_sroa_174_7_i < 6u;
+    if (v_4_i68_i_i_i_i_i367_i) { p_v_writer_sroa_174_8_i = v_writer_sroa_174_7_i; goto L_back_writer_BackWriter_exit_i_i__2; } else { goto L_bb2_i69_i_i_i_i_i368_i; }
+L_bb2_i69_i_i_i_i_i368_i:;
+    v_10_not_i71_i_i_i_i_i370_i = v_writer_sroa_174_7_i > v_encoding_sroa_0_0_i12_i2037_i;
+    if (v_10_not_i71_i_i_i_i_i370_i) { goto L_bb7_i81_i_i_i_i_i553_i; } else { goto L_copy_from_slice_pkcs1_c_exit1302_i; }
+L_bb7_i81_i_i_i_i_i553_i:;
     TRAP();
     TRAP();
-L_copy_from_slice_pkcs1_c_exit1285_i:;
-    v_start1_i70_i_i_i_i_i377_i = (u64)((u64)(v_writer_sroa_174_7_i) + (u64)(18446744073709551610ull));
-    v_254 = v_out + (int64_t)(v_start1_i70_i_i_i_i_i377_i);
+L_copy_from_slice_pkcs1_c_exit1302_i:;
+    v_start1_i70_i_i_i_i_i369_i = (u64)((u64)(v_writer_sroa_174_7_i) + (u64)(18446744073709551610ull));
+    v_254 = v_out + (int64_t)(v_start1_i70_i_i_i_i_i369_i);
     put_u8(v_254, 2u);
-    v_35_i_i_i_i_i207_sroa_4_0_sroa_idx_i = v_254 + 1;
-    put_u8(v_35_i_i_i_i_i207_sroa_4_0_sroa_idx_i, 132u);
-    v_35_i_i_i_i_i207_sroa_5_0_sroa_idx_i = v_254 + 2;
-    put_u8(v_35_i_i_i_i_i207_sroa_5_0_sroa_idx_i, v_36_i_i_i_i_i366_i);
-    v_35_i_i_i_i_i207_sroa_6_0_sroa_idx_i = v_254 + 3;
-    put_u8(v_35_i_i_i_i_i207_sroa_6_0_sroa_idx_i, v_38_i_i_i_i_i368_i);
-    v_35_i_i_i_i_i207_sroa_7_0_sroa_idx_i = v_254 + 4;
-    put_u8(v_35_i_i_i_i_i207_sroa_7_0_sroa_idx_i, v_41_i_i_i_i_i370_i);
-    v_35_i_i_i_i_i207_sroa_8_0_sroa_idx_i = v_254 + 5;
-    put_u8(v_35_i_i_i_i_i207_sroa_8_0_sroa_idx_i, v_44_i_i_i_i_i371_i);
-    { p_v_writer_sroa_174_8_i = v_start1_i70_i_i_i_i_i377_i; goto L_back_writer_BackWriter_exit_i_i__2; }
-L_bb7_i_i_i_i24_i_i:;
-    v_274_i_i_i_i_i556_i = (u64)((u64)(v_5_i_i_i_i359_i) >> (u64)((16u & 63)));
-    v_26_i_i_i_i_i557_i = (u8)(v_274_i_i_i_i_i556_i);
-    v_305_i_i_i_i_i558_i = (u64)((u64)(v_5_i_i_i_i359_i) >> (u64)((8u & 63)));
-    v_28_i_i_i_i_i559_i = (u8)(v_305_i_i_i_i_i558_i);
-    v_31_i_i_i_i_i560_i = (u8)(v_5_i_i_i_i359_i);
-    v_4_i49_i_i_i_i_i564_i = v_writer_sroa_174_7_i < 5u;
-    if (v_4_i49_i_i_i_i_i564_i) { p_v_writer_sroa_174_8_i = v_writer_sroa_174_7_i; goto L_back_writer_BackWriter_exit_i_i__2; } else { goto L_bb2_i50_i_i_i_i_i565_i; }
-L_bb2_i50_i_i_i_i_i565_i:;
-    v_10_not_i52_i_i_i_i_i567_i = v_writer_sroa_174_7_i > v_encoding_sroa_0_0_i14_i2020_i;
-    if (v_10_not_i52_i_i_i_i_i567_i) { goto L_bb7_i62_i_i_i_i_i578_i; } else { goto L_copy_from_slice_pkcs1_c_exit1289_i; }
-L_bb7_i62_i_i_i_i_i578_i:;
+    v_35_i_i_i_i_i202_sroa_4_0_sroa_idx_i = v_254 + 1;
+    put_u8(v_35_i_i_i_i_i202_sroa_4_0_sroa_idx_i, 132u);
+    v_35_i_i_i_i_i202_sroa_5_0_sroa_idx_i = v_254 + 2;
+    put_u8(v_35_i_i_i_i_i202_sroa_5_0_sroa_idx_i, v_36_i_i_i_i_i358_i);
+    v_35_i_i_i_i_i202_sroa_6_0_sroa_idx_i = v_254 + 3;
+    put_u8(v_35_i_i_i_i_i202_sroa_6_0_sroa_idx_i, v_38_i_i_i_i_i360_i);
+    v_35_i_i_i_i_i202_sroa_7_0_sroa_idx_i = v_254 + 4;
+    put_u8(v_35_i_i_i_i_i202_sroa_7_0_sroa_idx_i, v_41_i_i_i_i_i362_i);
+    v_35_i_i_i_i_i202_sroa_8_0_sroa_idx_i = v_254 + 5;
+    put_u8(v_35_i_i_i_i_i202_sroa_8_0_sroa_idx_i, v_44_i_i_i_i_i363_i);
+    { p_v_writer_sroa_174_8_i = v_start1_i70_i_i_i_i_i369_i; goto L_back_writer_BackWriter_exit_i_i__2; }
+L_bb7_i_i_i_i33_i_i:;
+    v_274_i_i_i_i_i554_i = (u64)((u64)(v_5_i_i_i_i351_i) >> (u64)((16u & 63)));
+    v_26_i_i_i_i_i555_i = (u8)(v_274_i_i_i_i_i554_i);
+    v_305_i_i_i_i_i556_i = (u64)((u64)(v_5_i_i_i_i351_i) >> (u64)((8u & 63)));
+    v_28_i_i_i_i_i557_i = (u8)(v_305_i_i_i_i_i556_i);
+    v_31_i_i_i_i_i558_i = (u8)(v_5_i_i_i_i351_i);
+    v_4_i49_i_i_i_i_i562_i = v_writer_sroa_174_7_i < 5u;
+    if (v_4_i49_i_i_i_i_i562_i) { p_v_writer_sroa_174_8_i = v_writer_sroa_174_7_i; goto L_back_writer_BackWriter_exit_i_i__2; } else { goto L_bb2_i50_i_i_i_i_i563_i; }
+L_bb2_i50_i_i_i_i_i563_i:;
+    v_10_not_i52_i_i_i_i_i565_i = v_writer_sroa_174_7_i > v_encoding_sroa_0_0_i12_i2037_i;
+    if (v_10_not_i52_i_i_i_i_i565_i) { goto L_bb7_i62_i_i_i_i_i576_i; } else { goto L_copy_from_slice_pkcs1_c_exit1306_i; }
+L_bb7_i62_i_i_i_i_i576_i:;
     TRAP();
     TRAP();
-L_copy_from_slice_pkcs1_c_exit1289_i:;
-    v_start1_i51_i_i_i_i_i566_i = (u64)((u64)(v_writer_sroa_174_7_i) + (u64)(18446744073709551611ull));
-    v_255 = v_out + (int64_t)(v_start1_i51_i_i_i_i_i566_i);
+L_copy_from_slice_pkcs1_c_exit1306_i:;
+    v_start1_i51_i_i_i_i_i564_i = (u64)((u64)(v_writer_sroa_174_7_i) + (u64)(18446744073709551611ull));
+    v_255 = v_out + (int64_t)(v_start1_i51_i_i_i_i_i564_i);
     put_u8(v_255, 2u);
-    v_25_i_i_i_i_i208_sroa_4_0_sroa_idx_i = v_255 + 1;
-    put_u8(v_25_i_i_i_i_i208_sroa_4_0_sroa_idx_i, 131u);
-    v_25_i_i_i_i_i208_sroa_5_0_sroa_idx_i = v_255 + 2;
-    put_u8(v_25_i_i_i_i_i208_sroa_5_0_sroa_idx_i, v_26_i_i_i_i_i557_i);
-    v_25_i_i_i_i_i208_sroa_6_0_sroa_idx_i = v_255 + 3;
-    put_u8(v_25_i_i_i_i_i208_sroa_6_0_sroa_idx_i, v_28_i_i_i_i_i559_i);
-    v_25_i_i_i_i_i208_sroa_7_0_sroa_idx_i = v_255 + 4;
-    put_u8(v_25_i_i_i_i_i208_sroa_7_0_sroa_idx_i, v_31_i_i_i_i_i560_i);
-    { p_v_writer_sroa_174_8_i = v_start1_i51_i_i_i_i_i566_i; goto L_back_writer_BackWriter_exit_i_i__2; }
+    v_25_i_i_i_i_i203_sroa_4_0_sroa_idx_i = v_255 + 1;
+    put_u8(v_25_i_i_i_i_i203_sroa_4_0_sroa_idx_i, 131u);
+    v_25_i_i_i_i_i203_sroa_5_0_sroa_idx_i = v_255 + 2;
+    put_u8(v_25_i_i_i_i_i203_sroa_5_0_sroa_idx_i, v_26_i_i_i_i_i555_i);
+    v_25_i_i_i_i_i203_sroa_6_0_sroa_idx_i = v_255 + 3;
+    put_u8(v_25_i_i_i_i_i203_sroa_6_0_sroa_idx_i, v_28_i_i_i_i_i557_i);
+    v_25_i_i_i_i_i203_sroa_7_0_sroa_idx_i = v_255 + 4;
+    put_u8(v_25_i_i_i_i_i203_sroa_7_0_sroa_idx_i, v_31_i_i_i_i_i558_i);
+    { p_v_writer_sroa_174_8_i = v_start1_i51_i_i_i_i_i564_i; goto L_back_writer_BackWriter_exit_i_i__2; }
 L_back_writer_BackWriter_exit_i_i__2:;
     v_writer_sroa_174_8_i = p_v_writer_sroa_174_8_i;
-    v_4_i_i8_i_i396_i = v_26_sroa_7_0_i_ph > v_writer_sroa_174_8_i;
-    if (v_4_i_i8_i_i396_i) { p_v_0_sroa_0_0_i_i19_i_i408_i = v_writer_sroa_174_8_i; goto L_bb2_i_i410_i; } else { goto L_bb2_i_i9_i_i397_i; }
-L_bb2_i_i9_i_i397_i:;
-    v_10_not_i_i11_i_i399_i = v_writer_sroa_174_8_i > v_encoding_sroa_0_0_i14_i2020_i;
-    if (v_10_not_i_i11_i_i399_i) { goto L_bb7_i_i21_i_i553_i; } else { goto L_copy_from_slice_pkcs1_c_exit1293_i; }
-L_bb7_i_i21_i_i553_i:;
+    v_4_i_i8_i_i_i388_i = v_26_sroa_7_0_i_ph > v_writer_sroa_174_8_i;
+    if (v_4_i_i8_i_i_i388_i) { p_v_0_sroa_0_0_i_i19_i_i_i400_i = v_writer_sroa_174_8_i; goto L_bb2_i_i_i402_i; } else { goto L_bb2_i_i9_i_i_i389_i; }
+L_bb2_i_i9_i_i_i389_i:;
+    v_10_not_i_i11_i_i_i391_i = v_writer_sroa_174_8_i > v_encoding_sroa_0_0_i12_i2037_i;
+    if (v_10_not_i_i11_i_i_i391_i) { goto L_bb7_i_i21_i_i_i551_i; } else { goto L_copy_from_slice_pkcs1_c_exit1310_i; }
+L_bb7_i_i21_i_i_i551_i:;
     TRAP();
     TRAP();
-L_copy_from_slice_pkcs1_c_exit1293_i:;
-    v_start1_i_i10_i_i398_i = (u64)((u64)(v_writer_sroa_174_8_i) - (u64)(v_26_sroa_7_0_i_ph));
-    v_256 = v_out + (int64_t)(v_start1_i_i10_i_i398_i);
+L_copy_from_slice_pkcs1_c_exit1310_i:;
+    v_start1_i_i10_i_i_i390_i = (u64)((u64)(v_writer_sroa_174_8_i) - (u64)(v_26_sroa_7_0_i_ph));
+    v_256 = v_out + (int64_t)(v_start1_i_i10_i_i_i390_i);
     copy(v_256, v_26_sroa_0_0_i_ph, v_26_sroa_7_0_i_ph);
-    { p_v_0_sroa_0_0_i_i19_i_i408_i = v_start1_i_i10_i_i398_i; goto L_bb2_i_i410_i; }
-L_bb2_i_i410_i:;
-    v_0_sroa_0_0_i_i19_i_i408_i = p_v_0_sroa_0_0_i_i19_i_i408_i;
-    v_5_i_i412_i = get_u8(v_26_sroa_0_0_i_ph);
-    v_4_i_i413_i = (u8)(v_5_i_i412_i ^ ((u8)1 << 7)) < (u8)(0u ^ ((u8)1 << 7));
-    if (v_4_i_i413_i) { goto L_bb3_i_i539_i; } else { p_v_writer_sroa_174_9_i = v_0_sroa_0_0_i_i19_i_i408_i; goto L_back_writer_BackWriter_exit_i414_i; }
-L_bb3_i_i539_i:;
-    v_4_i_i_i5_i_i = v_0_sroa_0_0_i_i19_i_i408_i == 0u;
-    if (v_4_i_i_i5_i_i) { p_v_writer_sroa_174_10_i = 0u; goto L_back_writer_BackWriter_exit_i__2; } else { goto L_bb2_i_i_i6_i_i; }
-L_bb2_i_i_i6_i_i:;
-    v_10_not_i_i_i_i542_i = v_0_sroa_0_0_i_i19_i_i408_i > v_encoding_sroa_0_0_i14_i2020_i;
-    if (v_10_not_i_i_i_i542_i) { goto L_bb7_i_i_i9_i_i; } else { goto L_copy_from_slice_pkcs1_c_exit1297_i; }
-L_bb7_i_i_i9_i_i:;
+    { p_v_0_sroa_0_0_i_i19_i_i_i400_i = v_start1_i_i10_i_i_i390_i; goto L_bb2_i_i_i402_i; }
+L_bb2_i_i_i402_i:;
+    v_0_sroa_0_0_i_i19_i_i_i400_i = p_v_0_sroa_0_0_i_i19_i_i_i400_i;
+    v_5_i_i5_i403_i = get_u8(v_26_sroa_0_0_i_ph);
+    v_4_i_i6_i404_i = (u8)(v_5_i_i5_i403_i ^ ((u8)1 << 7)) < (u8)(0u ^ ((u8)1 << 7));
+    if (v_4_i_i6_i404_i) { goto L_bb3_i_i_i530_i; } else { p_v_writer_sroa_174_9_i = v_0_sroa_0_0_i_i19_i_i_i400_i; goto L_back_writer_BackWriter_exit_i405_i; }
+L_bb3_i_i_i530_i:;
+    v_4_i_i_i_i8_i534_i = v_0_sroa_0_0_i_i19_i_i_i400_i == 0u;
+    if (v_4_i_i_i_i8_i534_i) { p_v_writer_sroa_174_10_i = 0u; goto L_back_writer_BackWriter_exit_i__2; } else { goto L_bb2_i_i_i_i9_i535_i; }
+L_bb2_i_i_i_i9_i535_i:;
+    v_10_not_i_i_i_i11_i537_i = v_0_sroa_0_0_i_i19_i_i_i400_i > v_encoding_sroa_0_0_i12_i2037_i;
+    if (v_10_not_i_i_i_i11_i537_i) { goto L_bb7_i_i_i_i21_i548_i; } else { goto L_copy_from_slice_pkcs1_c_exit1314_i; }
+L_bb7_i_i_i_i21_i548_i:;
     TRAP();
     TRAP();
-L_copy_from_slice_pkcs1_c_exit1297_i:;
-    v_start1_i_i_i_i541_i = (u64)((u64)(v_0_sroa_0_0_i_i19_i_i408_i) + (u64)(18446744073709551615ull));
-    v_257 = v_out + (int64_t)(v_start1_i_i_i_i541_i);
+L_copy_from_slice_pkcs1_c_exit1314_i:;
+    v_start1_i_i_i_i10_i536_i = (u64)((u64)(v_0_sroa_0_0_i_i19_i_i_i400_i) + (u64)(18446744073709551615ull));
+    v_257 = v_out + (int64_t)(v_start1_i_i_i_i10_i536_i);
     put_u8(v_257, 0u);
-    { p_v_writer_sroa_174_9_i = v_start1_i_i_i_i541_i; goto L_back_writer_BackWriter_exit_i414_i; }
-L_back_writer_BackWriter_exit_i414_i:;
+    { p_v_writer_sroa_174_9_i = v_start1_i_i_i_i10_i536_i; goto L_back_writer_BackWriter_exit_i405_i; }
+L_back_writer_BackWriter_exit_i405_i:;
     v_writer_sroa_174_9_i = p_v_writer_sroa_174_9_i;
-    v_5_i_i_i417_i = (u64)((u64)(v_writer_sroa_174_8_i) - (u64)(v_writer_sroa_174_9_i));
-    v_13_i_i_i418_i = (u32)(v_5_i_i_i417_i);
-    v_4_i_i_i_i420_i = v_13_i_i_i418_i < 128u;
-    if (v_4_i_i_i_i420_i) { goto L_bb1_i_i_i_i519_i; } else { goto L_bb2_i_i_i_i421_i; }
-L_bb2_i_i_i_i421_i:;
-    v_9_i_i_i_i422_i = v_13_i_i_i418_i < 256u;
-    if (v_9_i_i_i_i422_i) { goto L_bb3_i_i_i_i499_i; } else { goto L_bb4_i_i_i_i423_i; }
-L_bb1_i_i_i_i519_i:;
-    v_8_i_i_i_i520_i = (u16)(v_5_i_i_i417_i);
-    v_4_i_i_i_i_i524_i = v_writer_sroa_174_9_i < 2u;
-    if (v_4_i_i_i_i_i524_i) { p_v_writer_sroa_174_10_i = v_writer_sroa_174_9_i; goto L_back_writer_BackWriter_exit_i__2; } else { goto L_bb2_i_i_i_i_i525_i; }
-L_bb2_i_i_i_i_i525_i:;
-    v_10_not_i_i_i_i_i527_i = v_writer_sroa_174_9_i > v_encoding_sroa_0_0_i14_i2020_i;
-    if (v_10_not_i_i_i_i_i527_i) { goto L_bb7_i_i_i_i_i538_i; } else { goto L_copy_from_slice_pkcs1_c_exit1301_i; }
-L_bb7_i_i_i_i_i538_i:;
+    v_5_i_i_i408_i = (u64)((u64)(v_writer_sroa_174_8_i) - (u64)(v_writer_sroa_174_9_i));
+    v_13_i_i_i409_i = (u32)(v_5_i_i_i408_i);
+    v_4_i_i_i_i411_i = v_13_i_i_i409_i < 128u;
+    if (v_4_i_i_i_i411_i) { goto L_bb1_i_i_i_i510_i; } else { goto L_bb2_i_i_i_i412_i; }
+L_bb2_i_i_i_i412_i:;
+    v_9_i_i_i_i413_i = v_13_i_i_i409_i < 256u;
+    if (v_9_i_i_i_i413_i) { goto L_bb3_i_i_i_i490_i; } else { goto L_bb4_i_i_i_i414_i; }
+L_bb1_i_i_i_i510_i:;
+    v_8_i_i_i_i511_i = (u16)(v_5_i_i_i408_i);
+    v_4_i_i_i_i_i515_i = v_writer_sroa_174_9_i < 2u;
+    if (v_4_i_i_i_i_i515_i) { p_v_writer_sroa_174_10_i = v_writer_sroa_174_9_i; goto L_back_writer_BackWriter_exit_i__2; } else { goto L_bb2_i_i_i_i_i516_i; }
+L_bb2_i_i_i_i_i516_i:;
+    v_10_not_i_i_i_i_i518_i = v_writer_sroa_174_9_i > v_encoding_sroa_0_0_i12_i2037_i;
+    if (v_10_not_i_i_i_i_i518_i) { goto L_bb7_i_i_i_i_i529_i; } else { goto L_copy_from_slice_pkcs1_c_exit1318_i; }
+L_bb7_i_i_i_i_i529_i:;
     TRAP();
     TRAP();
-L_copy_from_slice_pkcs1_c_exit1301_i:;
-    v_start1_i_i_i_i_i526_i = (u64)((u64)(v_writer_sroa_174_9_i) + (u64)(18446744073709551614ull));
-    v_258 = v_out + (int64_t)(v_start1_i_i_i_i_i526_i);
-    v_7_i_i_i_i243_sroa_0_sroa_4_0_insert_shift_i = (u16)((u32)(v_8_i_i_i_i520_i) << (u32)((8u & 31)));
-    v_7_i_i_i_i243_sroa_0_sroa_0_0_insert_insert_i = (u16)((u32)(v_7_i_i_i_i243_sroa_0_sroa_4_0_insert_shift_i) | (u32)(2u));
-    put_u16(v_258, v_7_i_i_i_i243_sroa_0_sroa_0_0_insert_insert_i);
-    { p_v_writer_sroa_174_10_i = v_start1_i_i_i_i_i526_i; goto L_back_writer_BackWriter_exit_i__2; }
-L_bb4_i_i_i_i423_i:;
-    v_14_i_i_i_i424_i = v_13_i_i_i418_i < 65536u;
-    if (v_14_i_i_i_i424_i) { goto L_bb5_i_i_i_i477_i; } else { goto L_bb6_i_i_i_i425_i; }
-L_bb3_i_i_i_i499_i:;
-    v_13_i_i_i_i500_i = (u8)(v_5_i_i_i417_i);
-    v_4_i11_i_i_i_i504_i = v_writer_sroa_174_9_i < 3u;
-    if (v_4_i11_i_i_i_i504_i) { p_v_writer_sroa_174_10_i = v_writer_sroa_174_9_i; goto L_back_writer_BackWriter_exit_i__2; } else { goto L_bb2_i12_i_i_i_i505_i; }
-L_bb2_i12_i_i_i_i505_i:;
-    v_10_not_i14_i_i_i_i507_i = v_writer_sroa_174_9_i > v_encoding_sroa_0_0_i14_i2020_i;
-    if (v_10_not_i14_i_i_i_i507_i) { goto L_bb7_i24_i_i_i_i518_i; } else { goto L_copy_from_slice_pkcs1_c_exit1305_i; }
-L_bb7_i24_i_i_i_i518_i:;
+L_copy_from_slice_pkcs1_c_exit1318_i:;
+    v_start1_i_i_i_i_i517_i = (u64)((u64)(v_writer_sroa_174_9_i) + (u64)(18446744073709551614ull));
+    v_258 = v_out + (int64_t)(v_start1_i_i_i_i_i517_i);
+    v_7_i_i_i_i239_sroa_0_sroa_4_0_insert_shift_i = (u16)((u32)(v_8_i_i_i_i511_i) << (u32)((8u & 31)));
+    v_7_i_i_i_i239_sroa_0_sroa_0_0_insert_insert_i = (u16)((u32)(v_7_i_i_i_i239_sroa_0_sroa_4_0_insert_shift_i) | (u32)(2u));
+    put_u16(v_258, v_7_i_i_i_i239_sroa_0_sroa_0_0_insert_insert_i);
+    { p_v_writer_sroa_174_10_i = v_start1_i_i_i_i_i517_i; goto L_back_writer_BackWriter_exit_i__2; }
+L_bb4_i_i_i_i414_i:;
+    v_14_i_i_i_i415_i = v_13_i_i_i409_i < 65536u;
+    if (v_14_i_i_i_i415_i) { goto L_bb5_i_i_i_i468_i; } else { goto L_bb6_i_i_i_i416_i; }
+L_bb3_i_i_i_i490_i:;
+    v_13_i_i_i_i491_i = (u8)(v_5_i_i_i408_i);
+    v_4_i11_i_i_i_i495_i = v_writer_sroa_174_9_i < 3u;
+    if (v_4_i11_i_i_i_i495_i) { p_v_writer_sroa_174_10_i = v_writer_sroa_174_9_i; goto L_back_writer_BackWriter_exit_i__2; } else { goto L_bb2_i12_i_i_i_i496_i; }
+L_bb2_i12_i_i_i_i496_i:;
+    v_10_not_i14_i_i_i_i498_i = v_writer_sroa_174_9_i > v_encoding_sroa_0_0_i12_i2037_i;
+    if (v_10_not_i14_i_i_i_i498_i) { goto L_bb7_i24_i_i_i_i509_i; } else { goto L_copy_from_slice_pkcs1_c_exit1322_i; }
+L_bb7_i24_i_i_i_i509_i:;
     TRAP();
     TRAP();
-L_copy_from_slice_pkcs1_c_exit1305_i:;
-    v_start1_i13_i_i_i_i506_i = (u64)((u64)(v_writer_sroa_174_9_i) + (u64)(18446744073709551613ull));
-    v_259 = v_out + (int64_t)(v_start1_i13_i_i_i_i506_i);
+L_copy_from_slice_pkcs1_c_exit1322_i:;
+    v_start1_i13_i_i_i_i497_i = (u64)((u64)(v_writer_sroa_174_9_i) + (u64)(18446744073709551613ull));
+    v_259 = v_out + (int64_t)(v_start1_i13_i_i_i_i497_i);
     put_u8(v_259, 2u);
-    v_12_i_i_i_i242_sroa_4_0_sroa_idx_i = v_259 + 1;
-    put_u8(v_12_i_i_i_i242_sroa_4_0_sroa_idx_i, 129u);
-    v_12_i_i_i_i242_sroa_5_0_sroa_idx_i = v_259 + 2;
-    put_u8(v_12_i_i_i_i242_sroa_5_0_sroa_idx_i, v_13_i_i_i_i500_i);
-    { p_v_writer_sroa_174_10_i = v_start1_i13_i_i_i_i506_i; goto L_back_writer_BackWriter_exit_i__2; }
-L_bb6_i_i_i_i425_i:;
-    v_22_i_i_i_i426_i = v_13_i_i_i418_i < 16777216u;
-    if (v_22_i_i_i_i426_i) { goto L_bb7_i_i_i_i453_i; } else { goto L_bb8_i_i_i_i427_i; }
-L_bb5_i_i_i_i477_i:;
-    v_4_i30_i_i_i_i484_i = v_writer_sroa_174_9_i < 4u;
-    if (v_4_i30_i_i_i_i484_i) { p_v_writer_sroa_174_10_i = v_writer_sroa_174_9_i; goto L_back_writer_BackWriter_exit_i__2; } else { goto L_bb2_i31_i_i_i_i485_i; }
-L_bb2_i31_i_i_i_i485_i:;
-    v_10_not_i33_i_i_i_i487_i = v_writer_sroa_174_9_i > v_encoding_sroa_0_0_i14_i2020_i;
-    if (v_10_not_i33_i_i_i_i487_i) { goto L_bb7_i43_i_i_i_i498_i; } else { goto L_copy_from_slice_pkcs1_c_exit1309_i; }
-L_bb7_i43_i_i_i_i498_i:;
+    v_12_i_i_i_i238_sroa_4_0_sroa_idx_i = v_259 + 1;
+    put_u8(v_12_i_i_i_i238_sroa_4_0_sroa_idx_i, 129u);
+    v_12_i_i_i_i238_sroa_5_0_sroa_idx_i = v_259 + 2;
+    put_u8(v_12_i_i_i_i238_sroa_5_0_sroa_idx_i, v_13_i_i_i_i491_i);
+    { p_v_writer_sroa_174_10_i = v_start1_i13_i_i_i_i497_i; goto L_back_writer_BackWriter_exit_i__2; }
+L_bb6_i_i_i_i416_i:;
+    v_22_i_i_i_i417_i = v_13_i_i_i409_i < 16777216u;
+    if (v_22_i_i_i_i417_i) { goto L_bb7_i_i_i_i444_i; } else { goto L_bb8_i_i_i_i418_i; }
+L_bb5_i_i_i_i468_i:;
+    v_4_i30_i_i_i_i475_i = v_writer_sroa_174_9_i < 4u;
+    if (v_4_i30_i_i_i_i475_i) { p_v_writer_sroa_174_10_i = v_writer_sroa_174_9_i; goto L_back_writer_BackWriter_exit_i__2; } else { goto L_bb2_i31_i_i_i_i476_i; }
+L_bb2_i31_i_i_i_i476_i:;
+    v_10_not_i33_i_i_i_i478_i = v_writer_sroa_174_9_i > v_encoding_sroa_0_0_i12_i2037_i;
+    if (v_10_not_i33_i_i_i_i478_i) { goto L_bb7_i43_i_i_i_i489_i; } else { goto L_copy_from_slice_pkcs1_c_exit1326_i; }
+L_bb7_i43_i_i_i_i489_i:;
     TRAP();
     TRAP();
-L_copy_from_slice_pkcs1_c_exit1309_i:;
-    v_start1_i32_i_i_i_i486_i = (u64)((u64)(v_writer_sroa_174_9_i) + (u64)(18446744073709551612ull));
-    v_260 = v_out + (int64_t)(v_start1_i32_i_i_i_i486_i);
-    v_261 = (u32)((u32)(v_13_i_i_i418_i) | (u32)(42074112u));
-    v_17_i_i_i_i241_sroa_0_sroa_0_0_insert_insert_i = TURNED(32, v_261);
-    put_u32(v_260, v_17_i_i_i_i241_sroa_0_sroa_0_0_insert_insert_i);
-    { p_v_writer_sroa_174_10_i = v_start1_i32_i_i_i_i486_i; goto L_back_writer_BackWriter_exit_i__2; }
-L_bb8_i_i_i_i427_i:;
-    v_371_i_i_i_i428_i = (u64)((u64)(v_5_i_i_i417_i) >> (u64)((24u & 63)));
-    v_36_i_i_i_i429_i = (u8)(v_371_i_i_i_i428_i);
-    v_402_i_i_i_i430_i = (u64)((u64)(v_5_i_i_i417_i) >> (u64)((16u & 63)));
-    v_38_i_i_i_i431_i = (u8)(v_402_i_i_i_i430_i);
-    v_433_i_i_i_i432_i = (u64)((u64)(v_5_i_i_i417_i) >> (u64)((8u & 63)));
-    v_41_i_i_i_i433_i = (u8)(v_433_i_i_i_i432_i);
-    v_44_i_i_i_i434_i = (u8)(v_5_i_i_i417_i);
-    v_4_i68_i_i_i_i438_i = v_writer_sroa_174_9_i < 6u;
-    if (v_4_i68_i_i_i_i438_i) { p_v_writer_sroa_174_10_i = v_writer_sroa_174_9_i; goto L_back_writer_BackWriter_exit_i__2; } else { goto L_bb2_i69_i_i_i_i439_i; }
-L_bb2_i69_i_i_i_i439_i:;
-    v_10_not_i71_i_i_i_i441_i = v_writer_sroa_174_9_i > v_encoding_sroa_0_0_i14_i2020_i;
-    if (v_10_not_i71_i_i_i_i441_i) { goto L_bb7_i81_i_i_i_i452_i; } else { goto L_copy_from_slice_pkcs1_c_exit1313_i; }
-L_bb7_i81_i_i_i_i452_i:;
+L_copy_from_slice_pkcs1_c_exit1326_i:;
+    v_start1_i32_i_i_i_i477_i = (u64)((u64)(v_writer_sroa_174_9_i) + (u64)(18446744073709551612ull));
+    v_260 = v_out + (int64_t)(v_start1_i32_i_i_i_i477_i);
+    v_261 = (u32)((u32)(v_13_i_i_i409_i) | (u32)(42074112u));
+    v_17_i_i_i_i237_sroa_0_sroa_0_0_insert_insert_i = TURNED(32, v_261);
+    put_u32(v_260, v_17_i_i_i_i237_sroa_0_sroa_0_0_insert_insert_i);
+    { p_v_writer_sroa_174_10_i = v_start1_i32_i_i_i_i477_i; goto L_back_writer_BackWriter_exit_i__2; }
+L_bb8_i_i_i_i418_i:;
+    v_371_i_i_i_i419_i = (u64)((u64)(v_5_i_i_i408_i) >> (u64)((24u & 63)));
+    v_36_i_i_i_i420_i = (u8)(v_371_i_i_i_i419_i);
+    v_402_i_i_i_i421_i = (u64)((u64)(v_5_i_i_i408_i) >> (u64)((16u & 63)));
+    v_38_i_i_i_i422_i = (u8)(v_402_i_i_i_i421_i);
+    v_433_i_i_i_i423_i = (u64)((u64)(v_5_i_i_i408_i) >> (u64)((8u & 63)));
+    v_41_i_i_i_i424_i = (u8)(v_433_i_i_i_i423_i);
+    v_44_i_i_i_i425_i = (u8)(v_5_i_i_i408_i);
+    v_4_i68_i_i_i_i429_i = v_writer_sroa_174_9_i < 6u;
+    if (v_4_i68_i_i_i_i429_i) { p_v_writer_sroa_174_10_i = v_writer_sroa_174_9_i; goto L_back_writer_BackWriter_exit_i__2; } else { goto L_bb2_i69_i_i_i_i430_i; }
+L_bb2_i69_i_i_i_i430_i:;
+    v_10_not_i71_i_i_i_i432_i = v_writer_sroa_174_9_i > v_encoding_sroa_0_0_i12_i2037_i;
+    if (v_10_not_i71_i_i_i_i432_i) { goto L_bb7_i81_i_i_i_i443_i; } else { goto L_copy_from_slice_pkcs1_c_exit1330_i; }
+L_bb7_i81_i_i_i_i443_i:;
     TRAP();
     TRAP();
-L_copy_from_slice_pkcs1_c_exit1313_i:;
-    v_start1_i70_i_i_i_i440_i = (u64)((u64)(v_writer_sroa_174_9_i) + (u64)(18446744073709551610ull));
-    v_262 = v_out + (int64_t)(v_start1_i70_i_i_i_i440_i);
+L_copy_from_slice_pkcs1_c_exit1330_i:;
+    v_start1_i70_i_i_i_i431_i = (u64)((u64)(v_writer_sroa_174_9_i) + (u64)(18446744073709551610ull));
+    v_262 = v_out + (int64_t)(v_start1_i70_i_i_i_i431_i);
     put_u8(v_262, 2u);
-    v_35_i_i_i_i239_sroa_4_0_sroa_idx_i = v_262 + 1;
-    put_u8(v_35_i_i_i_i239_sroa_4_0_sroa_idx_i, 132u);
-    v_35_i_i_i_i239_sroa_5_0_sroa_idx_i = v_262 + 2;
-    put_u8(v_35_i_i_i_i239_sroa_5_0_sroa_idx_i, v_36_i_i_i_i429_i);
-    v_35_i_i_i_i239_sroa_6_0_sroa_idx_i = v_262 + 3;
-    put_u8(v_35_i_i_i_i239_sroa_6_0_sroa_idx_i, v_38_i_i_i_i431_i);
-    v_35_i_i_i_i239_sroa_7_0_sroa_idx_i = v_262 + 4;
-    put_u8(v_35_i_i_i_i239_sroa_7_0_sroa_idx_i, v_41_i_i_i_i433_i);
-    v_35_i_i_i_i239_sroa_8_0_sroa_idx_i = v_262 + 5;
-    put_u8(v_35_i_i_i_i239_sroa_8_0_sroa_idx_i, v_44_i_i_i_i434_i);
-    { p_v_writer_sroa_174_10_i = v_start1_i70_i_i_i_i440_i; goto L_back_writer_BackWriter_exit_i__2; }
-L_bb7_i_i_i_i453_i:;
-    v_274_i_i_i_i454_i = (u64)((u64)(v_5_i_i_i417_i) >> (u64)((16u & 63)));
-    v_26_i_i_i_i455_i = (u8)(v_274_i_i_i_i454_i);
-    v_305_i_i_i_i456_i = (u64)((u64)(v_5_i_i_i417_i) >> (u64)((8u & 63)));
-    v_28_i_i_i_i457_i = (u8)(v_305_i_i_i_i456_i);
-    v_31_i_i_i_i458_i = (u8)(v_5_i_i_i417_i);
-    v_4_i49_i_i_i_i462_i = v_writer_sroa_174_9_i < 5u;
-    if (v_4_i49_i_i_i_i462_i) { p_v_writer_sroa_174_10_i = v_writer_sroa_174_9_i; goto L_back_writer_BackWriter_exit_i__2; } else { goto L_bb2_i50_i_i_i_i463_i; }
-L_bb2_i50_i_i_i_i463_i:;
-    v_10_not_i52_i_i_i_i465_i = v_writer_sroa_174_9_i > v_encoding_sroa_0_0_i14_i2020_i;
-    if (v_10_not_i52_i_i_i_i465_i) { goto L_bb7_i62_i_i_i_i476_i; } else { goto L_copy_from_slice_pkcs1_c_exit1317_i; }
-L_bb7_i62_i_i_i_i476_i:;
+    v_35_i_i_i_i235_sroa_4_0_sroa_idx_i = v_262 + 1;
+    put_u8(v_35_i_i_i_i235_sroa_4_0_sroa_idx_i, 132u);
+    v_35_i_i_i_i235_sroa_5_0_sroa_idx_i = v_262 + 2;
+    put_u8(v_35_i_i_i_i235_sroa_5_0_sroa_idx_i, v_36_i_i_i_i420_i);
+    v_35_i_i_i_i235_sroa_6_0_sroa_idx_i = v_262 + 3;
+    put_u8(v_35_i_i_i_i235_sroa_6_0_sroa_idx_i, v_38_i_i_i_i422_i);
+    v_35_i_i_i_i235_sroa_7_0_sroa_idx_i = v_262 + 4;
+    put_u8(v_35_i_i_i_i235_sroa_7_0_sroa_idx_i, v_41_i_i_i_i424_i);
+    v_35_i_i_i_i235_sroa_8_0_sroa_idx_i = v_262 + 5;
+    put_u8(v_35_i_i_i_i235_sroa_8_0_sroa_idx_i, v_44_i_i_i_i425_i);
+    { p_v_writer_sroa_174_10_i = v_start1_i70_i_i_i_i431_i; goto L_back_writer_BackWriter_exit_i__2; }
+L_bb7_i_i_i_i444_i:;
+    v_274_i_i_i_i445_i = (u64)((u64)(v_5_i_i_i408_i) >> (u64)((16u & 63)));
+    v_26_i_i_i_i446_i = (u8)(v_274_i_i_i_i445_i);
+    v_305_i_i_i_i447_i = (u64)((u64)(v_5_i_i_i408_i) >> (u64)((8u & 63)));
+    v_28_i_i_i_i448_i = (u8)(v_305_i_i_i_i447_i);
+    v_31_i_i_i_i449_i = (u8)(v_5_i_i_i408_i);
+    v_4_i49_i_i_i_i453_i = v_writer_sroa_174_9_i < 5u;
+    if (v_4_i49_i_i_i_i453_i) { p_v_writer_sroa_174_10_i = v_writer_sroa_174_9_i; goto L_back_writer_BackWriter_exit_i__2; } else { goto L_bb2_i50_i_i_i_i454_i; }
+L_bb2_i50_i_i_i_i454_i:;
+    v_10_not_i52_i_i_i_i456_i = v_writer_sroa_174_9_i > v_encoding_sroa_0_0_i12_i2037_i;
+    if (v_10_not_i52_i_i_i_i456_i) { goto L_bb7_i62_i_i_i_i467_i; } else { goto L_copy_from_slice_pkcs1_c_exit1334_i; }
+L_bb7_i62_i_i_i_i467_i:;
     TRAP();
     TRAP();
-L_copy_from_slice_pkcs1_c_exit1317_i:;
-    v_start1_i51_i_i_i_i464_i = (u64)((u64)(v_writer_sroa_174_9_i) + (u64)(18446744073709551611ull));
-    v_263 = v_out + (int64_t)(v_start1_i51_i_i_i_i464_i);
+L_copy_from_slice_pkcs1_c_exit1334_i:;
+    v_start1_i51_i_i_i_i455_i = (u64)((u64)(v_writer_sroa_174_9_i) + (u64)(18446744073709551611ull));
+    v_263 = v_out + (int64_t)(v_start1_i51_i_i_i_i455_i);
     put_u8(v_263, 2u);
-    v_25_i_i_i_i240_sroa_4_0_sroa_idx_i = v_263 + 1;
-    put_u8(v_25_i_i_i_i240_sroa_4_0_sroa_idx_i, 131u);
-    v_25_i_i_i_i240_sroa_5_0_sroa_idx_i = v_263 + 2;
-    put_u8(v_25_i_i_i_i240_sroa_5_0_sroa_idx_i, v_26_i_i_i_i455_i);
-    v_25_i_i_i_i240_sroa_6_0_sroa_idx_i = v_263 + 3;
-    put_u8(v_25_i_i_i_i240_sroa_6_0_sroa_idx_i, v_28_i_i_i_i457_i);
-    v_25_i_i_i_i240_sroa_7_0_sroa_idx_i = v_263 + 4;
-    put_u8(v_25_i_i_i_i240_sroa_7_0_sroa_idx_i, v_31_i_i_i_i458_i);
-    { p_v_writer_sroa_174_10_i = v_start1_i51_i_i_i_i464_i; goto L_back_writer_BackWriter_exit_i__2; }
+    v_25_i_i_i_i236_sroa_4_0_sroa_idx_i = v_263 + 1;
+    put_u8(v_25_i_i_i_i236_sroa_4_0_sroa_idx_i, 131u);
+    v_25_i_i_i_i236_sroa_5_0_sroa_idx_i = v_263 + 2;
+    put_u8(v_25_i_i_i_i236_sroa_5_0_sroa_idx_i, v_26_i_i_i_i446_i);
+    v_25_i_i_i_i236_sroa_6_0_sroa_idx_i = v_263 + 3;
+    put_u8(v_25_i_i_i_i236_sroa_6_0_sroa_idx_i, v_28_i_i_i_i448_i);
+    v_25_i_i_i_i236_sroa_7_0_sroa_idx_i = v_263 + 4;
+    put_u8(v_25_i_i_i_i236_sroa_7_0_sroa_idx_i, v_31_i_i_i_i449_i);
+    { p_v_writer_sroa_174_10_i = v_start1_i51_i_i_i_i455_i; goto L_back_writer_BackWriter_exit_i__2; }
 L_back_writer_BackWriter_exit_i__2:;
     v_writer_sroa_174_10_i = p_v_writer_sroa_174_10_i;
-    v_4_i_i8_i_i_i_i_i_i_i = v_22_sroa_7_0_i_ph > v_writer_sroa_174_10_i;
-    if (v_4_i_i8_i_i_i_i_i_i_i) { p_v_0_sroa_0_0_i_i19_i_i_i_i_i_i_i = v_writer_sroa_174_10_i; goto L_bb2_i_i_i15_i_i_i_i; } else { goto L_bb2_i_i9_i_i_i_i_i_i_i; }
-L_bb2_i_i9_i_i_i_i_i_i_i:;
-    v_10_not_i_i11_i_i_i_i_i_i_i = v_writer_sroa_174_10_i > v_encoding_sroa_0_0_i14_i2020_i;
-    if (v_10_not_i_i11_i_i_i_i_i_i_i) { goto L_bb7_i_i21_i_i_i_i_i_i_i; } else { goto L_copy_from_slice_pkcs1_c_exit1321_i; }
-L_bb7_i_i21_i_i_i_i_i_i_i:;
+    v_4_i_i8_i_i_i_i_i_i_i_i = v_22_sroa_7_0_i_ph > v_writer_sroa_174_10_i;
+    if (v_4_i_i8_i_i_i_i_i_i_i_i) { p_v_0_sroa_0_0_i_i19_i_i_i_i_i_i_i_i = v_writer_sroa_174_10_i; goto L_bb2_i_i_i27_i_i_i_i_i; } else { goto L_bb2_i_i9_i_i_i_i_i_i_i_i; }
+L_bb2_i_i9_i_i_i_i_i_i_i_i:;
+    v_10_not_i_i11_i_i_i_i_i_i_i_i = v_writer_sroa_174_10_i > v_encoding_sroa_0_0_i12_i2037_i;
+    if (v_10_not_i_i11_i_i_i_i_i_i_i_i) { goto L_bb7_i_i21_i_i_i_i_i_i_i_i; } else { goto L_copy_from_slice_pkcs1_c_exit1338_i; }
+L_bb7_i_i21_i_i_i_i_i_i_i_i:;
     TRAP();
     TRAP();
-L_copy_from_slice_pkcs1_c_exit1321_i:;
-    v_start1_i_i10_i_i_i_i_i_i_i = (u64)((u64)(v_writer_sroa_174_10_i) - (u64)(v_22_sroa_7_0_i_ph));
-    v_264 = v_out + (int64_t)(v_start1_i_i10_i_i_i_i_i_i_i);
+L_copy_from_slice_pkcs1_c_exit1338_i:;
+    v_start1_i_i10_i_i_i_i_i_i_i_i = (u64)((u64)(v_writer_sroa_174_10_i) - (u64)(v_22_sroa_7_0_i_ph));
+    v_264 = v_out + (int64_t)(v_start1_i_i10_i_i_i_i_i_i_i_i);
     copy(v_264, v_22_sroa_0_0_i_ph, v_22_sroa_7_0_i_ph);
-    { p_v_0_sroa_0_0_i_i19_i_i_i_i_i_i_i = v_start1_i_i10_i_i_i_i_i_i_i; goto L_bb2_i_i_i15_i_i_i_i; }
-L_bb2_i_i_i15_i_i_i_i:;
-    v_0_sroa_0_0_i_i19_i_i_i_i_i_i_i = p_v_0_sroa_0_0_i_i19_i_i_i_i_i_i_i;
-    v_5_i_i17_i_i_i_i_i = get_u8(v_22_sroa_0_0_i_ph);
-    v_4_i3_i_i_i_i_i_i = (u8)(v_5_i_i17_i_i_i_i_i ^ ((u8)1 << 7)) < (u8)(0u ^ ((u8)1 << 7));
-    if (v_4_i3_i_i_i_i_i_i) { goto L_bb3_i_i_i36_i_i_i_i; } else { p_v_writer_sroa_174_11_i = v_0_sroa_0_0_i_i19_i_i_i_i_i_i_i; goto L_back_writer_BackWriter_exit_i_i_i_i_i_i; }
-L_bb3_i_i_i36_i_i_i_i:;
-    v_4_i_i_i6_i_i_i_i_i_i = v_0_sroa_0_0_i_i19_i_i_i_i_i_i_i == 0u;
-    if (v_4_i_i_i6_i_i_i_i_i_i) { p_v_writer_sroa_174_12_i = 0u; goto L_back_writer_BackWriter_exit_i_i_i_i_i; } else { goto L_bb2_i_i_i7_i_i_i_i_i_i; }
-L_bb2_i_i_i7_i_i_i_i_i_i:;
-    v_10_not_i_i_i_i27_i_i_i_i_i = v_0_sroa_0_0_i_i19_i_i_i_i_i_i_i > v_encoding_sroa_0_0_i14_i2020_i;
-    if (v_10_not_i_i_i_i27_i_i_i_i_i) { goto L_bb7_i_i_i10_i_i_i_i_i_i; } else { goto L_copy_from_slice_pkcs1_c_exit1325_i; }
-L_bb7_i_i_i10_i_i_i_i_i_i:;
+    { p_v_0_sroa_0_0_i_i19_i_i_i_i_i_i_i_i = v_start1_i_i10_i_i_i_i_i_i_i_i; goto L_bb2_i_i_i27_i_i_i_i_i; }
+L_bb2_i_i_i27_i_i_i_i_i:;
+    v_0_sroa_0_0_i_i19_i_i_i_i_i_i_i_i = p_v_0_sroa_0_0_i_i19_i_i_i_i_i_i_i_i;
+    v_5_i_i5_i_i_i_i_i_i = get_u8(v_22_sroa_0_0_i_ph);
+    v_4_i_i6_i_i_i_i_i_i = (u8)(v_5_i_i5_i_i_i_i_i_i ^ ((u8)1 << 7)) < (u8)(0u ^ ((u8)1 << 7));
+    if (v_4_i_i6_i_i_i_i_i_i) { goto L_bb3_i_i_i36_i_i_i_i_i; } else { p_v_writer_sroa_174_11_i = v_0_sroa_0_0_i_i19_i_i_i_i_i_i_i_i; goto L_back_writer_BackWriter_exit_i_i_i_i_i_i; }
+L_bb3_i_i_i36_i_i_i_i_i:;
+    v_4_i_i_i_i8_i_i_i_i_i_i = v_0_sroa_0_0_i_i19_i_i_i_i_i_i_i_i == 0u;
+    if (v_4_i_i_i_i8_i_i_i_i_i_i) { p_v_writer_sroa_174_12_i = 0u; goto L_back_writer_BackWriter_exit_i_i_i_i_i; } else { goto L_bb2_i_i_i_i9_i_i_i_i_i_i; }
+L_bb2_i_i_i_i9_i_i_i_i_i_i:;
+    v_10_not_i_i_i_i11_i_i_i_i_i_i = v_0_sroa_0_0_i_i19_i_i_i_i_i_i_i_i > v_encoding_sroa_0_0_i12_i2037_i;
+    if (v_10_not_i_i_i_i11_i_i_i_i_i_i) { goto L_bb7_i_i_i_i21_i_i_i_i_i_i; } else { goto L_copy_from_slice_pkcs1_c_exit1342_i; }
+L_bb7_i_i_i_i21_i_i_i_i_i_i:;
     TRAP();
     TRAP();
-L_copy_from_slice_pkcs1_c_exit1325_i:;
-    v_start1_i_i_i_i26_i_i_i_i_i = (u64)((u64)(v_0_sroa_0_0_i_i19_i_i_i_i_i_i_i) + (u64)(18446744073709551615ull));
-    v_265 = v_out + (int64_t)(v_start1_i_i_i_i26_i_i_i_i_i);
+L_copy_from_slice_pkcs1_c_exit1342_i:;
+    v_start1_i_i_i_i10_i_i_i_i_i_i = (u64)((u64)(v_0_sroa_0_0_i_i19_i_i_i_i_i_i_i_i) + (u64)(18446744073709551615ull));
+    v_265 = v_out + (int64_t)(v_start1_i_i_i_i10_i_i_i_i_i_i);
     put_u8(v_265, 0u);
-    { p_v_writer_sroa_174_11_i = v_start1_i_i_i_i26_i_i_i_i_i; goto L_back_writer_BackWriter_exit_i_i_i_i_i_i; }
+    { p_v_writer_sroa_174_11_i = v_start1_i_i_i_i10_i_i_i_i_i_i; goto L_back_writer_BackWriter_exit_i_i_i_i_i_i; }
 L_back_writer_BackWriter_exit_i_i_i_i_i_i:;
     v_writer_sroa_174_11_i = p_v_writer_sroa_174_11_i;
     v_5_i_i_i_i_i_i_i_i = (u64)((u64)(v_writer_sroa_174_10_i) - (u64)(v_writer_sroa_174_11_i));
-    v_13_i_i_i19_i_i_i_i_i = (u32)(v_5_i_i_i_i_i_i_i_i);
-    v_4_i_i_i_i20_i_i_i_i_i = v_13_i_i_i19_i_i_i_i_i < 128u;
-    if (v_4_i_i_i_i20_i_i_i_i_i) { goto L_bb1_i_i_i_i_i_i_i_i_i; } else { goto L_bb2_i_i_i_i21_i_i_i_i_i; }
-L_bb2_i_i_i_i21_i_i_i_i_i:;
-    v_9_i_i_i_i22_i_i_i_i_i = v_13_i_i_i19_i_i_i_i_i < 256u;
-    if (v_9_i_i_i_i22_i_i_i_i_i) { goto L_bb3_i_i_i_i_i_i_i_i_i; } else { goto L_bb4_i_i_i_i_i_i_i_i_i; }
+    v_13_i_i_i29_i_i_i_i_i = (u32)(v_5_i_i_i_i_i_i_i_i);
+    v_4_i_i_i_i30_i_i_i_i_i = v_13_i_i_i29_i_i_i_i_i < 128u;
+    if (v_4_i_i_i_i30_i_i_i_i_i) { goto L_bb1_i_i_i_i_i_i_i_i_i; } else { goto L_bb2_i_i_i_i31_i_i_i_i_i; }
+L_bb2_i_i_i_i31_i_i_i_i_i:;
+    v_9_i_i_i_i32_i_i_i_i_i = v_13_i_i_i29_i_i_i_i_i < 256u;
+    if (v_9_i_i_i_i32_i_i_i_i_i) { goto L_bb3_i_i_i_i_i_i_i_i_i; } else { goto L_bb4_i_i_i_i_i_i_i_i_i; }
 L_bb1_i_i_i_i_i_i_i_i_i:;
     v_8_i_i_i_i_i_i_i_i_i = (u16)(v_5_i_i_i_i_i_i_i_i);
     v_4_i_i_i_i_i_i_i_i_i_i = v_writer_sroa_174_11_i < 2u;
     if (v_4_i_i_i_i_i_i_i_i_i_i) { p_v_writer_sroa_174_12_i = v_writer_sroa_174_11_i; goto L_back_writer_BackWriter_exit_i_i_i_i_i; } else { goto L_bb2_i_i_i_i_i_i_i_i_i_i; }
 L_bb2_i_i_i_i_i_i_i_i_i_i:;
-    v_10_not_i_i_i_i_i_i_i_i_i_i = v_writer_sroa_174_11_i > v_encoding_sroa_0_0_i14_i2020_i;
-    if (v_10_not_i_i_i_i_i_i_i_i_i_i) { goto L_bb7_i_i_i_i_i_i_i_i_i_i; } else { goto L_copy_from_slice_pkcs1_c_exit1329_i; }
+    v_10_not_i_i_i_i_i_i_i_i_i_i = v_writer_sroa_174_11_i > v_encoding_sroa_0_0_i12_i2037_i;
+    if (v_10_not_i_i_i_i_i_i_i_i_i_i) { goto L_bb7_i_i_i_i_i_i_i_i_i_i; } else { goto L_copy_from_slice_pkcs1_c_exit1346_i; }
 L_bb7_i_i_i_i_i_i_i_i_i_i:;
     TRAP();
     TRAP();
-L_copy_from_slice_pkcs1_c_exit1329_i:;
+L_copy_from_slice_pkcs1_c_exit1346_i:;
     v_start1_i_i_i_i_i_i_i_i_i_i = (u64)((u64)(v_writer_sroa_174_11_i) + (u64)(18446744073709551614ull));
     v_266 = v_out + (int64_t)(v_start1_i_i_i_i_i_i_i_i_i_i);
     v_7_i_i_i_i_i_i_i_i_sroa_0_sroa_4_0_insert_shift_i = (u16)((u32)(v_8_i_i_i_i_i_i_i_i_i) << (u32)((8u & 31)));
@@ -22939,47 +22939,47 @@ L_copy_from_slice_pkcs1_c_exit1329_i:;
     put_u16(v_266, v_7_i_i_i_i_i_i_i_i_sroa_0_sroa_0_0_insert_insert_i);
     { p_v_writer_sroa_174_12_i = v_start1_i_i_i_i_i_i_i_i_i_i; goto L_back_writer_BackWriter_exit_i_i_i_i_i; }
 L_bb4_i_i_i_i_i_i_i_i_i:;
-    v_14_i_i_i_i_i_i_i_i_i = v_13_i_i_i19_i_i_i_i_i < 65536u;
-    if (v_14_i_i_i_i_i_i_i_i_i) { goto L_bb5_i_i_i_i25_i_i_i_i_i; } else { goto L_bb6_i_i_i_i_i_i_i_i_i; }
+    v_14_i_i_i_i_i_i_i_i_i = v_13_i_i_i29_i_i_i_i_i < 65536u;
+    if (v_14_i_i_i_i_i_i_i_i_i) { goto L_bb5_i_i_i_i35_i_i_i_i_i; } else { goto L_bb6_i_i_i_i_i_i_i_i_i; }
 L_bb3_i_i_i_i_i_i_i_i_i:;
     v_13_i_i_i_i_i_i_i_i_i = (u8)(v_5_i_i_i_i_i_i_i_i);
     v_4_i11_i_i_i_i_i_i_i_i_i = v_writer_sroa_174_11_i < 3u;
     if (v_4_i11_i_i_i_i_i_i_i_i_i) { p_v_writer_sroa_174_12_i = v_writer_sroa_174_11_i; goto L_back_writer_BackWriter_exit_i_i_i_i_i; } else { goto L_bb2_i12_i_i_i_i_i_i_i_i_i; }
 L_bb2_i12_i_i_i_i_i_i_i_i_i:;
-    v_10_not_i14_i_i_i_i_i_i_i_i_i = v_writer_sroa_174_11_i > v_encoding_sroa_0_0_i14_i2020_i;
-    if (v_10_not_i14_i_i_i_i_i_i_i_i_i) { goto L_bb7_i24_i_i_i_i_i_i_i_i_i; } else { goto L_copy_from_slice_pkcs1_c_exit1333_i; }
+    v_10_not_i14_i_i_i_i_i_i_i_i_i = v_writer_sroa_174_11_i > v_encoding_sroa_0_0_i12_i2037_i;
+    if (v_10_not_i14_i_i_i_i_i_i_i_i_i) { goto L_bb7_i24_i_i_i_i_i_i_i_i_i; } else { goto L_copy_from_slice_pkcs1_c_exit1350_i; }
 L_bb7_i24_i_i_i_i_i_i_i_i_i:;
     TRAP();
     TRAP();
-L_copy_from_slice_pkcs1_c_exit1333_i:;
+L_copy_from_slice_pkcs1_c_exit1350_i:;
     v_start1_i13_i_i_i_i_i_i_i_i_i = (u64)((u64)(v_writer_sroa_174_11_i) + (u64)(18446744073709551613ull));
     v_267 = v_out + (int64_t)(v_start1_i13_i_i_i_i_i_i_i_i_i);
     put_u8(v_267, 2u);
-    v_12_i_i_i_i13_i_i_i_i_sroa_4_0_sroa_idx_i = v_267 + 1;
-    put_u8(v_12_i_i_i_i13_i_i_i_i_sroa_4_0_sroa_idx_i, 129u);
-    v_12_i_i_i_i13_i_i_i_i_sroa_5_0_sroa_idx_i = v_267 + 2;
-    put_u8(v_12_i_i_i_i13_i_i_i_i_sroa_5_0_sroa_idx_i, v_13_i_i_i_i_i_i_i_i_i);
+    v_12_i_i_i_i22_i_i_i_i_sroa_4_0_sroa_idx_i = v_267 + 1;
+    put_u8(v_12_i_i_i_i22_i_i_i_i_sroa_4_0_sroa_idx_i, 129u);
+    v_12_i_i_i_i22_i_i_i_i_sroa_5_0_sroa_idx_i = v_267 + 2;
+    put_u8(v_12_i_i_i_i22_i_i_i_i_sroa_5_0_sroa_idx_i, v_13_i_i_i_i_i_i_i_i_i);
     { p_v_writer_sroa_174_12_i = v_start1_i13_i_i_i_i_i_i_i_i_i; goto L_back_writer_BackWriter_exit_i_i_i_i_i; }
 L_bb6_i_i_i_i_i_i_i_i_i:;
-    v_22_i_i_i_i_i_i_i_i_i = v_13_i_i_i19_i_i_i_i_i < 16777216u;
-    if (v_22_i_i_i_i_i_i_i_i_i) { goto L_bb7_i_i_i_i24_i_i_i_i_i; } else { goto L_bb8_i_i_i_i23_i_i_i_i_i; }
-L_bb5_i_i_i_i25_i_i_i_i_i:;
+    v_22_i_i_i_i_i_i_i_i_i = v_13_i_i_i29_i_i_i_i_i < 16777216u;
+    if (v_22_i_i_i_i_i_i_i_i_i) { goto L_bb7_i_i_i_i34_i_i_i_i_i; } else { goto L_bb8_i_i_i_i33_i_i_i_i_i; }
+L_bb5_i_i_i_i35_i_i_i_i_i:;
     v_4_i30_i_i_i_i_i_i_i_i_i = v_writer_sroa_174_11_i < 4u;
     if (v_4_i30_i_i_i_i_i_i_i_i_i) { p_v_writer_sroa_174_12_i = v_writer_sroa_174_11_i; goto L_back_writer_BackWriter_exit_i_i_i_i_i; } else { goto L_bb2_i31_i_i_i_i_i_i_i_i_i; }
 L_bb2_i31_i_i_i_i_i_i_i_i_i:;
-    v_10_not_i33_i_i_i_i_i_i_i_i_i = v_writer_sroa_174_11_i > v_encoding_sroa_0_0_i14_i2020_i;
-    if (v_10_not_i33_i_i_i_i_i_i_i_i_i) { goto L_bb7_i43_i_i_i_i_i_i_i_i_i; } else { goto L_copy_from_slice_pkcs1_c_exit1337_i; }
+    v_10_not_i33_i_i_i_i_i_i_i_i_i = v_writer_sroa_174_11_i > v_encoding_sroa_0_0_i12_i2037_i;
+    if (v_10_not_i33_i_i_i_i_i_i_i_i_i) { goto L_bb7_i43_i_i_i_i_i_i_i_i_i; } else { goto L_copy_from_slice_pkcs1_c_exit1354_i; }
 L_bb7_i43_i_i_i_i_i_i_i_i_i:;
     TRAP();
     TRAP();
-L_copy_from_slice_pkcs1_c_exit1337_i:;
+L_copy_from_slice_pkcs1_c_exit1354_i:;
     v_start1_i32_i_i_i_i_i_i_i_i_i = (u64)((u64)(v_writer_sroa_174_11_i) + (u64)(18446744073709551612ull));
     v_268 = v_out + (int64_t)(v_start1_i32_i_i_i_i_i_i_i_i_i);
-    v_269 = (u32)((u32)(v_13_i_i_i19_i_i_i_i_i) | (u32)(42074112u));
+    v_269 = (u32)((u32)(v_13_i_i_i29_i_i_i_i_i) | (u32)(42074112u));
     v_17_i_i_i_i_i_i_i_i_sroa_0_sroa_0_0_insert_insert_i = TURNED(32, v_269);
     put_u32(v_268, v_17_i_i_i_i_i_i_i_i_sroa_0_sroa_0_0_insert_insert_i);
     { p_v_writer_sroa_174_12_i = v_start1_i32_i_i_i_i_i_i_i_i_i; goto L_back_writer_BackWriter_exit_i_i_i_i_i; }
-L_bb8_i_i_i_i23_i_i_i_i_i:;
+L_bb8_i_i_i_i33_i_i_i_i_i:;
     v_371_i_i_i_i_i_i_i_i_i = (u64)((u64)(v_5_i_i_i_i_i_i_i_i) >> (u64)((24u & 63)));
     v_36_i_i_i_i_i_i_i_i_i = (u8)(v_371_i_i_i_i_i_i_i_i_i);
     v_402_i_i_i_i_i_i_i_i_i = (u64)((u64)(v_5_i_i_i_i_i_i_i_i) >> (u64)((16u & 63)));
@@ -22990,12 +22990,12 @@ L_bb8_i_i_i_i23_i_i_i_i_i:;
     v_4_i68_i_i_i_i_i_i_i_i_i = v_writer_sroa_174_11_i < 6u;
     if (v_4_i68_i_i_i_i_i_i_i_i_i) { p_v_writer_sroa_174_12_i = v_writer_sroa_174_11_i; goto L_back_writer_BackWriter_exit_i_i_i_i_i; } else { goto L_bb2_i69_i_i_i_i_i_i_i_i_i; }
 L_bb2_i69_i_i_i_i_i_i_i_i_i:;
-    v_10_not_i71_i_i_i_i_i_i_i_i_i = v_writer_sroa_174_11_i > v_encoding_sroa_0_0_i14_i2020_i;
-    if (v_10_not_i71_i_i_i_i_i_i_i_i_i) { goto L_bb7_i81_i_i_i_i_i_i_i_i_i; } else { goto L_copy_from_slice_pkcs1_c_exit1341_i; }
+    v_10_not_i71_i_i_i_i_i_i_i_i_i = v_writer_sroa_174_11_i > v_encoding_sroa_0_0_i12_i2037_i;
+    if (v_10_not_i71_i_i_i_i_i_i_i_i_i) { goto L_bb7_i81_i_i_i_i_i_i_i_i_i; } else { goto L_copy_from_slice_pkcs1_c_exit1358_i; }
 L_bb7_i81_i_i_i_i_i_i_i_i_i:;
     TRAP();
     TRAP();
-L_copy_from_slice_pkcs1_c_exit1341_i:;
+L_copy_from_slice_pkcs1_c_exit1358_i:;
     v_start1_i70_i_i_i_i_i_i_i_i_i = (u64)((u64)(v_writer_sroa_174_11_i) + (u64)(18446744073709551610ull));
     v_270 = v_out + (int64_t)(v_start1_i70_i_i_i_i_i_i_i_i_i);
     put_u8(v_270, 2u);
@@ -23010,7 +23010,7 @@ L_copy_from_slice_pkcs1_c_exit1341_i:;
     v_35_i_i_i_i_i_i_i_i_sroa_8_0_sroa_idx_i = v_270 + 5;
     put_u8(v_35_i_i_i_i_i_i_i_i_sroa_8_0_sroa_idx_i, v_44_i_i_i_i_i_i_i_i_i);
     { p_v_writer_sroa_174_12_i = v_start1_i70_i_i_i_i_i_i_i_i_i; goto L_back_writer_BackWriter_exit_i_i_i_i_i; }
-L_bb7_i_i_i_i24_i_i_i_i_i:;
+L_bb7_i_i_i_i34_i_i_i_i_i:;
     v_274_i_i_i_i_i_i_i_i_i = (u64)((u64)(v_5_i_i_i_i_i_i_i_i) >> (u64)((16u & 63)));
     v_26_i_i_i_i_i_i_i_i_i = (u8)(v_274_i_i_i_i_i_i_i_i_i);
     v_305_i_i_i_i_i_i_i_i_i = (u64)((u64)(v_5_i_i_i_i_i_i_i_i) >> (u64)((8u & 63)));
@@ -23019,12 +23019,12 @@ L_bb7_i_i_i_i24_i_i_i_i_i:;
     v_4_i49_i_i_i_i_i_i_i_i_i = v_writer_sroa_174_11_i < 5u;
     if (v_4_i49_i_i_i_i_i_i_i_i_i) { p_v_writer_sroa_174_12_i = v_writer_sroa_174_11_i; goto L_back_writer_BackWriter_exit_i_i_i_i_i; } else { goto L_bb2_i50_i_i_i_i_i_i_i_i_i; }
 L_bb2_i50_i_i_i_i_i_i_i_i_i:;
-    v_10_not_i52_i_i_i_i_i_i_i_i_i = v_writer_sroa_174_11_i > v_encoding_sroa_0_0_i14_i2020_i;
-    if (v_10_not_i52_i_i_i_i_i_i_i_i_i) { goto L_bb7_i62_i_i_i_i_i_i_i_i_i; } else { goto L_copy_from_slice_pkcs1_c_exit1345_i; }
+    v_10_not_i52_i_i_i_i_i_i_i_i_i = v_writer_sroa_174_11_i > v_encoding_sroa_0_0_i12_i2037_i;
+    if (v_10_not_i52_i_i_i_i_i_i_i_i_i) { goto L_bb7_i62_i_i_i_i_i_i_i_i_i; } else { goto L_copy_from_slice_pkcs1_c_exit1362_i; }
 L_bb7_i62_i_i_i_i_i_i_i_i_i:;
     TRAP();
     TRAP();
-L_copy_from_slice_pkcs1_c_exit1345_i:;
+L_copy_from_slice_pkcs1_c_exit1362_i:;
     v_start1_i51_i_i_i_i_i_i_i_i_i = (u64)((u64)(v_writer_sroa_174_11_i) + (u64)(18446744073709551611ull));
     v_271 = v_out + (int64_t)(v_start1_i51_i_i_i_i_i_i_i_i_i);
     put_u8(v_271, 2u);
@@ -23039,58 +23039,58 @@ L_copy_from_slice_pkcs1_c_exit1345_i:;
     { p_v_writer_sroa_174_12_i = v_start1_i51_i_i_i_i_i_i_i_i_i; goto L_back_writer_BackWriter_exit_i_i_i_i_i; }
 L_back_writer_BackWriter_exit_i_i_i_i_i:;
     v_writer_sroa_174_12_i = p_v_writer_sroa_174_12_i;
-    v_4_i_i8_i_i_i_i_i_i = v_18_sroa_7_0_i_ph > v_writer_sroa_174_12_i;
-    if (v_4_i_i8_i_i_i_i_i_i) { p_v_0_sroa_0_0_i_i19_i_i_i_i_i_i = v_writer_sroa_174_12_i; goto L_bb2_i_i_i15_i_i_i; } else { goto L_bb2_i_i9_i_i_i_i_i_i; }
-L_bb2_i_i9_i_i_i_i_i_i:;
-    v_10_not_i_i11_i_i_i_i_i_i = v_writer_sroa_174_12_i > v_encoding_sroa_0_0_i14_i2020_i;
-    if (v_10_not_i_i11_i_i_i_i_i_i) { goto L_bb7_i_i21_i_i_i_i_i_i; } else { goto L_copy_from_slice_pkcs1_c_exit1349_i; }
-L_bb7_i_i21_i_i_i_i_i_i:;
+    v_4_i_i8_i_i_i_i_i_i_i = v_18_sroa_7_0_i_ph > v_writer_sroa_174_12_i;
+    if (v_4_i_i8_i_i_i_i_i_i_i) { p_v_0_sroa_0_0_i_i19_i_i_i_i_i_i_i = v_writer_sroa_174_12_i; goto L_bb2_i_i_i27_i_i_i_i; } else { goto L_bb2_i_i9_i_i_i_i_i_i_i; }
+L_bb2_i_i9_i_i_i_i_i_i_i:;
+    v_10_not_i_i11_i_i_i_i_i_i_i = v_writer_sroa_174_12_i > v_encoding_sroa_0_0_i12_i2037_i;
+    if (v_10_not_i_i11_i_i_i_i_i_i_i) { goto L_bb7_i_i21_i_i_i_i_i_i_i; } else { goto L_copy_from_slice_pkcs1_c_exit1366_i; }
+L_bb7_i_i21_i_i_i_i_i_i_i:;
     TRAP();
     TRAP();
-L_copy_from_slice_pkcs1_c_exit1349_i:;
-    v_start1_i_i10_i_i_i_i_i_i = (u64)((u64)(v_writer_sroa_174_12_i) - (u64)(v_18_sroa_7_0_i_ph));
-    v_272 = v_out + (int64_t)(v_start1_i_i10_i_i_i_i_i_i);
+L_copy_from_slice_pkcs1_c_exit1366_i:;
+    v_start1_i_i10_i_i_i_i_i_i_i = (u64)((u64)(v_writer_sroa_174_12_i) - (u64)(v_18_sroa_7_0_i_ph));
+    v_272 = v_out + (int64_t)(v_start1_i_i10_i_i_i_i_i_i_i);
     copy(v_272, v_18_sroa_0_0_i_ph, v_18_sroa_7_0_i_ph);
-    { p_v_0_sroa_0_0_i_i19_i_i_i_i_i_i = v_start1_i_i10_i_i_i_i_i_i; goto L_bb2_i_i_i15_i_i_i; }
-L_bb2_i_i_i15_i_i_i:;
-    v_0_sroa_0_0_i_i19_i_i_i_i_i_i = p_v_0_sroa_0_0_i_i19_i_i_i_i_i_i;
-    v_5_i_i18_i_i_i_i = get_u8(v_18_sroa_0_0_i_ph);
-    v_4_i3_i_i_i_i_i = (u8)(v_5_i_i18_i_i_i_i ^ ((u8)1 << 7)) < (u8)(0u ^ ((u8)1 << 7));
-    if (v_4_i3_i_i_i_i_i) { goto L_bb3_i_i_i36_i_i_i; } else { p_v_writer_sroa_174_13_i = v_0_sroa_0_0_i_i19_i_i_i_i_i_i; goto L_back_writer_BackWriter_exit_i_i_i_i_i__2; }
-L_bb3_i_i_i36_i_i_i:;
-    v_4_i_i_i6_i_i_i_i_i = v_0_sroa_0_0_i_i19_i_i_i_i_i_i == 0u;
-    if (v_4_i_i_i6_i_i_i_i_i) { p_v_writer_sroa_174_14_i = 0u; goto L_back_writer_BackWriter_exit_i_i_i_i__2; } else { goto L_bb2_i_i_i7_i_i_i_i_i; }
-L_bb2_i_i_i7_i_i_i_i_i:;
-    v_10_not_i_i_i_i28_i_i_i_i = v_0_sroa_0_0_i_i19_i_i_i_i_i_i > v_encoding_sroa_0_0_i14_i2020_i;
-    if (v_10_not_i_i_i_i28_i_i_i_i) { goto L_bb7_i_i_i10_i_i_i_i_i; } else { goto L_copy_from_slice_pkcs1_c_exit1353_i; }
-L_bb7_i_i_i10_i_i_i_i_i:;
+    { p_v_0_sroa_0_0_i_i19_i_i_i_i_i_i_i = v_start1_i_i10_i_i_i_i_i_i_i; goto L_bb2_i_i_i27_i_i_i_i; }
+L_bb2_i_i_i27_i_i_i_i:;
+    v_0_sroa_0_0_i_i19_i_i_i_i_i_i_i = p_v_0_sroa_0_0_i_i19_i_i_i_i_i_i_i;
+    v_5_i_i5_i_i_i_i_i = get_u8(v_18_sroa_0_0_i_ph);
+    v_4_i_i6_i_i_i_i_i = (u8)(v_5_i_i5_i_i_i_i_i ^ ((u8)1 << 7)) < (u8)(0u ^ ((u8)1 << 7));
+    if (v_4_i_i6_i_i_i_i_i) { goto L_bb3_i_i_i36_i_i_i_i; } else { p_v_writer_sroa_174_13_i = v_0_sroa_0_0_i_i19_i_i_i_i_i_i_i; goto L_back_writer_BackWriter_exit_i_i_i_i_i__2; }
+L_bb3_i_i_i36_i_i_i_i:;
+    v_4_i_i_i_i8_i_i_i_i_i = v_0_sroa_0_0_i_i19_i_i_i_i_i_i_i == 0u;
+    if (v_4_i_i_i_i8_i_i_i_i_i) { p_v_writer_sroa_174_14_i = 0u; goto L_back_writer_BackWriter_exit_i_i_i_i__2; } else { goto L_bb2_i_i_i_i9_i_i_i_i_i; }
+L_bb2_i_i_i_i9_i_i_i_i_i:;
+    v_10_not_i_i_i_i11_i_i_i_i_i = v_0_sroa_0_0_i_i19_i_i_i_i_i_i_i > v_encoding_sroa_0_0_i12_i2037_i;
+    if (v_10_not_i_i_i_i11_i_i_i_i_i) { goto L_bb7_i_i_i_i21_i_i_i_i_i; } else { goto L_copy_from_slice_pkcs1_c_exit1370_i; }
+L_bb7_i_i_i_i21_i_i_i_i_i:;
     TRAP();
     TRAP();
-L_copy_from_slice_pkcs1_c_exit1353_i:;
-    v_start1_i_i_i_i27_i_i_i_i = (u64)((u64)(v_0_sroa_0_0_i_i19_i_i_i_i_i_i) + (u64)(18446744073709551615ull));
-    v_273 = v_out + (int64_t)(v_start1_i_i_i_i27_i_i_i_i);
+L_copy_from_slice_pkcs1_c_exit1370_i:;
+    v_start1_i_i_i_i10_i_i_i_i_i = (u64)((u64)(v_0_sroa_0_0_i_i19_i_i_i_i_i_i_i) + (u64)(18446744073709551615ull));
+    v_273 = v_out + (int64_t)(v_start1_i_i_i_i10_i_i_i_i_i);
     put_u8(v_273, 0u);
-    { p_v_writer_sroa_174_13_i = v_start1_i_i_i_i27_i_i_i_i; goto L_back_writer_BackWriter_exit_i_i_i_i_i__2; }
+    { p_v_writer_sroa_174_13_i = v_start1_i_i_i_i10_i_i_i_i_i; goto L_back_writer_BackWriter_exit_i_i_i_i_i__2; }
 L_back_writer_BackWriter_exit_i_i_i_i_i__2:;
     v_writer_sroa_174_13_i = p_v_writer_sroa_174_13_i;
     v_5_i_i_i_i_i_i_i = (u64)((u64)(v_writer_sroa_174_12_i) - (u64)(v_writer_sroa_174_13_i));
-    v_13_i_i_i20_i_i_i_i = (u32)(v_5_i_i_i_i_i_i_i);
-    v_4_i_i_i_i21_i_i_i_i = v_13_i_i_i20_i_i_i_i < 128u;
-    if (v_4_i_i_i_i21_i_i_i_i) { goto L_bb1_i_i_i_i_i_i_i_i; } else { goto L_bb2_i_i_i_i22_i_i_i_i; }
-L_bb2_i_i_i_i22_i_i_i_i:;
-    v_9_i_i_i_i23_i_i_i_i = v_13_i_i_i20_i_i_i_i < 256u;
-    if (v_9_i_i_i_i23_i_i_i_i) { goto L_bb3_i_i_i_i_i_i_i_i; } else { goto L_bb4_i_i_i_i_i_i_i_i; }
+    v_13_i_i_i29_i_i_i_i = (u32)(v_5_i_i_i_i_i_i_i);
+    v_4_i_i_i_i30_i_i_i_i = v_13_i_i_i29_i_i_i_i < 128u;
+    if (v_4_i_i_i_i30_i_i_i_i) { goto L_bb1_i_i_i_i_i_i_i_i; } else { goto L_bb2_i_i_i_i31_i_i_i_i; }
+L_bb2_i_i_i_i31_i_i_i_i:;
+    v_9_i_i_i_i32_i_i_i_i = v_13_i_i_i29_i_i_i_i < 256u;
+    if (v_9_i_i_i_i32_i_i_i_i) { goto L_bb3_i_i_i_i_i_i_i_i; } else { goto L_bb4_i_i_i_i_i_i_i_i; }
 L_bb1_i_i_i_i_i_i_i_i:;
     v_8_i_i_i_i_i_i_i_i = (u16)(v_5_i_i_i_i_i_i_i);
     v_4_i_i_i_i_i_i_i_i_i = v_writer_sroa_174_13_i < 2u;
     if (v_4_i_i_i_i_i_i_i_i_i) { p_v_writer_sroa_174_14_i = v_writer_sroa_174_13_i; goto L_back_writer_BackWriter_exit_i_i_i_i__2; } else { goto L_bb2_i_i_i_i_i_i_i_i_i; }
 L_bb2_i_i_i_i_i_i_i_i_i:;
-    v_10_not_i_i_i_i_i_i_i_i_i = v_writer_sroa_174_13_i > v_encoding_sroa_0_0_i14_i2020_i;
-    if (v_10_not_i_i_i_i_i_i_i_i_i) { goto L_bb7_i_i_i_i_i_i_i_i_i; } else { goto L_copy_from_slice_pkcs1_c_exit1357_i; }
+    v_10_not_i_i_i_i_i_i_i_i_i = v_writer_sroa_174_13_i > v_encoding_sroa_0_0_i12_i2037_i;
+    if (v_10_not_i_i_i_i_i_i_i_i_i) { goto L_bb7_i_i_i_i_i_i_i_i_i; } else { goto L_copy_from_slice_pkcs1_c_exit1374_i; }
 L_bb7_i_i_i_i_i_i_i_i_i:;
     TRAP();
     TRAP();
-L_copy_from_slice_pkcs1_c_exit1357_i:;
+L_copy_from_slice_pkcs1_c_exit1374_i:;
     v_start1_i_i_i_i_i_i_i_i_i = (u64)((u64)(v_writer_sroa_174_13_i) + (u64)(18446744073709551614ull));
     v_274 = v_out + (int64_t)(v_start1_i_i_i_i_i_i_i_i_i);
     v_7_i_i_i_i_i_i_i_sroa_0_sroa_4_0_insert_shift_i = (u16)((u32)(v_8_i_i_i_i_i_i_i_i) << (u32)((8u & 31)));
@@ -23098,47 +23098,47 @@ L_copy_from_slice_pkcs1_c_exit1357_i:;
     put_u16(v_274, v_7_i_i_i_i_i_i_i_sroa_0_sroa_0_0_insert_insert_i);
     { p_v_writer_sroa_174_14_i = v_start1_i_i_i_i_i_i_i_i_i; goto L_back_writer_BackWriter_exit_i_i_i_i__2; }
 L_bb4_i_i_i_i_i_i_i_i:;
-    v_14_i_i_i_i_i_i_i_i = v_13_i_i_i20_i_i_i_i < 65536u;
-    if (v_14_i_i_i_i_i_i_i_i) { goto L_bb5_i_i_i_i26_i_i_i_i; } else { goto L_bb6_i_i_i_i_i_i_i_i; }
+    v_14_i_i_i_i_i_i_i_i = v_13_i_i_i29_i_i_i_i < 65536u;
+    if (v_14_i_i_i_i_i_i_i_i) { goto L_bb5_i_i_i_i35_i_i_i_i; } else { goto L_bb6_i_i_i_i_i_i_i_i; }
 L_bb3_i_i_i_i_i_i_i_i:;
     v_13_i_i_i_i_i_i_i_i = (u8)(v_5_i_i_i_i_i_i_i);
     v_4_i11_i_i_i_i_i_i_i_i = v_writer_sroa_174_13_i < 3u;
     if (v_4_i11_i_i_i_i_i_i_i_i) { p_v_writer_sroa_174_14_i = v_writer_sroa_174_13_i; goto L_back_writer_BackWriter_exit_i_i_i_i__2; } else { goto L_bb2_i12_i_i_i_i_i_i_i_i; }
 L_bb2_i12_i_i_i_i_i_i_i_i:;
-    v_10_not_i14_i_i_i_i_i_i_i_i = v_writer_sroa_174_13_i > v_encoding_sroa_0_0_i14_i2020_i;
-    if (v_10_not_i14_i_i_i_i_i_i_i_i) { goto L_bb7_i24_i_i_i_i_i_i_i_i; } else { goto L_copy_from_slice_pkcs1_c_exit1361_i; }
+    v_10_not_i14_i_i_i_i_i_i_i_i = v_writer_sroa_174_13_i > v_encoding_sroa_0_0_i12_i2037_i;
+    if (v_10_not_i14_i_i_i_i_i_i_i_i) { goto L_bb7_i24_i_i_i_i_i_i_i_i; } else { goto L_copy_from_slice_pkcs1_c_exit1378_i; }
 L_bb7_i24_i_i_i_i_i_i_i_i:;
     TRAP();
     TRAP();
-L_copy_from_slice_pkcs1_c_exit1361_i:;
+L_copy_from_slice_pkcs1_c_exit1378_i:;
     v_start1_i13_i_i_i_i_i_i_i_i = (u64)((u64)(v_writer_sroa_174_13_i) + (u64)(18446744073709551613ull));
     v_275 = v_out + (int64_t)(v_start1_i13_i_i_i_i_i_i_i_i);
     put_u8(v_275, 2u);
-    v_12_i_i_i_i13_i_i_i_sroa_4_0_sroa_idx_i = v_275 + 1;
-    put_u8(v_12_i_i_i_i13_i_i_i_sroa_4_0_sroa_idx_i, 129u);
-    v_12_i_i_i_i13_i_i_i_sroa_5_0_sroa_idx_i = v_275 + 2;
-    put_u8(v_12_i_i_i_i13_i_i_i_sroa_5_0_sroa_idx_i, v_13_i_i_i_i_i_i_i_i);
+    v_12_i_i_i_i22_i_i_i_sroa_4_0_sroa_idx_i = v_275 + 1;
+    put_u8(v_12_i_i_i_i22_i_i_i_sroa_4_0_sroa_idx_i, 129u);
+    v_12_i_i_i_i22_i_i_i_sroa_5_0_sroa_idx_i = v_275 + 2;
+    put_u8(v_12_i_i_i_i22_i_i_i_sroa_5_0_sroa_idx_i, v_13_i_i_i_i_i_i_i_i);
     { p_v_writer_sroa_174_14_i = v_start1_i13_i_i_i_i_i_i_i_i; goto L_back_writer_BackWriter_exit_i_i_i_i__2; }
 L_bb6_i_i_i_i_i_i_i_i:;
-    v_22_i_i_i_i_i_i_i_i = v_13_i_i_i20_i_i_i_i < 16777216u;
-    if (v_22_i_i_i_i_i_i_i_i) { goto L_bb7_i_i_i_i25_i_i_i_i; } else { goto L_bb8_i_i_i_i24_i_i_i_i; }
-L_bb5_i_i_i_i26_i_i_i_i:;
+    v_22_i_i_i_i_i_i_i_i = v_13_i_i_i29_i_i_i_i < 16777216u;
+    if (v_22_i_i_i_i_i_i_i_i) { goto L_bb7_i_i_i_i34_i_i_i_i; } else { goto L_bb8_i_i_i_i33_i_i_i_i; }
+L_bb5_i_i_i_i35_i_i_i_i:;
     v_4_i30_i_i_i_i_i_i_i_i = v_writer_sroa_174_13_i < 4u;
     if (v_4_i30_i_i_i_i_i_i_i_i) { p_v_writer_sroa_174_14_i = v_writer_sroa_174_13_i; goto L_back_writer_BackWriter_exit_i_i_i_i__2; } else { goto L_bb2_i31_i_i_i_i_i_i_i_i; }
 L_bb2_i31_i_i_i_i_i_i_i_i:;
-    v_10_not_i33_i_i_i_i_i_i_i_i = v_writer_sroa_174_13_i > v_encoding_sroa_0_0_i14_i2020_i;
-    if (v_10_not_i33_i_i_i_i_i_i_i_i) { goto L_bb7_i43_i_i_i_i_i_i_i_i; } else { goto L_copy_from_slice_pkcs1_c_exit1365_i; }
+    v_10_not_i33_i_i_i_i_i_i_i_i = v_writer_sroa_174_13_i > v_encoding_sroa_0_0_i12_i2037_i;
+    if (v_10_not_i33_i_i_i_i_i_i_i_i) { goto L_bb7_i43_i_i_i_i_i_i_i_i; } else { goto L_copy_from_slice_pkcs1_c_exit1382_i; }
 L_bb7_i43_i_i_i_i_i_i_i_i:;
     TRAP();
     TRAP();
-L_copy_from_slice_pkcs1_c_exit1365_i:;
+L_copy_from_slice_pkcs1_c_exit1382_i:;
     v_start1_i32_i_i_i_i_i_i_i_i = (u64)((u64)(v_writer_sroa_174_13_i) + (u64)(18446744073709551612ull));
     v_276 = v_out + (int64_t)(v_start1_i32_i_i_i_i_i_i_i_i);
-    v_277 = (u32)((u32)(v_13_i_i_i20_i_i_i_i) | (u32)(42074112u));
+    v_277 = (u32)((u32)(v_13_i_i_i29_i_i_i_i) | (u32)(42074112u));
     v_17_i_i_i_i_i_i_i_sroa_0_sroa_0_0_insert_insert_i = TURNED(32, v_277);
     put_u32(v_276, v_17_i_i_i_i_i_i_i_sroa_0_sroa_0_0_insert_insert_i);
     { p_v_writer_sroa_174_14_i = v_start1_i32_i_i_i_i_i_i_i_i; goto L_back_writer_BackWriter_exit_i_i_i_i__2; }
-L_bb8_i_i_i_i24_i_i_i_i:;
+L_bb8_i_i_i_i33_i_i_i_i:;
     v_371_i_i_i_i_i_i_i_i = (u64)((u64)(v_5_i_i_i_i_i_i_i) >> (u64)((24u & 63)));
     v_36_i_i_i_i_i_i_i_i = (u8)(v_371_i_i_i_i_i_i_i_i);
     v_402_i_i_i_i_i_i_i_i = (u64)((u64)(v_5_i_i_i_i_i_i_i) >> (u64)((16u & 63)));
@@ -23149,12 +23149,12 @@ L_bb8_i_i_i_i24_i_i_i_i:;
     v_4_i68_i_i_i_i_i_i_i_i = v_writer_sroa_174_13_i < 6u;
     if (v_4_i68_i_i_i_i_i_i_i_i) { p_v_writer_sroa_174_14_i = v_writer_sroa_174_13_i; goto L_back_writer_BackWriter_exit_i_i_i_i__2; } else { goto L_bb2_i69_i_i_i_i_i_i_i_i; }
 L_bb2_i69_i_i_i_i_i_i_i_i:;
-    v_10_not_i71_i_i_i_i_i_i_i_i = v_writer_sroa_174_13_i > v_encoding_sroa_0_0_i14_i2020_i;
-    if (v_10_not_i71_i_i_i_i_i_i_i_i) { goto L_bb7_i81_i_i_i_i_i_i_i_i; } else { goto L_copy_from_slice_pkcs1_c_exit1369_i; }
+    v_10_not_i71_i_i_i_i_i_i_i_i = v_writer_sroa_174_13_i > v_encoding_sroa_0_0_i12_i2037_i;
+    if (v_10_not_i71_i_i_i_i_i_i_i_i) { goto L_bb7_i81_i_i_i_i_i_i_i_i; } else { goto L_copy_from_slice_pkcs1_c_exit1386_i; }
 L_bb7_i81_i_i_i_i_i_i_i_i:;
     TRAP();
     TRAP();
-L_copy_from_slice_pkcs1_c_exit1369_i:;
+L_copy_from_slice_pkcs1_c_exit1386_i:;
     v_start1_i70_i_i_i_i_i_i_i_i = (u64)((u64)(v_writer_sroa_174_13_i) + (u64)(18446744073709551610ull));
     v_278 = v_out + (int64_t)(v_start1_i70_i_i_i_i_i_i_i_i);
     put_u8(v_278, 2u);
@@ -23169,7 +23169,7 @@ L_copy_from_slice_pkcs1_c_exit1369_i:;
     v_35_i_i_i_i_i_i_i_sroa_8_0_sroa_idx_i = v_278 + 5;
     put_u8(v_35_i_i_i_i_i_i_i_sroa_8_0_sroa_idx_i, v_44_i_i_i_i_i_i_i_i);
     { p_v_writer_sroa_174_14_i = v_start1_i70_i_i_i_i_i_i_i_i; goto L_back_writer_BackWriter_exit_i_i_i_i__2; }
-L_bb7_i_i_i_i25_i_i_i_i:;
+L_bb7_i_i_i_i34_i_i_i_i:;
     v_274_i_i_i_i_i_i_i_i = (u64)((u64)(v_5_i_i_i_i_i_i_i) >> (u64)((16u & 63)));
     v_26_i_i_i_i_i_i_i_i = (u8)(v_274_i_i_i_i_i_i_i_i);
     v_305_i_i_i_i_i_i_i_i = (u64)((u64)(v_5_i_i_i_i_i_i_i) >> (u64)((8u & 63)));
@@ -23178,12 +23178,12 @@ L_bb7_i_i_i_i25_i_i_i_i:;
     v_4_i49_i_i_i_i_i_i_i_i = v_writer_sroa_174_13_i < 5u;
     if (v_4_i49_i_i_i_i_i_i_i_i) { p_v_writer_sroa_174_14_i = v_writer_sroa_174_13_i; goto L_back_writer_BackWriter_exit_i_i_i_i__2; } else { goto L_bb2_i50_i_i_i_i_i_i_i_i; }
 L_bb2_i50_i_i_i_i_i_i_i_i:;
-    v_10_not_i52_i_i_i_i_i_i_i_i = v_writer_sroa_174_13_i > v_encoding_sroa_0_0_i14_i2020_i;
-    if (v_10_not_i52_i_i_i_i_i_i_i_i) { goto L_bb7_i62_i_i_i_i_i_i_i_i; } else { goto L_copy_from_slice_pkcs1_c_exit1373_i; }
+    v_10_not_i52_i_i_i_i_i_i_i_i = v_writer_sroa_174_13_i > v_encoding_sroa_0_0_i12_i2037_i;
+    if (v_10_not_i52_i_i_i_i_i_i_i_i) { goto L_bb7_i62_i_i_i_i_i_i_i_i; } else { goto L_copy_from_slice_pkcs1_c_exit1390_i; }
 L_bb7_i62_i_i_i_i_i_i_i_i:;
     TRAP();
     TRAP();
-L_copy_from_slice_pkcs1_c_exit1373_i:;
+L_copy_from_slice_pkcs1_c_exit1390_i:;
     v_start1_i51_i_i_i_i_i_i_i_i = (u64)((u64)(v_writer_sroa_174_13_i) + (u64)(18446744073709551611ull));
     v_279 = v_out + (int64_t)(v_start1_i51_i_i_i_i_i_i_i_i);
     put_u8(v_279, 2u);
@@ -23198,58 +23198,58 @@ L_copy_from_slice_pkcs1_c_exit1373_i:;
     { p_v_writer_sroa_174_14_i = v_start1_i51_i_i_i_i_i_i_i_i; goto L_back_writer_BackWriter_exit_i_i_i_i__2; }
 L_back_writer_BackWriter_exit_i_i_i_i__2:;
     v_writer_sroa_174_14_i = p_v_writer_sroa_174_14_i;
-    v_4_i_i8_i_i_i_i_i = v_14_sroa_7_0_i_ph > v_writer_sroa_174_14_i;
-    if (v_4_i_i8_i_i_i_i_i) { p_v_0_sroa_0_0_i_i19_i_i_i_i_i = v_writer_sroa_174_14_i; goto L_bb2_i_i_i15_i_i; } else { goto L_bb2_i_i9_i_i_i_i_i; }
-L_bb2_i_i9_i_i_i_i_i:;
-    v_10_not_i_i11_i_i_i_i_i = v_writer_sroa_174_14_i > v_encoding_sroa_0_0_i14_i2020_i;
-    if (v_10_not_i_i11_i_i_i_i_i) { goto L_bb7_i_i21_i_i_i_i_i; } else { goto L_copy_from_slice_pkcs1_c_exit1377_i; }
-L_bb7_i_i21_i_i_i_i_i:;
+    v_4_i_i8_i_i_i_i_i_i = v_14_sroa_7_0_i_ph > v_writer_sroa_174_14_i;
+    if (v_4_i_i8_i_i_i_i_i_i) { p_v_0_sroa_0_0_i_i19_i_i_i_i_i_i = v_writer_sroa_174_14_i; goto L_bb2_i_i_i27_i_i_i; } else { goto L_bb2_i_i9_i_i_i_i_i_i; }
+L_bb2_i_i9_i_i_i_i_i_i:;
+    v_10_not_i_i11_i_i_i_i_i_i = v_writer_sroa_174_14_i > v_encoding_sroa_0_0_i12_i2037_i;
+    if (v_10_not_i_i11_i_i_i_i_i_i) { goto L_bb7_i_i21_i_i_i_i_i_i; } else { goto L_copy_from_slice_pkcs1_c_exit1394_i; }
+L_bb7_i_i21_i_i_i_i_i_i:;
     TRAP();
     TRAP();
-L_copy_from_slice_pkcs1_c_exit1377_i:;
-    v_start1_i_i10_i_i_i_i_i = (u64)((u64)(v_writer_sroa_174_14_i) - (u64)(v_14_sroa_7_0_i_ph));
-    v_280 = v_out + (int64_t)(v_start1_i_i10_i_i_i_i_i);
+L_copy_from_slice_pkcs1_c_exit1394_i:;
+    v_start1_i_i10_i_i_i_i_i_i = (u64)((u64)(v_writer_sroa_174_14_i) - (u64)(v_14_sroa_7_0_i_ph));
+    v_280 = v_out + (int64_t)(v_start1_i_i10_i_i_i_i_i_i);
     copy(v_280, v_14_sroa_0_0_i_ph, v_14_sroa_7_0_i_ph);
-    { p_v_0_sroa_0_0_i_i19_i_i_i_i_i = v_start1_i_i10_i_i_i_i_i; goto L_bb2_i_i_i15_i_i; }
-L_bb2_i_i_i15_i_i:;
-    v_0_sroa_0_0_i_i19_i_i_i_i_i = p_v_0_sroa_0_0_i_i19_i_i_i_i_i;
-    v_5_i_i18_i_i_i = get_u8(v_14_sroa_0_0_i_ph);
-    v_4_i3_i_i_i_i = (u8)(v_5_i_i18_i_i_i ^ ((u8)1 << 7)) < (u8)(0u ^ ((u8)1 << 7));
-    if (v_4_i3_i_i_i_i) { goto L_bb3_i_i_i36_i_i; } else { p_v_writer_sroa_174_15_i = v_0_sroa_0_0_i_i19_i_i_i_i_i; goto L_back_writer_BackWriter_exit_i_i_i_i__3; }
-L_bb3_i_i_i36_i_i:;
-    v_4_i_i_i6_i_i_i_i = v_0_sroa_0_0_i_i19_i_i_i_i_i == 0u;
-    if (v_4_i_i_i6_i_i_i_i) { p_v_writer_sroa_174_16_i = 0u; goto L_back_writer_BackWriter_exit_i_i_i__5; } else { goto L_bb2_i_i_i7_i_i_i_i; }
-L_bb2_i_i_i7_i_i_i_i:;
-    v_10_not_i_i_i_i28_i_i_i = v_0_sroa_0_0_i_i19_i_i_i_i_i > v_encoding_sroa_0_0_i14_i2020_i;
-    if (v_10_not_i_i_i_i28_i_i_i) { goto L_bb7_i_i_i10_i_i_i_i; } else { goto L_copy_from_slice_pkcs1_c_exit1381_i; }
-L_bb7_i_i_i10_i_i_i_i:;
+    { p_v_0_sroa_0_0_i_i19_i_i_i_i_i_i = v_start1_i_i10_i_i_i_i_i_i; goto L_bb2_i_i_i27_i_i_i; }
+L_bb2_i_i_i27_i_i_i:;
+    v_0_sroa_0_0_i_i19_i_i_i_i_i_i = p_v_0_sroa_0_0_i_i19_i_i_i_i_i_i;
+    v_5_i_i5_i_i_i_i = get_u8(v_14_sroa_0_0_i_ph);
+    v_4_i_i6_i_i_i_i = (u8)(v_5_i_i5_i_i_i_i ^ ((u8)1 << 7)) < (u8)(0u ^ ((u8)1 << 7));
+    if (v_4_i_i6_i_i_i_i) { goto L_bb3_i_i_i36_i_i_i; } else { p_v_writer_sroa_174_15_i = v_0_sroa_0_0_i_i19_i_i_i_i_i_i; goto L_back_writer_BackWriter_exit_i_i_i_i__3; }
+L_bb3_i_i_i36_i_i_i:;
+    v_4_i_i_i_i8_i_i_i_i = v_0_sroa_0_0_i_i19_i_i_i_i_i_i == 0u;
+    if (v_4_i_i_i_i8_i_i_i_i) { p_v_writer_sroa_174_16_i = 0u; goto L_back_writer_BackWriter_exit_i_i_i__5; } else { goto L_bb2_i_i_i_i9_i_i_i_i; }
+L_bb2_i_i_i_i9_i_i_i_i:;
+    v_10_not_i_i_i_i11_i_i_i_i = v_0_sroa_0_0_i_i19_i_i_i_i_i_i > v_encoding_sroa_0_0_i12_i2037_i;
+    if (v_10_not_i_i_i_i11_i_i_i_i) { goto L_bb7_i_i_i_i21_i_i_i_i; } else { goto L_copy_from_slice_pkcs1_c_exit1398_i; }
+L_bb7_i_i_i_i21_i_i_i_i:;
     TRAP();
     TRAP();
-L_copy_from_slice_pkcs1_c_exit1381_i:;
-    v_start1_i_i_i_i27_i_i_i = (u64)((u64)(v_0_sroa_0_0_i_i19_i_i_i_i_i) + (u64)(18446744073709551615ull));
-    v_281 = v_out + (int64_t)(v_start1_i_i_i_i27_i_i_i);
+L_copy_from_slice_pkcs1_c_exit1398_i:;
+    v_start1_i_i_i_i10_i_i_i_i = (u64)((u64)(v_0_sroa_0_0_i_i19_i_i_i_i_i_i) + (u64)(18446744073709551615ull));
+    v_281 = v_out + (int64_t)(v_start1_i_i_i_i10_i_i_i_i);
     put_u8(v_281, 0u);
-    { p_v_writer_sroa_174_15_i = v_start1_i_i_i_i27_i_i_i; goto L_back_writer_BackWriter_exit_i_i_i_i__3; }
+    { p_v_writer_sroa_174_15_i = v_start1_i_i_i_i10_i_i_i_i; goto L_back_writer_BackWriter_exit_i_i_i_i__3; }
 L_back_writer_BackWriter_exit_i_i_i_i__3:;
     v_writer_sroa_174_15_i = p_v_writer_sroa_174_15_i;
     v_5_i_i_i_i_i_i = (u64)((u64)(v_writer_sroa_174_14_i) - (u64)(v_writer_sroa_174_15_i));
-    v_13_i_i_i20_i_i_i = (u32)(v_5_i_i_i_i_i_i);
-    v_4_i_i_i_i21_i_i_i = v_13_i_i_i20_i_i_i < 128u;
-    if (v_4_i_i_i_i21_i_i_i) { goto L_bb1_i_i_i_i_i_i_i; } else { goto L_bb2_i_i_i_i22_i_i_i; }
-L_bb2_i_i_i_i22_i_i_i:;
-    v_9_i_i_i_i23_i_i_i = v_13_i_i_i20_i_i_i < 256u;
-    if (v_9_i_i_i_i23_i_i_i) { goto L_bb3_i_i_i_i_i_i_i; } else { goto L_bb4_i_i_i_i_i_i_i; }
+    v_13_i_i_i29_i_i_i = (u32)(v_5_i_i_i_i_i_i);
+    v_4_i_i_i_i30_i_i_i = v_13_i_i_i29_i_i_i < 128u;
+    if (v_4_i_i_i_i30_i_i_i) { goto L_bb1_i_i_i_i_i_i_i; } else { goto L_bb2_i_i_i_i31_i_i_i; }
+L_bb2_i_i_i_i31_i_i_i:;
+    v_9_i_i_i_i32_i_i_i = v_13_i_i_i29_i_i_i < 256u;
+    if (v_9_i_i_i_i32_i_i_i) { goto L_bb3_i_i_i_i_i_i_i; } else { goto L_bb4_i_i_i_i_i_i_i; }
 L_bb1_i_i_i_i_i_i_i:;
     v_8_i_i_i_i_i_i_i = (u16)(v_5_i_i_i_i_i_i);
     v_4_i_i_i_i_i_i_i_i = v_writer_sroa_174_15_i < 2u;
     if (v_4_i_i_i_i_i_i_i_i) { p_v_writer_sroa_174_16_i = v_writer_sroa_174_15_i; goto L_back_writer_BackWriter_exit_i_i_i__5; } else { goto L_bb2_i_i_i_i_i_i_i_i; }
 L_bb2_i_i_i_i_i_i_i_i:;
-    v_10_not_i_i_i_i_i_i_i_i = v_writer_sroa_174_15_i > v_encoding_sroa_0_0_i14_i2020_i;
-    if (v_10_not_i_i_i_i_i_i_i_i) { goto L_bb7_i_i_i_i_i_i_i_i; } else { goto L_copy_from_slice_pkcs1_c_exit1385_i; }
+    v_10_not_i_i_i_i_i_i_i_i = v_writer_sroa_174_15_i > v_encoding_sroa_0_0_i12_i2037_i;
+    if (v_10_not_i_i_i_i_i_i_i_i) { goto L_bb7_i_i_i_i_i_i_i_i; } else { goto L_copy_from_slice_pkcs1_c_exit1402_i; }
 L_bb7_i_i_i_i_i_i_i_i:;
     TRAP();
     TRAP();
-L_copy_from_slice_pkcs1_c_exit1385_i:;
+L_copy_from_slice_pkcs1_c_exit1402_i:;
     v_start1_i_i_i_i_i_i_i_i = (u64)((u64)(v_writer_sroa_174_15_i) + (u64)(18446744073709551614ull));
     v_282 = v_out + (int64_t)(v_start1_i_i_i_i_i_i_i_i);
     v_7_i_i_i_i_i_i_sroa_0_sroa_4_0_insert_shift_i = (u16)((u32)(v_8_i_i_i_i_i_i_i) << (u32)((8u & 31)));
@@ -23257,47 +23257,47 @@ L_copy_from_slice_pkcs1_c_exit1385_i:;
     put_u16(v_282, v_7_i_i_i_i_i_i_sroa_0_sroa_0_0_insert_insert_i);
     { p_v_writer_sroa_174_16_i = v_start1_i_i_i_i_i_i_i_i; goto L_back_writer_BackWriter_exit_i_i_i__5; }
 L_bb4_i_i_i_i_i_i_i:;
-    v_14_i_i_i_i_i_i_i = v_13_i_i_i20_i_i_i < 65536u;
-    if (v_14_i_i_i_i_i_i_i) { goto L_bb5_i_i_i_i26_i_i_i; } else { goto L_bb6_i_i_i_i_i_i_i; }
+    v_14_i_i_i_i_i_i_i = v_13_i_i_i29_i_i_i < 65536u;
+    if (v_14_i_i_i_i_i_i_i) { goto L_bb5_i_i_i_i35_i_i_i; } else { goto L_bb6_i_i_i_i_i_i_i; }
 L_bb3_i_i_i_i_i_i_i:;
     v_13_i_i_i_i_i_i_i = (u8)(v_5_i_i_i_i_i_i);
     v_4_i11_i_i_i_i_i_i_i = v_writer_sroa_174_15_i < 3u;
     if (v_4_i11_i_i_i_i_i_i_i) { p_v_writer_sroa_174_16_i = v_writer_sroa_174_15_i; goto L_back_writer_BackWriter_exit_i_i_i__5; } else { goto L_bb2_i12_i_i_i_i_i_i_i; }
 L_bb2_i12_i_i_i_i_i_i_i:;
-    v_10_not_i14_i_i_i_i_i_i_i = v_writer_sroa_174_15_i > v_encoding_sroa_0_0_i14_i2020_i;
-    if (v_10_not_i14_i_i_i_i_i_i_i) { goto L_bb7_i24_i_i_i_i_i_i_i; } else { goto L_copy_from_slice_pkcs1_c_exit1389_i; }
+    v_10_not_i14_i_i_i_i_i_i_i = v_writer_sroa_174_15_i > v_encoding_sroa_0_0_i12_i2037_i;
+    if (v_10_not_i14_i_i_i_i_i_i_i) { goto L_bb7_i24_i_i_i_i_i_i_i; } else { goto L_copy_from_slice_pkcs1_c_exit1406_i; }
 L_bb7_i24_i_i_i_i_i_i_i:;
     TRAP();
     TRAP();
-L_copy_from_slice_pkcs1_c_exit1389_i:;
+L_copy_from_slice_pkcs1_c_exit1406_i:;
     v_start1_i13_i_i_i_i_i_i_i = (u64)((u64)(v_writer_sroa_174_15_i) + (u64)(18446744073709551613ull));
     v_283 = v_out + (int64_t)(v_start1_i13_i_i_i_i_i_i_i);
     put_u8(v_283, 2u);
-    v_12_i_i_i_i13_i_i_sroa_4_0_sroa_idx_i = v_283 + 1;
-    put_u8(v_12_i_i_i_i13_i_i_sroa_4_0_sroa_idx_i, 129u);
-    v_12_i_i_i_i13_i_i_sroa_5_0_sroa_idx_i = v_283 + 2;
-    put_u8(v_12_i_i_i_i13_i_i_sroa_5_0_sroa_idx_i, v_13_i_i_i_i_i_i_i);
+    v_12_i_i_i_i22_i_i_sroa_4_0_sroa_idx_i = v_283 + 1;
+    put_u8(v_12_i_i_i_i22_i_i_sroa_4_0_sroa_idx_i, 129u);
+    v_12_i_i_i_i22_i_i_sroa_5_0_sroa_idx_i = v_283 + 2;
+    put_u8(v_12_i_i_i_i22_i_i_sroa_5_0_sroa_idx_i, v_13_i_i_i_i_i_i_i);
     { p_v_writer_sroa_174_16_i = v_start1_i13_i_i_i_i_i_i_i; goto L_back_writer_BackWriter_exit_i_i_i__5; }
 L_bb6_i_i_i_i_i_i_i:;
-    v_22_i_i_i_i_i_i_i = v_13_i_i_i20_i_i_i < 16777216u;
-    if (v_22_i_i_i_i_i_i_i) { goto L_bb7_i_i_i_i25_i_i_i; } else { goto L_bb8_i_i_i_i24_i_i_i; }
-L_bb5_i_i_i_i26_i_i_i:;
+    v_22_i_i_i_i_i_i_i = v_13_i_i_i29_i_i_i < 16777216u;
+    if (v_22_i_i_i_i_i_i_i) { goto L_bb7_i_i_i_i34_i_i_i; } else { goto L_bb8_i_i_i_i33_i_i_i; }
+L_bb5_i_i_i_i35_i_i_i:;
     v_4_i30_i_i_i_i_i_i_i = v_writer_sroa_174_15_i < 4u;
     if (v_4_i30_i_i_i_i_i_i_i) { p_v_writer_sroa_174_16_i = v_writer_sroa_174_15_i; goto L_back_writer_BackWriter_exit_i_i_i__5; } else { goto L_bb2_i31_i_i_i_i_i_i_i; }
 L_bb2_i31_i_i_i_i_i_i_i:;
-    v_10_not_i33_i_i_i_i_i_i_i = v_writer_sroa_174_15_i > v_encoding_sroa_0_0_i14_i2020_i;
-    if (v_10_not_i33_i_i_i_i_i_i_i) { goto L_bb7_i43_i_i_i_i_i_i_i; } else { goto L_copy_from_slice_pkcs1_c_exit1393_i; }
+    v_10_not_i33_i_i_i_i_i_i_i = v_writer_sroa_174_15_i > v_encoding_sroa_0_0_i12_i2037_i;
+    if (v_10_not_i33_i_i_i_i_i_i_i) { goto L_bb7_i43_i_i_i_i_i_i_i; } else { goto L_copy_from_slice_pkcs1_c_exit1410_i; }
 L_bb7_i43_i_i_i_i_i_i_i:;
     TRAP();
     TRAP();
-L_copy_from_slice_pkcs1_c_exit1393_i:;
+L_copy_from_slice_pkcs1_c_exit1410_i:;
     v_start1_i32_i_i_i_i_i_i_i = (u64)((u64)(v_writer_sroa_174_15_i) + (u64)(18446744073709551612ull));
     v_284 = v_out + (int64_t)(v_start1_i32_i_i_i_i_i_i_i);
-    v_285 = (u32)((u32)(v_13_i_i_i20_i_i_i) | (u32)(42074112u));
+    v_285 = (u32)((u32)(v_13_i_i_i29_i_i_i) | (u32)(42074112u));
     v_17_i_i_i_i_i_i_sroa_0_sroa_0_0_insert_insert_i = TURNED(32, v_285);
     put_u32(v_284, v_17_i_i_i_i_i_i_sroa_0_sroa_0_0_insert_insert_i);
     { p_v_writer_sroa_174_16_i = v_start1_i32_i_i_i_i_i_i_i; goto L_back_writer_BackWriter_exit_i_i_i__5; }
-L_bb8_i_i_i_i24_i_i_i:;
+L_bb8_i_i_i_i33_i_i_i:;
     v_371_i_i_i_i_i_i_i = (u64)((u64)(v_5_i_i_i_i_i_i) >> (u64)((24u & 63)));
     v_36_i_i_i_i_i_i_i = (u8)(v_371_i_i_i_i_i_i_i);
     v_402_i_i_i_i_i_i_i = (u64)((u64)(v_5_i_i_i_i_i_i) >> (u64)((16u & 63)));
@@ -23308,12 +23308,12 @@ L_bb8_i_i_i_i24_i_i_i:;
     v_4_i68_i_i_i_i_i_i_i = v_writer_sroa_174_15_i < 6u;
     if (v_4_i68_i_i_i_i_i_i_i) { p_v_writer_sroa_174_16_i = v_writer_sroa_174_15_i; goto L_back_writer_BackWriter_exit_i_i_i__5; } else { goto L_bb2_i69_i_i_i_i_i_i_i; }
 L_bb2_i69_i_i_i_i_i_i_i:;
-    v_10_not_i71_i_i_i_i_i_i_i = v_writer_sroa_174_15_i > v_encoding_sroa_0_0_i14_i2020_i;
-    if (v_10_not_i71_i_i_i_i_i_i_i) { goto L_bb7_i81_i_i_i_i_i_i_i; } else { goto L_copy_from_slice_pkcs1_c_exit1397_i; }
+    v_10_not_i71_i_i_i_i_i_i_i = v_writer_sroa_174_15_i > v_encoding_sroa_0_0_i12_i2037_i;
+    if (v_10_not_i71_i_i_i_i_i_i_i) { goto L_bb7_i81_i_i_i_i_i_i_i; } else { goto L_copy_from_slice_pkcs1_c_exit1414_i; }
 L_bb7_i81_i_i_i_i_i_i_i:;
     TRAP();
     TRAP();
-L_copy_from_slice_pkcs1_c_exit1397_i:;
+L_copy_from_slice_pkcs1_c_exit1414_i:;
     v_start1_i70_i_i_i_i_i_i_i = (u64)((u64)(v_writer_sroa_174_15_i) + (u64)(18446744073709551610ull));
     v_286 = v_out + (int64_t)(v_start1_i70_i_i_i_i_i_i_i);
     put_u8(v_286, 2u);
@@ -23328,7 +23328,7 @@ L_copy_from_slice_pkcs1_c_exit1397_i:;
     v_35_i_i_i_i_i_i_sroa_8_0_sroa_idx_i = v_286 + 5;
     put_u8(v_35_i_i_i_i_i_i_sroa_8_0_sroa_idx_i, v_44_i_i_i_i_i_i_i);
     { p_v_writer_sroa_174_16_i = v_start1_i70_i_i_i_i_i_i_i; goto L_back_writer_BackWriter_exit_i_i_i__5; }
-L_bb7_i_i_i_i25_i_i_i:;
+L_bb7_i_i_i_i34_i_i_i:;
     v_274_i_i_i_i_i_i_i = (u64)((u64)(v_5_i_i_i_i_i_i) >> (u64)((16u & 63)));
     v_26_i_i_i_i_i_i_i = (u8)(v_274_i_i_i_i_i_i_i);
     v_305_i_i_i_i_i_i_i = (u64)((u64)(v_5_i_i_i_i_i_i) >> (u64)((8u & 63)));
@@ -23337,12 +23337,12 @@ L_bb7_i_i_i_i25_i_i_i:;
     v_4_i49_i_i_i_i_i_i_i = v_writer_sroa_174_15_i < 5u;
     if (v_4_i49_i_i_i_i_i_i_i) { p_v_writer_sroa_174_16_i = v_writer_sroa_174_15_i; goto L_back_writer_BackWriter_exit_i_i_i__5; } else { goto L_bb2_i50_i_i_i_i_i_i_i; }
 L_bb2_i50_i_i_i_i_i_i_i:;
-    v_10_not_i52_i_i_i_i_i_i_i = v_writer_sroa_174_15_i > v_encoding_sroa_0_0_i14_i2020_i;
-    if (v_10_not_i52_i_i_i_i_i_i_i) { goto L_bb7_i62_i_i_i_i_i_i_i; } else { goto L_copy_from_slice_pkcs1_c_exit1401_i; }
+    v_10_not_i52_i_i_i_i_i_i_i = v_writer_sroa_174_15_i > v_encoding_sroa_0_0_i12_i2037_i;
+    if (v_10_not_i52_i_i_i_i_i_i_i) { goto L_bb7_i62_i_i_i_i_i_i_i; } else { goto L_copy_from_slice_pkcs1_c_exit1418_i; }
 L_bb7_i62_i_i_i_i_i_i_i:;
     TRAP();
     TRAP();
-L_copy_from_slice_pkcs1_c_exit1401_i:;
+L_copy_from_slice_pkcs1_c_exit1418_i:;
     v_start1_i51_i_i_i_i_i_i_i = (u64)((u64)(v_writer_sroa_174_15_i) + (u64)(18446744073709551611ull));
     v_287 = v_out + (int64_t)(v_start1_i51_i_i_i_i_i_i_i);
     put_u8(v_287, 2u);
@@ -23357,58 +23357,58 @@ L_copy_from_slice_pkcs1_c_exit1401_i:;
     { p_v_writer_sroa_174_16_i = v_start1_i51_i_i_i_i_i_i_i; goto L_back_writer_BackWriter_exit_i_i_i__5; }
 L_back_writer_BackWriter_exit_i_i_i__5:;
     v_writer_sroa_174_16_i = p_v_writer_sroa_174_16_i;
-    v_4_i_i8_i_i_i_i = v_10_sroa_7_0_i_ph > v_writer_sroa_174_16_i;
-    if (v_4_i_i8_i_i_i_i) { p_v_0_sroa_0_0_i_i19_i_i_i_i = v_writer_sroa_174_16_i; goto L_bb2_i_i_i12_i; } else { goto L_bb2_i_i9_i_i_i_i; }
-L_bb2_i_i9_i_i_i_i:;
-    v_10_not_i_i11_i_i_i_i = v_writer_sroa_174_16_i > v_encoding_sroa_0_0_i14_i2020_i;
-    if (v_10_not_i_i11_i_i_i_i) { goto L_bb7_i_i21_i_i_i_i; } else { goto L_copy_from_slice_pkcs1_c_exit1405_i; }
-L_bb7_i_i21_i_i_i_i:;
+    v_4_i_i8_i_i_i_i_i = v_10_sroa_7_0_i_ph > v_writer_sroa_174_16_i;
+    if (v_4_i_i8_i_i_i_i_i) { p_v_0_sroa_0_0_i_i19_i_i_i_i_i = v_writer_sroa_174_16_i; goto L_bb2_i_i_i27_i_i; } else { goto L_bb2_i_i9_i_i_i_i_i; }
+L_bb2_i_i9_i_i_i_i_i:;
+    v_10_not_i_i11_i_i_i_i_i = v_writer_sroa_174_16_i > v_encoding_sroa_0_0_i12_i2037_i;
+    if (v_10_not_i_i11_i_i_i_i_i) { goto L_bb7_i_i21_i_i_i_i_i; } else { goto L_copy_from_slice_pkcs1_c_exit1422_i; }
+L_bb7_i_i21_i_i_i_i_i:;
     TRAP();
     TRAP();
-L_copy_from_slice_pkcs1_c_exit1405_i:;
-    v_start1_i_i10_i_i_i_i = (u64)((u64)(v_writer_sroa_174_16_i) - (u64)(v_10_sroa_7_0_i_ph));
-    v_288 = v_out + (int64_t)(v_start1_i_i10_i_i_i_i);
+L_copy_from_slice_pkcs1_c_exit1422_i:;
+    v_start1_i_i10_i_i_i_i_i = (u64)((u64)(v_writer_sroa_174_16_i) - (u64)(v_10_sroa_7_0_i_ph));
+    v_288 = v_out + (int64_t)(v_start1_i_i10_i_i_i_i_i);
     copy(v_288, v_10_sroa_0_0_i_ph, v_10_sroa_7_0_i_ph);
-    { p_v_0_sroa_0_0_i_i19_i_i_i_i = v_start1_i_i10_i_i_i_i; goto L_bb2_i_i_i12_i; }
-L_bb2_i_i_i12_i:;
-    v_0_sroa_0_0_i_i19_i_i_i_i = p_v_0_sroa_0_0_i_i19_i_i_i_i;
-    v_5_i_i18_i_i = get_u8(v_10_sroa_0_0_i_ph);
-    v_4_i3_i_i_i = (u8)(v_5_i_i18_i_i ^ ((u8)1 << 7)) < (u8)(0u ^ ((u8)1 << 7));
-    if (v_4_i3_i_i_i) { goto L_bb3_i_i_i34_i; } else { p_v_writer_sroa_174_17_i = v_0_sroa_0_0_i_i19_i_i_i_i; goto L_back_writer_BackWriter_exit_i_i_i__6; }
-L_bb3_i_i_i34_i:;
-    v_4_i_i_i6_i_i_i = v_0_sroa_0_0_i_i19_i_i_i_i == 0u;
-    if (v_4_i_i_i6_i_i_i) { p_v_writer_sroa_174_18_i = 0u; goto L_back_writer_BackWriter_exit_i_i__3; } else { goto L_bb2_i_i_i7_i_i_i; }
-L_bb2_i_i_i7_i_i_i:;
-    v_10_not_i_i_i_i28_i_i = v_0_sroa_0_0_i_i19_i_i_i_i > v_encoding_sroa_0_0_i14_i2020_i;
-    if (v_10_not_i_i_i_i28_i_i) { goto L_bb7_i_i_i10_i_i_i; } else { goto L_copy_from_slice_pkcs1_c_exit1409_i; }
-L_bb7_i_i_i10_i_i_i:;
+    { p_v_0_sroa_0_0_i_i19_i_i_i_i_i = v_start1_i_i10_i_i_i_i_i; goto L_bb2_i_i_i27_i_i; }
+L_bb2_i_i_i27_i_i:;
+    v_0_sroa_0_0_i_i19_i_i_i_i_i = p_v_0_sroa_0_0_i_i19_i_i_i_i_i;
+    v_5_i_i5_i_i_i = get_u8(v_10_sroa_0_0_i_ph);
+    v_4_i_i6_i_i_i = (u8)(v_5_i_i5_i_i_i ^ ((u8)1 << 7)) < (u8)(0u ^ ((u8)1 << 7));
+    if (v_4_i_i6_i_i_i) { goto L_bb3_i_i_i36_i_i; } else { p_v_writer_sroa_174_17_i = v_0_sroa_0_0_i_i19_i_i_i_i_i; goto L_back_writer_BackWriter_exit_i_i_i__6; }
+L_bb3_i_i_i36_i_i:;
+    v_4_i_i_i_i8_i_i_i = v_0_sroa_0_0_i_i19_i_i_i_i_i == 0u;
+    if (v_4_i_i_i_i8_i_i_i) { p_v_writer_sroa_174_18_i = 0u; goto L_back_writer_BackWriter_exit_i_i__3; } else { goto L_bb2_i_i_i_i9_i_i_i; }
+L_bb2_i_i_i_i9_i_i_i:;
+    v_10_not_i_i_i_i11_i_i_i = v_0_sroa_0_0_i_i19_i_i_i_i_i > v_encoding_sroa_0_0_i12_i2037_i;
+    if (v_10_not_i_i_i_i11_i_i_i) { goto L_bb7_i_i_i_i21_i_i_i; } else { goto L_copy_from_slice_pkcs1_c_exit1426_i; }
+L_bb7_i_i_i_i21_i_i_i:;
     TRAP();
     TRAP();
-L_copy_from_slice_pkcs1_c_exit1409_i:;
-    v_start1_i_i_i_i27_i_i = (u64)((u64)(v_0_sroa_0_0_i_i19_i_i_i_i) + (u64)(18446744073709551615ull));
-    v_289 = v_out + (int64_t)(v_start1_i_i_i_i27_i_i);
+L_copy_from_slice_pkcs1_c_exit1426_i:;
+    v_start1_i_i_i_i10_i_i_i = (u64)((u64)(v_0_sroa_0_0_i_i19_i_i_i_i_i) + (u64)(18446744073709551615ull));
+    v_289 = v_out + (int64_t)(v_start1_i_i_i_i10_i_i_i);
     put_u8(v_289, 0u);
-    { p_v_writer_sroa_174_17_i = v_start1_i_i_i_i27_i_i; goto L_back_writer_BackWriter_exit_i_i_i__6; }
+    { p_v_writer_sroa_174_17_i = v_start1_i_i_i_i10_i_i_i; goto L_back_writer_BackWriter_exit_i_i_i__6; }
 L_back_writer_BackWriter_exit_i_i_i__6:;
     v_writer_sroa_174_17_i = p_v_writer_sroa_174_17_i;
     v_5_i_i_i_i_i = (u64)((u64)(v_writer_sroa_174_16_i) - (u64)(v_writer_sroa_174_17_i));
-    v_13_i_i_i20_i_i = (u32)(v_5_i_i_i_i_i);
-    v_4_i_i_i_i21_i_i = v_13_i_i_i20_i_i < 128u;
-    if (v_4_i_i_i_i21_i_i) { goto L_bb1_i_i_i_i_i_i; } else { goto L_bb2_i_i_i_i22_i_i; }
-L_bb2_i_i_i_i22_i_i:;
-    v_9_i_i_i_i23_i_i = v_13_i_i_i20_i_i < 256u;
-    if (v_9_i_i_i_i23_i_i) { goto L_bb3_i_i_i_i_i_i; } else { goto L_bb4_i_i_i_i_i_i; }
+    v_13_i_i_i29_i_i = (u32)(v_5_i_i_i_i_i);
+    v_4_i_i_i_i30_i_i = v_13_i_i_i29_i_i < 128u;
+    if (v_4_i_i_i_i30_i_i) { goto L_bb1_i_i_i_i_i_i; } else { goto L_bb2_i_i_i_i31_i_i; }
+L_bb2_i_i_i_i31_i_i:;
+    v_9_i_i_i_i32_i_i = v_13_i_i_i29_i_i < 256u;
+    if (v_9_i_i_i_i32_i_i) { goto L_bb3_i_i_i_i_i_i; } else { goto L_bb4_i_i_i_i_i_i; }
 L_bb1_i_i_i_i_i_i:;
     v_8_i_i_i_i_i_i = (u16)(v_5_i_i_i_i_i);
     v_4_i_i_i_i_i_i_i = v_writer_sroa_174_17_i < 2u;
     if (v_4_i_i_i_i_i_i_i) { p_v_writer_sroa_174_18_i = v_writer_sroa_174_17_i; goto L_back_writer_BackWriter_exit_i_i__3; } else { goto L_bb2_i_i_i_i_i_i_i; }
 L_bb2_i_i_i_i_i_i_i:;
-    v_10_not_i_i_i_i_i_i_i = v_writer_sroa_174_17_i > v_encoding_sroa_0_0_i14_i2020_i;
-    if (v_10_not_i_i_i_i_i_i_i) { goto L_bb7_i_i_i_i_i_i_i; } else { goto L_copy_from_slice_pkcs1_c_exit1413_i; }
+    v_10_not_i_i_i_i_i_i_i = v_writer_sroa_174_17_i > v_encoding_sroa_0_0_i12_i2037_i;
+    if (v_10_not_i_i_i_i_i_i_i) { goto L_bb7_i_i_i_i_i_i_i; } else { goto L_copy_from_slice_pkcs1_c_exit1430_i; }
 L_bb7_i_i_i_i_i_i_i:;
     TRAP();
     TRAP();
-L_copy_from_slice_pkcs1_c_exit1413_i:;
+L_copy_from_slice_pkcs1_c_exit1430_i:;
     v_start1_i_i_i_i_i_i_i = (u64)((u64)(v_writer_sroa_174_17_i) + (u64)(18446744073709551614ull));
     v_290 = v_out + (int64_t)(v_start1_i_i_i_i_i_i_i);
     v_7_i_i_i_i_i_sroa_0_sroa_4_0_insert_shift_i = (u16)((u32)(v_8_i_i_i_i_i_i) << (u32)((8u & 31)));
@@ -23416,47 +23416,47 @@ L_copy_from_slice_pkcs1_c_exit1413_i:;
     put_u16(v_290, v_7_i_i_i_i_i_sroa_0_sroa_0_0_insert_insert_i);
     { p_v_writer_sroa_174_18_i = v_start1_i_i_i_i_i_i_i; goto L_back_writer_BackWriter_exit_i_i__3; }
 L_bb4_i_i_i_i_i_i:;
-    v_14_i_i_i_i_i_i = v_13_i_i_i20_i_i < 65536u;
-    if (v_14_i_i_i_i_i_i) { goto L_bb5_i_i_i_i26_i_i; } else { goto L_bb6_i_i_i_i_i_i; }
+    v_14_i_i_i_i_i_i = v_13_i_i_i29_i_i < 65536u;
+    if (v_14_i_i_i_i_i_i) { goto L_bb5_i_i_i_i35_i_i; } else { goto L_bb6_i_i_i_i_i_i; }
 L_bb3_i_i_i_i_i_i:;
     v_13_i_i_i_i_i_i = (u8)(v_5_i_i_i_i_i);
     v_4_i11_i_i_i_i_i_i = v_writer_sroa_174_17_i < 3u;
     if (v_4_i11_i_i_i_i_i_i) { p_v_writer_sroa_174_18_i = v_writer_sroa_174_17_i; goto L_back_writer_BackWriter_exit_i_i__3; } else { goto L_bb2_i12_i_i_i_i_i_i; }
 L_bb2_i12_i_i_i_i_i_i:;
-    v_10_not_i14_i_i_i_i_i_i = v_writer_sroa_174_17_i > v_encoding_sroa_0_0_i14_i2020_i;
-    if (v_10_not_i14_i_i_i_i_i_i) { goto L_bb7_i24_i_i_i_i_i_i; } else { goto L_copy_from_slice_pkcs1_c_exit1417_i; }
+    v_10_not_i14_i_i_i_i_i_i = v_writer_sroa_174_17_i > v_encoding_sroa_0_0_i12_i2037_i;
+    if (v_10_not_i14_i_i_i_i_i_i) { goto L_bb7_i24_i_i_i_i_i_i; } else { goto L_copy_from_slice_pkcs1_c_exit1434_i; }
 L_bb7_i24_i_i_i_i_i_i:;
     TRAP();
     TRAP();
-L_copy_from_slice_pkcs1_c_exit1417_i:;
+L_copy_from_slice_pkcs1_c_exit1434_i:;
     v_start1_i13_i_i_i_i_i_i = (u64)((u64)(v_writer_sroa_174_17_i) + (u64)(18446744073709551613ull));
     v_291 = v_out + (int64_t)(v_start1_i13_i_i_i_i_i_i);
     put_u8(v_291, 2u);
-    v_12_i_i_i_i13_i_sroa_4_0_sroa_idx_i = v_291 + 1;
-    put_u8(v_12_i_i_i_i13_i_sroa_4_0_sroa_idx_i, 129u);
-    v_12_i_i_i_i13_i_sroa_5_0_sroa_idx_i = v_291 + 2;
-    put_u8(v_12_i_i_i_i13_i_sroa_5_0_sroa_idx_i, v_13_i_i_i_i_i_i);
+    v_12_i_i_i_i22_i_sroa_4_0_sroa_idx_i = v_291 + 1;
+    put_u8(v_12_i_i_i_i22_i_sroa_4_0_sroa_idx_i, 129u);
+    v_12_i_i_i_i22_i_sroa_5_0_sroa_idx_i = v_291 + 2;
+    put_u8(v_12_i_i_i_i22_i_sroa_5_0_sroa_idx_i, v_13_i_i_i_i_i_i);
     { p_v_writer_sroa_174_18_i = v_start1_i13_i_i_i_i_i_i; goto L_back_writer_BackWriter_exit_i_i__3; }
 L_bb6_i_i_i_i_i_i:;
-    v_22_i_i_i_i_i_i = v_13_i_i_i20_i_i < 16777216u;
-    if (v_22_i_i_i_i_i_i) { goto L_bb7_i_i_i_i25_i_i; } else { goto L_bb8_i_i_i_i24_i_i; }
-L_bb5_i_i_i_i26_i_i:;
+    v_22_i_i_i_i_i_i = v_13_i_i_i29_i_i < 16777216u;
+    if (v_22_i_i_i_i_i_i) { goto L_bb7_i_i_i_i34_i_i; } else { goto L_bb8_i_i_i_i33_i_i; }
+L_bb5_i_i_i_i35_i_i:;
     v_4_i30_i_i_i_i_i_i = v_writer_sroa_174_17_i < 4u;
     if (v_4_i30_i_i_i_i_i_i) { p_v_writer_sroa_174_18_i = v_writer_sroa_174_17_i; goto L_back_writer_BackWriter_exit_i_i__3; } else { goto L_bb2_i31_i_i_i_i_i_i; }
 L_bb2_i31_i_i_i_i_i_i:;
-    v_10_not_i33_i_i_i_i_i_i = v_writer_sroa_174_17_i > v_encoding_sroa_0_0_i14_i2020_i;
-    if (v_10_not_i33_i_i_i_i_i_i) { goto L_bb7_i43_i_i_i_i_i_i; } else { goto L_copy_from_slice_pkcs1_c_exit1421_i; }
+    v_10_not_i33_i_i_i_i_i_i = v_writer_sroa_174_17_i > v_encoding_sroa_0_0_i12_i2037_i;
+    if (v_10_not_i33_i_i_i_i_i_i) { goto L_bb7_i43_i_i_i_i_i_i; } else { goto L_copy_from_slice_pkcs1_c_exit1438_i; }
 L_bb7_i43_i_i_i_i_i_i:;
     TRAP();
     TRAP();
-L_copy_from_slice_pkcs1_c_exit1421_i:;
+L_copy_from_slice_pkcs1_c_exit1438_i:;
     v_start1_i32_i_i_i_i_i_i = (u64)((u64)(v_writer_sroa_174_17_i) + (u64)(18446744073709551612ull));
     v_292 = v_out + (int64_t)(v_start1_i32_i_i_i_i_i_i);
-    v_293 = (u32)((u32)(v_13_i_i_i20_i_i) | (u32)(42074112u));
+    v_293 = (u32)((u32)(v_13_i_i_i29_i_i) | (u32)(42074112u));
     v_17_i_i_i_i_i_sroa_0_sroa_0_0_insert_insert_i = TURNED(32, v_293);
     put_u32(v_292, v_17_i_i_i_i_i_sroa_0_sroa_0_0_insert_insert_i);
     { p_v_writer_sroa_174_18_i = v_start1_i32_i_i_i_i_i_i; goto L_back_writer_BackWriter_exit_i_i__3; }
-L_bb8_i_i_i_i24_i_i:;
+L_bb8_i_i_i_i33_i_i:;
     v_371_i_i_i_i_i_i = (u64)((u64)(v_5_i_i_i_i_i) >> (u64)((24u & 63)));
     v_36_i_i_i_i_i_i = (u8)(v_371_i_i_i_i_i_i);
     v_402_i_i_i_i_i_i = (u64)((u64)(v_5_i_i_i_i_i) >> (u64)((16u & 63)));
@@ -23467,12 +23467,12 @@ L_bb8_i_i_i_i24_i_i:;
     v_4_i68_i_i_i_i_i_i = v_writer_sroa_174_17_i < 6u;
     if (v_4_i68_i_i_i_i_i_i) { p_v_writer_sroa_174_18_i = v_writer_sroa_174_17_i; goto L_back_writer_BackWriter_exit_i_i__3; } else { goto L_bb2_i69_i_i_i_i_i_i; }
 L_bb2_i69_i_i_i_i_i_i:;
-    v_10_not_i71_i_i_i_i_i_i = v_writer_sroa_174_17_i > v_encoding_sroa_0_0_i14_i2020_i;
-    if (v_10_not_i71_i_i_i_i_i_i) { goto L_bb7_i81_i_i_i_i_i_i; } else { goto L_copy_from_slice_pkcs1_c_exit1425_i; }
+    v_10_not_i71_i_i_i_i_i_i = v_writer_sroa_174_17_i > v_encoding_sroa_0_0_i12_i2037_i;
+    if (v_10_not_i71_i_i_i_i_i_i) { goto L_bb7_i81_i_i_i_i_i_i; } else { goto L_copy_from_slice_pkcs1_c_exit1442_i; }
 L_bb7_i81_i_i_i_i_i_i:;
     TRAP();
     TRAP();
-L_copy_from_slice_pkcs1_c_exit1425_i:;
+L_copy_from_slice_pkcs1_c_exit1442_i:;
     v_start1_i70_i_i_i_i_i_i = (u64)((u64)(v_writer_sroa_174_17_i) + (u64)(18446744073709551610ull));
     v_294 = v_out + (int64_t)(v_start1_i70_i_i_i_i_i_i);
     put_u8(v_294, 2u);
@@ -23487,7 +23487,7 @@ L_copy_from_slice_pkcs1_c_exit1425_i:;
     v_35_i_i_i_i_i_sroa_8_0_sroa_idx_i = v_294 + 5;
     put_u8(v_35_i_i_i_i_i_sroa_8_0_sroa_idx_i, v_44_i_i_i_i_i_i);
     { p_v_writer_sroa_174_18_i = v_start1_i70_i_i_i_i_i_i; goto L_back_writer_BackWriter_exit_i_i__3; }
-L_bb7_i_i_i_i25_i_i:;
+L_bb7_i_i_i_i34_i_i:;
     v_274_i_i_i_i_i_i = (u64)((u64)(v_5_i_i_i_i_i) >> (u64)((16u & 63)));
     v_26_i_i_i_i_i_i = (u8)(v_274_i_i_i_i_i_i);
     v_305_i_i_i_i_i_i = (u64)((u64)(v_5_i_i_i_i_i) >> (u64)((8u & 63)));
@@ -23496,12 +23496,12 @@ L_bb7_i_i_i_i25_i_i:;
     v_4_i49_i_i_i_i_i_i = v_writer_sroa_174_17_i < 5u;
     if (v_4_i49_i_i_i_i_i_i) { p_v_writer_sroa_174_18_i = v_writer_sroa_174_17_i; goto L_back_writer_BackWriter_exit_i_i__3; } else { goto L_bb2_i50_i_i_i_i_i_i; }
 L_bb2_i50_i_i_i_i_i_i:;
-    v_10_not_i52_i_i_i_i_i_i = v_writer_sroa_174_17_i > v_encoding_sroa_0_0_i14_i2020_i;
-    if (v_10_not_i52_i_i_i_i_i_i) { goto L_bb7_i62_i_i_i_i_i_i; } else { goto L_copy_from_slice_pkcs1_c_exit1429_i; }
+    v_10_not_i52_i_i_i_i_i_i = v_writer_sroa_174_17_i > v_encoding_sroa_0_0_i12_i2037_i;
+    if (v_10_not_i52_i_i_i_i_i_i) { goto L_bb7_i62_i_i_i_i_i_i; } else { goto L_copy_from_slice_pkcs1_c_exit1446_i; }
 L_bb7_i62_i_i_i_i_i_i:;
     TRAP();
     TRAP();
-L_copy_from_slice_pkcs1_c_exit1429_i:;
+L_copy_from_slice_pkcs1_c_exit1446_i:;
     v_start1_i51_i_i_i_i_i_i = (u64)((u64)(v_writer_sroa_174_17_i) + (u64)(18446744073709551611ull));
     v_295 = v_out + (int64_t)(v_start1_i51_i_i_i_i_i_i);
     put_u8(v_295, 2u);
@@ -23516,106 +23516,106 @@ L_copy_from_slice_pkcs1_c_exit1429_i:;
     { p_v_writer_sroa_174_18_i = v_start1_i51_i_i_i_i_i_i; goto L_back_writer_BackWriter_exit_i_i__3; }
 L_back_writer_BackWriter_exit_i_i__3:;
     v_writer_sroa_174_18_i = p_v_writer_sroa_174_18_i;
-    v_4_i_i8_i_i_i = v_6_sroa_7_0_i_ph > v_writer_sroa_174_18_i;
-    if (v_4_i_i8_i_i_i) { p_v_0_sroa_0_0_i_i19_i_i_i = v_writer_sroa_174_18_i; goto L_bb2_i_i_i; } else { goto L_bb2_i_i9_i_i_i; }
-L_bb2_i_i9_i_i_i:;
-    v_10_not_i_i11_i_i_i = v_writer_sroa_174_18_i > v_encoding_sroa_0_0_i14_i2020_i;
-    if (v_10_not_i_i11_i_i_i) { goto L_bb7_i_i21_i_i_i; } else { goto L_copy_from_slice_pkcs1_c_exit1433_i; }
-L_bb7_i_i21_i_i_i:;
+    v_4_i_i8_i_i_i_i = v_6_sroa_7_0_i_ph > v_writer_sroa_174_18_i;
+    if (v_4_i_i8_i_i_i_i) { p_v_0_sroa_0_0_i_i19_i_i_i_i = v_writer_sroa_174_18_i; goto L_bb2_i_i_i22_i; } else { goto L_bb2_i_i9_i_i_i_i; }
+L_bb2_i_i9_i_i_i_i:;
+    v_10_not_i_i11_i_i_i_i = v_writer_sroa_174_18_i > v_encoding_sroa_0_0_i12_i2037_i;
+    if (v_10_not_i_i11_i_i_i_i) { goto L_bb7_i_i21_i_i_i_i; } else { goto L_copy_from_slice_pkcs1_c_exit1450_i; }
+L_bb7_i_i21_i_i_i_i:;
     TRAP();
     TRAP();
-L_copy_from_slice_pkcs1_c_exit1433_i:;
-    v_start1_i_i10_i_i_i = (u64)((u64)(v_writer_sroa_174_18_i) - (u64)(v_6_sroa_7_0_i_ph));
-    v_296 = v_out + (int64_t)(v_start1_i_i10_i_i_i);
+L_copy_from_slice_pkcs1_c_exit1450_i:;
+    v_start1_i_i10_i_i_i_i = (u64)((u64)(v_writer_sroa_174_18_i) - (u64)(v_6_sroa_7_0_i_ph));
+    v_296 = v_out + (int64_t)(v_start1_i_i10_i_i_i_i);
     copy(v_296, v_6_sroa_0_0_i_ph, v_6_sroa_7_0_i_ph);
-    { p_v_0_sroa_0_0_i_i19_i_i_i = v_start1_i_i10_i_i_i; goto L_bb2_i_i_i; }
-L_bb2_i_i_i:;
-    v_0_sroa_0_0_i_i19_i_i_i = p_v_0_sroa_0_0_i_i19_i_i_i;
-    v_5_i_i15_i = get_u8(v_6_sroa_0_0_i_ph);
-    v_4_i3_i_i = (u8)(v_5_i_i15_i ^ ((u8)1 << 7)) < (u8)(0u ^ ((u8)1 << 7));
-    if (v_4_i3_i_i) { goto L_bb3_i_i24_i; } else { p_v_writer_sroa_174_19_i = v_0_sroa_0_0_i_i19_i_i_i; goto L_back_writer_BackWriter_exit_i_i__4; }
-L_bb3_i_i24_i:;
-    v_4_i_i_i6_i_i = v_0_sroa_0_0_i_i19_i_i_i == 0u;
-    if (v_4_i_i_i6_i_i) { p_v_writer_sroa_174_202600_i = 0u; p_v_0_sroa_0_0_i_i24_i_i = 0u; goto L_back_writer_BackWriter_exit_i_i__5; } else { goto L_bb2_i_i_i7_i_i; }
-L_bb2_i_i_i7_i_i:;
-    v_10_not_i_i_i_i26_i = v_0_sroa_0_0_i_i19_i_i_i > v_encoding_sroa_0_0_i14_i2020_i;
-    if (v_10_not_i_i_i_i26_i) { goto L_bb7_i_i_i10_i_i; } else { goto L_copy_from_slice_pkcs1_c_exit1437_i; }
-L_bb7_i_i_i10_i_i:;
+    { p_v_0_sroa_0_0_i_i19_i_i_i_i = v_start1_i_i10_i_i_i_i; goto L_bb2_i_i_i22_i; }
+L_bb2_i_i_i22_i:;
+    v_0_sroa_0_0_i_i19_i_i_i_i = p_v_0_sroa_0_0_i_i19_i_i_i_i;
+    v_5_i_i5_i_i = get_u8(v_6_sroa_0_0_i_ph);
+    v_4_i_i6_i_i = (u8)(v_5_i_i5_i_i ^ ((u8)1 << 7)) < (u8)(0u ^ ((u8)1 << 7));
+    if (v_4_i_i6_i_i) { goto L_bb3_i_i_i31_i; } else { p_v_writer_sroa_174_19_i = v_0_sroa_0_0_i_i19_i_i_i_i; goto L_back_writer_BackWriter_exit_i_i__4; }
+L_bb3_i_i_i31_i:;
+    v_4_i_i_i_i8_i_i = v_0_sroa_0_0_i_i19_i_i_i_i == 0u;
+    if (v_4_i_i_i_i8_i_i) { p_v_writer_sroa_174_202617_i = 0u; p_v_0_sroa_0_0_i_i19_i_i = 0u; goto L_back_writer_BackWriter_exit_i__3; } else { goto L_bb2_i_i_i_i9_i_i; }
+L_bb2_i_i_i_i9_i_i:;
+    v_10_not_i_i_i_i11_i_i = v_0_sroa_0_0_i_i19_i_i_i_i > v_encoding_sroa_0_0_i12_i2037_i;
+    if (v_10_not_i_i_i_i11_i_i) { goto L_bb7_i_i_i_i21_i_i; } else { goto L_copy_from_slice_pkcs1_c_exit1454_i; }
+L_bb7_i_i_i_i21_i_i:;
     TRAP();
     TRAP();
-L_copy_from_slice_pkcs1_c_exit1437_i:;
-    v_start1_i_i_i_i25_i = (u64)((u64)(v_0_sroa_0_0_i_i19_i_i_i) + (u64)(18446744073709551615ull));
-    v_297 = v_out + (int64_t)(v_start1_i_i_i_i25_i);
+L_copy_from_slice_pkcs1_c_exit1454_i:;
+    v_start1_i_i_i_i10_i_i = (u64)((u64)(v_0_sroa_0_0_i_i19_i_i_i_i) + (u64)(18446744073709551615ull));
+    v_297 = v_out + (int64_t)(v_start1_i_i_i_i10_i_i);
     put_u8(v_297, 0u);
-    { p_v_writer_sroa_174_19_i = v_start1_i_i_i_i25_i; goto L_back_writer_BackWriter_exit_i_i__4; }
+    { p_v_writer_sroa_174_19_i = v_start1_i_i_i_i10_i_i; goto L_back_writer_BackWriter_exit_i_i__4; }
 L_back_writer_BackWriter_exit_i_i__4:;
     v_writer_sroa_174_19_i = p_v_writer_sroa_174_19_i;
     v_5_i_i_i_i = (u64)((u64)(v_writer_sroa_174_18_i) - (u64)(v_writer_sroa_174_19_i));
-    v_13_i_i_i17_i = (u32)(v_5_i_i_i_i);
-    v_4_i_i_i_i18_i = v_13_i_i_i17_i < 128u;
-    if (v_4_i_i_i_i18_i) { goto L_bb1_i_i_i_i_i; } else { goto L_bb2_i_i_i_i19_i; }
-L_bb2_i_i_i_i19_i:;
-    v_9_i_i_i_i20_i = v_13_i_i_i17_i < 256u;
-    if (v_9_i_i_i_i20_i) { goto L_bb3_i_i_i_i_i; } else { goto L_bb4_i_i_i_i_i; }
+    v_13_i_i_i24_i = (u32)(v_5_i_i_i_i);
+    v_4_i_i_i_i25_i = v_13_i_i_i24_i < 128u;
+    if (v_4_i_i_i_i25_i) { goto L_bb1_i_i_i_i_i; } else { goto L_bb2_i_i_i_i26_i; }
+L_bb2_i_i_i_i26_i:;
+    v_9_i_i_i_i27_i = v_13_i_i_i24_i < 256u;
+    if (v_9_i_i_i_i27_i) { goto L_bb3_i_i_i_i_i; } else { goto L_bb4_i_i_i_i_i; }
 L_bb1_i_i_i_i_i:;
     v_8_i_i_i_i_i = (u16)(v_5_i_i_i_i);
     v_4_i_i_i_i_i_i = v_writer_sroa_174_19_i < 2u;
-    if (v_4_i_i_i_i_i_i) { p_v_writer_sroa_174_20_i = v_writer_sroa_174_19_i; goto L_back_writer_BackWriter_exit_i__3; } else { goto L_bb2_i_i_i_i_i_i; }
+    if (v_4_i_i_i_i_i_i) { p_v_writer_sroa_174_20_i = v_writer_sroa_174_19_i; goto L_back_writer_BackWriter_exit_i__4; } else { goto L_bb2_i_i_i_i_i_i; }
 L_bb2_i_i_i_i_i_i:;
-    v_10_not_i_i_i_i_i_i = v_writer_sroa_174_19_i > v_encoding_sroa_0_0_i14_i2020_i;
-    if (v_10_not_i_i_i_i_i_i) { goto L_bb7_i_i_i_i_i_i; } else { goto L_copy_from_slice_pkcs1_c_exit1441_i; }
+    v_10_not_i_i_i_i_i_i = v_writer_sroa_174_19_i > v_encoding_sroa_0_0_i12_i2037_i;
+    if (v_10_not_i_i_i_i_i_i) { goto L_bb7_i_i_i_i_i_i; } else { goto L_copy_from_slice_pkcs1_c_exit1458_i; }
 L_bb7_i_i_i_i_i_i:;
     TRAP();
     TRAP();
-L_copy_from_slice_pkcs1_c_exit1441_i:;
+L_copy_from_slice_pkcs1_c_exit1458_i:;
     v_start1_i_i_i_i_i_i = (u64)((u64)(v_writer_sroa_174_19_i) + (u64)(18446744073709551614ull));
     v_298 = v_out + (int64_t)(v_start1_i_i_i_i_i_i);
     v_7_i_i_i_i_sroa_0_sroa_4_0_insert_shift_i = (u16)((u32)(v_8_i_i_i_i_i) << (u32)((8u & 31)));
     v_7_i_i_i_i_sroa_0_sroa_0_0_insert_insert_i = (u16)((u32)(v_7_i_i_i_i_sroa_0_sroa_4_0_insert_shift_i) | (u32)(2u));
     put_u16(v_298, v_7_i_i_i_i_sroa_0_sroa_0_0_insert_insert_i);
-    { p_v_writer_sroa_174_20_i = v_start1_i_i_i_i_i_i; goto L_back_writer_BackWriter_exit_i__3; }
+    { p_v_writer_sroa_174_20_i = v_start1_i_i_i_i_i_i; goto L_back_writer_BackWriter_exit_i__4; }
 L_bb4_i_i_i_i_i:;
-    v_14_i_i_i_i_i = v_13_i_i_i17_i < 65536u;
-    if (v_14_i_i_i_i_i) { goto L_bb5_i_i_i_i23_i; } else { goto L_bb6_i_i_i_i_i; }
+    v_14_i_i_i_i_i = v_13_i_i_i24_i < 65536u;
+    if (v_14_i_i_i_i_i) { goto L_bb5_i_i_i_i30_i; } else { goto L_bb6_i_i_i_i_i; }
 L_bb3_i_i_i_i_i:;
     v_13_i_i_i_i_i = (u8)(v_5_i_i_i_i);
     v_4_i11_i_i_i_i_i = v_writer_sroa_174_19_i < 3u;
-    if (v_4_i11_i_i_i_i_i) { p_v_writer_sroa_174_20_i = v_writer_sroa_174_19_i; goto L_back_writer_BackWriter_exit_i__3; } else { goto L_bb2_i12_i_i_i_i_i; }
+    if (v_4_i11_i_i_i_i_i) { p_v_writer_sroa_174_20_i = v_writer_sroa_174_19_i; goto L_back_writer_BackWriter_exit_i__4; } else { goto L_bb2_i12_i_i_i_i_i; }
 L_bb2_i12_i_i_i_i_i:;
-    v_10_not_i14_i_i_i_i_i = v_writer_sroa_174_19_i > v_encoding_sroa_0_0_i14_i2020_i;
-    if (v_10_not_i14_i_i_i_i_i) { goto L_bb7_i24_i_i_i_i_i; } else { goto L_copy_from_slice_pkcs1_c_exit1445_i; }
+    v_10_not_i14_i_i_i_i_i = v_writer_sroa_174_19_i > v_encoding_sroa_0_0_i12_i2037_i;
+    if (v_10_not_i14_i_i_i_i_i) { goto L_bb7_i24_i_i_i_i_i; } else { goto L_copy_from_slice_pkcs1_c_exit1462_i; }
 L_bb7_i24_i_i_i_i_i:;
     TRAP();
     TRAP();
-L_copy_from_slice_pkcs1_c_exit1445_i:;
+L_copy_from_slice_pkcs1_c_exit1462_i:;
     v_start1_i13_i_i_i_i_i = (u64)((u64)(v_writer_sroa_174_19_i) + (u64)(18446744073709551613ull));
     v_299 = v_out + (int64_t)(v_start1_i13_i_i_i_i_i);
     put_u8(v_299, 2u);
-    v_12_i_i_i_i11_sroa_4_0_sroa_idx_i = v_299 + 1;
-    put_u8(v_12_i_i_i_i11_sroa_4_0_sroa_idx_i, 129u);
-    v_12_i_i_i_i11_sroa_5_0_sroa_idx_i = v_299 + 2;
-    put_u8(v_12_i_i_i_i11_sroa_5_0_sroa_idx_i, v_13_i_i_i_i_i);
-    { p_v_writer_sroa_174_20_i = v_start1_i13_i_i_i_i_i; goto L_back_writer_BackWriter_exit_i__3; }
+    v_12_i_i_i_i18_sroa_4_0_sroa_idx_i = v_299 + 1;
+    put_u8(v_12_i_i_i_i18_sroa_4_0_sroa_idx_i, 129u);
+    v_12_i_i_i_i18_sroa_5_0_sroa_idx_i = v_299 + 2;
+    put_u8(v_12_i_i_i_i18_sroa_5_0_sroa_idx_i, v_13_i_i_i_i_i);
+    { p_v_writer_sroa_174_20_i = v_start1_i13_i_i_i_i_i; goto L_back_writer_BackWriter_exit_i__4; }
 L_bb6_i_i_i_i_i:;
-    v_22_i_i_i_i_i = v_13_i_i_i17_i < 16777216u;
-    if (v_22_i_i_i_i_i) { goto L_bb7_i_i_i_i22_i; } else { goto L_bb8_i_i_i_i21_i; }
-L_bb5_i_i_i_i23_i:;
+    v_22_i_i_i_i_i = v_13_i_i_i24_i < 16777216u;
+    if (v_22_i_i_i_i_i) { goto L_bb7_i_i_i_i29_i; } else { goto L_bb8_i_i_i_i28_i; }
+L_bb5_i_i_i_i30_i:;
     v_4_i30_i_i_i_i_i = v_writer_sroa_174_19_i < 4u;
-    if (v_4_i30_i_i_i_i_i) { p_v_writer_sroa_174_20_i = v_writer_sroa_174_19_i; goto L_back_writer_BackWriter_exit_i__3; } else { goto L_bb2_i31_i_i_i_i_i; }
+    if (v_4_i30_i_i_i_i_i) { p_v_writer_sroa_174_20_i = v_writer_sroa_174_19_i; goto L_back_writer_BackWriter_exit_i__4; } else { goto L_bb2_i31_i_i_i_i_i; }
 L_bb2_i31_i_i_i_i_i:;
-    v_10_not_i33_i_i_i_i_i = v_writer_sroa_174_19_i > v_encoding_sroa_0_0_i14_i2020_i;
-    if (v_10_not_i33_i_i_i_i_i) { goto L_bb7_i43_i_i_i_i_i; } else { goto L_copy_from_slice_pkcs1_c_exit1449_i; }
+    v_10_not_i33_i_i_i_i_i = v_writer_sroa_174_19_i > v_encoding_sroa_0_0_i12_i2037_i;
+    if (v_10_not_i33_i_i_i_i_i) { goto L_bb7_i43_i_i_i_i_i; } else { goto L_copy_from_slice_pkcs1_c_exit1466_i; }
 L_bb7_i43_i_i_i_i_i:;
     TRAP();
     TRAP();
-L_copy_from_slice_pkcs1_c_exit1449_i:;
+L_copy_from_slice_pkcs1_c_exit1466_i:;
     v_start1_i32_i_i_i_i_i = (u64)((u64)(v_writer_sroa_174_19_i) + (u64)(18446744073709551612ull));
     v_300 = v_out + (int64_t)(v_start1_i32_i_i_i_i_i);
-    v_301 = (u32)((u32)(v_13_i_i_i17_i) | (u32)(42074112u));
+    v_301 = (u32)((u32)(v_13_i_i_i24_i) | (u32)(42074112u));
     v_17_i_i_i_i_sroa_0_sroa_0_0_insert_insert_i = TURNED(32, v_301);
     put_u32(v_300, v_17_i_i_i_i_sroa_0_sroa_0_0_insert_insert_i);
-    { p_v_writer_sroa_174_20_i = v_start1_i32_i_i_i_i_i; goto L_back_writer_BackWriter_exit_i__3; }
-L_bb8_i_i_i_i21_i:;
+    { p_v_writer_sroa_174_20_i = v_start1_i32_i_i_i_i_i; goto L_back_writer_BackWriter_exit_i__4; }
+L_bb8_i_i_i_i28_i:;
     v_371_i_i_i_i_i = (u64)((u64)(v_5_i_i_i_i) >> (u64)((24u & 63)));
     v_36_i_i_i_i_i = (u8)(v_371_i_i_i_i_i);
     v_402_i_i_i_i_i = (u64)((u64)(v_5_i_i_i_i) >> (u64)((16u & 63)));
@@ -23624,14 +23624,14 @@ L_bb8_i_i_i_i21_i:;
     v_41_i_i_i_i_i = (u8)(v_433_i_i_i_i_i);
     v_44_i_i_i_i_i = (u8)(v_5_i_i_i_i);
     v_4_i68_i_i_i_i_i = v_writer_sroa_174_19_i < 6u;
-    if (v_4_i68_i_i_i_i_i) { p_v_writer_sroa_174_20_i = v_writer_sroa_174_19_i; goto L_back_writer_BackWriter_exit_i__3; } else { goto L_bb2_i69_i_i_i_i_i; }
+    if (v_4_i68_i_i_i_i_i) { p_v_writer_sroa_174_20_i = v_writer_sroa_174_19_i; goto L_back_writer_BackWriter_exit_i__4; } else { goto L_bb2_i69_i_i_i_i_i; }
 L_bb2_i69_i_i_i_i_i:;
-    v_10_not_i71_i_i_i_i_i = v_writer_sroa_174_19_i > v_encoding_sroa_0_0_i14_i2020_i;
-    if (v_10_not_i71_i_i_i_i_i) { goto L_bb7_i81_i_i_i_i_i; } else { goto L_copy_from_slice_pkcs1_c_exit1453_i; }
+    v_10_not_i71_i_i_i_i_i = v_writer_sroa_174_19_i > v_encoding_sroa_0_0_i12_i2037_i;
+    if (v_10_not_i71_i_i_i_i_i) { goto L_bb7_i81_i_i_i_i_i; } else { goto L_copy_from_slice_pkcs1_c_exit1470_i; }
 L_bb7_i81_i_i_i_i_i:;
     TRAP();
     TRAP();
-L_copy_from_slice_pkcs1_c_exit1453_i:;
+L_copy_from_slice_pkcs1_c_exit1470_i:;
     v_start1_i70_i_i_i_i_i = (u64)((u64)(v_writer_sroa_174_19_i) + (u64)(18446744073709551610ull));
     v_302 = v_out + (int64_t)(v_start1_i70_i_i_i_i_i);
     put_u8(v_302, 2u);
@@ -23645,22 +23645,22 @@ L_copy_from_slice_pkcs1_c_exit1453_i:;
     put_u8(v_35_i_i_i_i_sroa_7_0_sroa_idx_i, v_41_i_i_i_i_i);
     v_35_i_i_i_i_sroa_8_0_sroa_idx_i = v_302 + 5;
     put_u8(v_35_i_i_i_i_sroa_8_0_sroa_idx_i, v_44_i_i_i_i_i);
-    { p_v_writer_sroa_174_20_i = v_start1_i70_i_i_i_i_i; goto L_back_writer_BackWriter_exit_i__3; }
-L_bb7_i_i_i_i22_i:;
+    { p_v_writer_sroa_174_20_i = v_start1_i70_i_i_i_i_i; goto L_back_writer_BackWriter_exit_i__4; }
+L_bb7_i_i_i_i29_i:;
     v_274_i_i_i_i_i = (u64)((u64)(v_5_i_i_i_i) >> (u64)((16u & 63)));
     v_26_i_i_i_i_i = (u8)(v_274_i_i_i_i_i);
     v_305_i_i_i_i_i = (u64)((u64)(v_5_i_i_i_i) >> (u64)((8u & 63)));
     v_28_i_i_i_i_i = (u8)(v_305_i_i_i_i_i);
     v_31_i_i_i_i_i = (u8)(v_5_i_i_i_i);
     v_4_i49_i_i_i_i_i = v_writer_sroa_174_19_i < 5u;
-    if (v_4_i49_i_i_i_i_i) { p_v_writer_sroa_174_20_i = v_writer_sroa_174_19_i; goto L_back_writer_BackWriter_exit_i__3; } else { goto L_bb2_i50_i_i_i_i_i; }
+    if (v_4_i49_i_i_i_i_i) { p_v_writer_sroa_174_20_i = v_writer_sroa_174_19_i; goto L_back_writer_BackWriter_exit_i__4; } else { goto L_bb2_i50_i_i_i_i_i; }
 L_bb2_i50_i_i_i_i_i:;
-    v_10_not_i52_i_i_i_i_i = v_writer_sroa_174_19_i > v_encoding_sroa_0_0_i14_i2020_i;
-    if (v_10_not_i52_i_i_i_i_i) { goto L_bb7_i62_i_i_i_i_i; } else { goto L_copy_from_slice_pkcs1_c_exit1457_i; }
+    v_10_not_i52_i_i_i_i_i = v_writer_sroa_174_19_i > v_encoding_sroa_0_0_i12_i2037_i;
+    if (v_10_not_i52_i_i_i_i_i) { goto L_bb7_i62_i_i_i_i_i; } else { goto L_copy_from_slice_pkcs1_c_exit1474_i; }
 L_bb7_i62_i_i_i_i_i:;
     TRAP();
     TRAP();
-L_copy_from_slice_pkcs1_c_exit1457_i:;
+L_copy_from_slice_pkcs1_c_exit1474_i:;
     v_start1_i51_i_i_i_i_i = (u64)((u64)(v_writer_sroa_174_19_i) + (u64)(18446744073709551611ull));
     v_303 = v_out + (int64_t)(v_start1_i51_i_i_i_i_i);
     put_u8(v_303, 2u);
@@ -23672,91 +23672,91 @@ L_copy_from_slice_pkcs1_c_exit1457_i:;
     put_u8(v_25_i_i_i_i_sroa_6_0_sroa_idx_i, v_28_i_i_i_i_i);
     v_25_i_i_i_i_sroa_7_0_sroa_idx_i = v_303 + 4;
     put_u8(v_25_i_i_i_i_sroa_7_0_sroa_idx_i, v_31_i_i_i_i_i);
-    { p_v_writer_sroa_174_20_i = v_start1_i51_i_i_i_i_i; goto L_back_writer_BackWriter_exit_i__3; }
-L_back_writer_BackWriter_exit_i__3:;
+    { p_v_writer_sroa_174_20_i = v_start1_i51_i_i_i_i_i; goto L_back_writer_BackWriter_exit_i__4; }
+L_back_writer_BackWriter_exit_i__4:;
     v_writer_sroa_174_20_i = p_v_writer_sroa_174_20_i;
-    v_4_i_i13_i_i = v_writer_sroa_174_20_i == 0u;
-    if (v_4_i_i13_i_i) { p_v_writer_sroa_174_202600_i = 0u; p_v_0_sroa_0_0_i_i24_i_i = 0u; goto L_back_writer_BackWriter_exit_i_i__5; } else { goto L_bb2_i_i14_i_i; }
-L_bb2_i_i14_i_i:;
-    v_10_not_i_i16_i_i = v_writer_sroa_174_20_i > v_encoding_sroa_0_0_i14_i2020_i;
-    if (v_10_not_i_i16_i_i) { goto L_bb7_i_i26_i_i; } else { goto L_copy_from_slice_pkcs1_c_exit1461_i; }
-L_bb7_i_i26_i_i:;
+    v_4_i_i8_i_i = v_writer_sroa_174_20_i == 0u;
+    if (v_4_i_i8_i_i) { p_v_writer_sroa_174_202617_i = 0u; p_v_0_sroa_0_0_i_i19_i_i = 0u; goto L_back_writer_BackWriter_exit_i__3; } else { goto L_bb2_i_i9_i_i; }
+L_bb2_i_i9_i_i:;
+    v_10_not_i_i11_i_i = v_writer_sroa_174_20_i > v_encoding_sroa_0_0_i12_i2037_i;
+    if (v_10_not_i_i11_i_i) { goto L_bb7_i_i21_i_i; } else { goto L_copy_from_slice_pkcs1_c_exit1478_i; }
+L_bb7_i_i21_i_i:;
     TRAP();
     TRAP();
-L_copy_from_slice_pkcs1_c_exit1461_i:;
-    v_start1_i_i15_i_i = (u64)((u64)(v_writer_sroa_174_20_i) + (u64)(18446744073709551615ull));
-    v_304 = v_out + (int64_t)(v_start1_i_i15_i_i);
+L_copy_from_slice_pkcs1_c_exit1478_i:;
+    v_start1_i_i10_i_i = (u64)((u64)(v_writer_sroa_174_20_i) + (u64)(18446744073709551615ull));
+    v_304 = v_out + (int64_t)(v_start1_i_i10_i_i);
     put_u8(v_304, v_15_i_i568_shrunk);
-    { p_v_writer_sroa_174_202600_i = v_writer_sroa_174_20_i; p_v_0_sroa_0_0_i_i24_i_i = v_start1_i_i15_i_i; goto L_back_writer_BackWriter_exit_i_i__5; }
-L_back_writer_BackWriter_exit_i_i__5:;
-    v_writer_sroa_174_202600_i = p_v_writer_sroa_174_202600_i;
-    v_0_sroa_0_0_i_i24_i_i = p_v_0_sroa_0_0_i_i24_i_i;
-    v_5_i_i_i = (u64)((u64)(v_writer_sroa_174_202600_i) - (u64)(v_0_sroa_0_0_i_i24_i_i));
-    v_13_i29_i_i = (u32)(v_5_i_i_i);
-    v_4_i_i30_i_i = v_13_i29_i_i < 128u;
-    if (v_4_i_i30_i_i) { goto L_bb1_i_i_i_i; } else { goto L_bb2_i_i31_i_i; }
-L_bb2_i_i31_i_i:;
-    v_9_i_i32_i_i = v_13_i29_i_i < 256u;
-    if (v_9_i_i32_i_i) { goto L_bb3_i_i_i_i; } else { goto L_bb4_i_i_i_i; }
+    { p_v_writer_sroa_174_202617_i = v_writer_sroa_174_20_i; p_v_0_sroa_0_0_i_i19_i_i = v_start1_i_i10_i_i; goto L_back_writer_BackWriter_exit_i__3; }
+L_back_writer_BackWriter_exit_i__3:;
+    v_writer_sroa_174_202617_i = p_v_writer_sroa_174_202617_i;
+    v_0_sroa_0_0_i_i19_i_i = p_v_0_sroa_0_0_i_i19_i_i;
+    v_5_i_i_i = (u64)((u64)(v_writer_sroa_174_202617_i) - (u64)(v_0_sroa_0_0_i_i19_i_i));
+    v_13_i4_i_i = (u32)(v_5_i_i_i);
+    v_4_i_i_i_i = v_13_i4_i_i < 128u;
+    if (v_4_i_i_i_i) { goto L_bb1_i_i_i_i; } else { goto L_bb2_i_i_i_i; }
+L_bb2_i_i_i_i:;
+    v_9_i_i_i_i = v_13_i4_i_i < 256u;
+    if (v_9_i_i_i_i) { goto L_bb3_i_i_i_i; } else { goto L_bb4_i_i_i_i; }
 L_bb1_i_i_i_i:;
     v_8_i_i_i_i = (u16)(v_5_i_i_i);
-    v_4_i_i_i_i_i = v_0_sroa_0_0_i_i24_i_i < 2u;
-    if (v_4_i_i_i_i_i) { p_v_writer_sroa_174_22_i = v_0_sroa_0_0_i_i24_i_i; goto L_Prepend_prepend_header_exit_i_i__2; } else { goto L_bb2_i_i_i_i_i; }
+    v_4_i_i_i_i_i = v_0_sroa_0_0_i_i19_i_i < 2u;
+    if (v_4_i_i_i_i_i) { p_v_writer_sroa_174_22_i = v_0_sroa_0_0_i_i19_i_i; goto L_Prepend_prepend_header_exit_i_i__2; } else { goto L_bb2_i_i_i_i_i; }
 L_bb2_i_i_i_i_i:;
-    v_10_not_i_i_i_i_i = v_0_sroa_0_0_i_i24_i_i > v_encoding_sroa_0_0_i14_i2020_i;
-    if (v_10_not_i_i_i_i_i) { goto L_bb7_i_i_i_i_i; } else { goto L_copy_from_slice_pkcs1_c_exit1469_i; }
+    v_10_not_i_i_i_i_i = v_0_sroa_0_0_i_i19_i_i > v_encoding_sroa_0_0_i12_i2037_i;
+    if (v_10_not_i_i_i_i_i) { goto L_bb7_i_i_i_i_i; } else { goto L_copy_from_slice_pkcs1_c_exit1486_i; }
 L_bb7_i_i_i_i_i:;
     TRAP();
     TRAP();
-L_copy_from_slice_pkcs1_c_exit1469_i:;
-    v_start1_i_i_i_i_i = (u64)((u64)(v_0_sroa_0_0_i_i24_i_i) + (u64)(18446744073709551614ull));
+L_copy_from_slice_pkcs1_c_exit1486_i:;
+    v_start1_i_i_i_i_i = (u64)((u64)(v_0_sroa_0_0_i_i19_i_i) + (u64)(18446744073709551614ull));
     v_305 = v_out + (int64_t)(v_start1_i_i_i_i_i);
     v_7_i_i_i_sroa_0_sroa_4_0_insert_shift_i = (u16)((u32)(v_8_i_i_i_i) << (u32)((8u & 31)));
     v_7_i_i_i_sroa_0_sroa_0_0_insert_insert_i = (u16)((u32)(v_7_i_i_i_sroa_0_sroa_4_0_insert_shift_i) | (u32)(2u));
     put_u16(v_305, v_7_i_i_i_sroa_0_sroa_0_0_insert_insert_i);
     { p_v_writer_sroa_174_22_i = v_start1_i_i_i_i_i; goto L_Prepend_prepend_header_exit_i_i__2; }
 L_bb4_i_i_i_i:;
-    v_14_i_i_i_i = v_13_i29_i_i < 65536u;
-    if (v_14_i_i_i_i) { goto L_bb5_i_i35_i_i; } else { goto L_bb6_i_i_i_i; }
+    v_14_i_i_i_i = v_13_i4_i_i < 65536u;
+    if (v_14_i_i_i_i) { goto L_bb5_i_i_i_i; } else { goto L_bb6_i_i_i_i; }
 L_bb3_i_i_i_i:;
     v_13_i_i_i_i = (u8)(v_5_i_i_i);
-    v_4_i11_i_i_i_i = v_0_sroa_0_0_i_i24_i_i < 3u;
-    if (v_4_i11_i_i_i_i) { p_v_writer_sroa_174_22_i = v_0_sroa_0_0_i_i24_i_i; goto L_Prepend_prepend_header_exit_i_i__2; } else { goto L_bb2_i12_i_i_i_i; }
+    v_4_i11_i_i_i_i = v_0_sroa_0_0_i_i19_i_i < 3u;
+    if (v_4_i11_i_i_i_i) { p_v_writer_sroa_174_22_i = v_0_sroa_0_0_i_i19_i_i; goto L_Prepend_prepend_header_exit_i_i__2; } else { goto L_bb2_i12_i_i_i_i; }
 L_bb2_i12_i_i_i_i:;
-    v_10_not_i14_i_i_i_i = v_0_sroa_0_0_i_i24_i_i > v_encoding_sroa_0_0_i14_i2020_i;
-    if (v_10_not_i14_i_i_i_i) { goto L_bb7_i24_i_i_i_i; } else { goto L_copy_from_slice_pkcs1_c_exit1473_i; }
+    v_10_not_i14_i_i_i_i = v_0_sroa_0_0_i_i19_i_i > v_encoding_sroa_0_0_i12_i2037_i;
+    if (v_10_not_i14_i_i_i_i) { goto L_bb7_i24_i_i_i_i; } else { goto L_copy_from_slice_pkcs1_c_exit1490_i; }
 L_bb7_i24_i_i_i_i:;
     TRAP();
     TRAP();
-L_copy_from_slice_pkcs1_c_exit1473_i:;
-    v_start1_i13_i_i_i_i = (u64)((u64)(v_0_sroa_0_0_i_i24_i_i) + (u64)(18446744073709551613ull));
+L_copy_from_slice_pkcs1_c_exit1490_i:;
+    v_start1_i13_i_i_i_i = (u64)((u64)(v_0_sroa_0_0_i_i19_i_i) + (u64)(18446744073709551613ull));
     v_306 = v_out + (int64_t)(v_start1_i13_i_i_i_i);
     put_u8(v_306, 2u);
-    v_12_i_i28_i_sroa_4_0_sroa_idx_i = v_306 + 1;
-    put_u8(v_12_i_i28_i_sroa_4_0_sroa_idx_i, 129u);
-    v_12_i_i28_i_sroa_5_0_sroa_idx_i = v_306 + 2;
-    put_u8(v_12_i_i28_i_sroa_5_0_sroa_idx_i, v_13_i_i_i_i);
+    v_12_i_i_i_sroa_4_0_sroa_idx_i = v_306 + 1;
+    put_u8(v_12_i_i_i_sroa_4_0_sroa_idx_i, 129u);
+    v_12_i_i_i_sroa_5_0_sroa_idx_i = v_306 + 2;
+    put_u8(v_12_i_i_i_sroa_5_0_sroa_idx_i, v_13_i_i_i_i);
     { p_v_writer_sroa_174_22_i = v_start1_i13_i_i_i_i; goto L_Prepend_prepend_header_exit_i_i__2; }
 L_bb6_i_i_i_i:;
-    v_22_i_i_i_i = v_13_i29_i_i < 16777216u;
-    if (v_22_i_i_i_i) { goto L_bb7_i_i34_i_i; } else { goto L_bb8_i_i33_i_i; }
-L_bb5_i_i35_i_i:;
-    v_4_i30_i_i_i_i = v_0_sroa_0_0_i_i24_i_i < 4u;
-    if (v_4_i30_i_i_i_i) { p_v_writer_sroa_174_22_i = v_0_sroa_0_0_i_i24_i_i; goto L_Prepend_prepend_header_exit_i_i__2; } else { goto L_bb2_i31_i_i_i_i; }
+    v_22_i_i_i_i = v_13_i4_i_i < 16777216u;
+    if (v_22_i_i_i_i) { goto L_bb7_i_i_i_i; } else { goto L_bb8_i_i_i_i; }
+L_bb5_i_i_i_i:;
+    v_4_i30_i_i_i_i = v_0_sroa_0_0_i_i19_i_i < 4u;
+    if (v_4_i30_i_i_i_i) { p_v_writer_sroa_174_22_i = v_0_sroa_0_0_i_i19_i_i; goto L_Prepend_prepend_header_exit_i_i__2; } else { goto L_bb2_i31_i_i_i_i; }
 L_bb2_i31_i_i_i_i:;
-    v_10_not_i33_i_i_i_i = v_0_sroa_0_0_i_i24_i_i > v_encoding_sroa_0_0_i14_i2020_i;
-    if (v_10_not_i33_i_i_i_i) { goto L_bb7_i43_i_i_i_i; } else { goto L_copy_from_slice_pkcs1_c_exit1477_i; }
+    v_10_not_i33_i_i_i_i = v_0_sroa_0_0_i_i19_i_i > v_encoding_sroa_0_0_i12_i2037_i;
+    if (v_10_not_i33_i_i_i_i) { goto L_bb7_i43_i_i_i_i; } else { goto L_copy_from_slice_pkcs1_c_exit1494_i; }
 L_bb7_i43_i_i_i_i:;
     TRAP();
     TRAP();
-L_copy_from_slice_pkcs1_c_exit1477_i:;
-    v_start1_i32_i_i_i_i = (u64)((u64)(v_0_sroa_0_0_i_i24_i_i) + (u64)(18446744073709551612ull));
+L_copy_from_slice_pkcs1_c_exit1494_i:;
+    v_start1_i32_i_i_i_i = (u64)((u64)(v_0_sroa_0_0_i_i19_i_i) + (u64)(18446744073709551612ull));
     v_307 = v_out + (int64_t)(v_start1_i32_i_i_i_i);
-    v_308 = (u32)((u32)(v_13_i29_i_i) | (u32)(42074112u));
+    v_308 = (u32)((u32)(v_13_i4_i_i) | (u32)(42074112u));
     v_17_i_i_i_sroa_0_sroa_0_0_insert_insert_i = TURNED(32, v_308);
     put_u32(v_307, v_17_i_i_i_sroa_0_sroa_0_0_insert_insert_i);
     { p_v_writer_sroa_174_22_i = v_start1_i32_i_i_i_i; goto L_Prepend_prepend_header_exit_i_i__2; }
-L_bb8_i_i33_i_i:;
+L_bb8_i_i_i_i:;
     v_371_i_i_i_i = (u64)((u64)(v_5_i_i_i) >> (u64)((24u & 63)));
     v_36_i_i_i_i = (u8)(v_371_i_i_i_i);
     v_402_i_i_i_i = (u64)((u64)(v_5_i_i_i) >> (u64)((16u & 63)));
@@ -23764,16 +23764,16 @@ L_bb8_i_i33_i_i:;
     v_433_i_i_i_i = (u64)((u64)(v_5_i_i_i) >> (u64)((8u & 63)));
     v_41_i_i_i_i = (u8)(v_433_i_i_i_i);
     v_44_i_i_i_i = (u8)(v_5_i_i_i);
-    v_4_i68_i_i_i_i = v_0_sroa_0_0_i_i24_i_i < 6u;
-    if (v_4_i68_i_i_i_i) { p_v_writer_sroa_174_22_i = v_0_sroa_0_0_i_i24_i_i; goto L_Prepend_prepend_header_exit_i_i__2; } else { goto L_bb2_i69_i_i_i_i; }
+    v_4_i68_i_i_i_i = v_0_sroa_0_0_i_i19_i_i < 6u;
+    if (v_4_i68_i_i_i_i) { p_v_writer_sroa_174_22_i = v_0_sroa_0_0_i_i19_i_i; goto L_Prepend_prepend_header_exit_i_i__2; } else { goto L_bb2_i69_i_i_i_i; }
 L_bb2_i69_i_i_i_i:;
-    v_10_not_i71_i_i_i_i = v_0_sroa_0_0_i_i24_i_i > v_encoding_sroa_0_0_i14_i2020_i;
-    if (v_10_not_i71_i_i_i_i) { goto L_bb7_i81_i_i_i_i; } else { goto L_copy_from_slice_pkcs1_c_exit1481_i; }
+    v_10_not_i71_i_i_i_i = v_0_sroa_0_0_i_i19_i_i > v_encoding_sroa_0_0_i12_i2037_i;
+    if (v_10_not_i71_i_i_i_i) { goto L_bb7_i81_i_i_i_i; } else { goto L_copy_from_slice_pkcs1_c_exit1498_i; }
 L_bb7_i81_i_i_i_i:;
     TRAP();
     TRAP();
-L_copy_from_slice_pkcs1_c_exit1481_i:;
-    v_start1_i70_i_i_i_i = (u64)((u64)(v_0_sroa_0_0_i_i24_i_i) + (u64)(18446744073709551610ull));
+L_copy_from_slice_pkcs1_c_exit1498_i:;
+    v_start1_i70_i_i_i_i = (u64)((u64)(v_0_sroa_0_0_i_i19_i_i) + (u64)(18446744073709551610ull));
     v_309 = v_out + (int64_t)(v_start1_i70_i_i_i_i);
     put_u8(v_309, 2u);
     v_35_i_i_i_sroa_4_0_sroa_idx_i = v_309 + 1;
@@ -23787,22 +23787,22 @@ L_copy_from_slice_pkcs1_c_exit1481_i:;
     v_35_i_i_i_sroa_8_0_sroa_idx_i = v_309 + 5;
     put_u8(v_35_i_i_i_sroa_8_0_sroa_idx_i, v_44_i_i_i_i);
     { p_v_writer_sroa_174_22_i = v_start1_i70_i_i_i_i; goto L_Prepend_prepend_header_exit_i_i__2; }
-L_bb7_i_i34_i_i:;
+L_bb7_i_i_i_i:;
     v_274_i_i_i_i = (u64)((u64)(v_5_i_i_i) >> (u64)((16u & 63)));
     v_26_i_i_i_i = (u8)(v_274_i_i_i_i);
     v_305_i_i_i_i = (u64)((u64)(v_5_i_i_i) >> (u64)((8u & 63)));
     v_28_i_i_i_i = (u8)(v_305_i_i_i_i);
     v_31_i_i_i_i = (u8)(v_5_i_i_i);
-    v_4_i49_i_i_i_i = v_0_sroa_0_0_i_i24_i_i < 5u;
-    if (v_4_i49_i_i_i_i) { p_v_writer_sroa_174_22_i = v_0_sroa_0_0_i_i24_i_i; goto L_Prepend_prepend_header_exit_i_i__2; } else { goto L_bb2_i50_i_i_i_i; }
+    v_4_i49_i_i_i_i = v_0_sroa_0_0_i_i19_i_i < 5u;
+    if (v_4_i49_i_i_i_i) { p_v_writer_sroa_174_22_i = v_0_sroa_0_0_i_i19_i_i; goto L_Prepend_prepend_header_exit_i_i__2; } else { goto L_bb2_i50_i_i_i_i; }
 L_bb2_i50_i_i_i_i:;
-    v_10_not_i52_i_i_i_i = v_0_sroa_0_0_i_i24_i_i > v_encoding_sroa_0_0_i14_i2020_i;
-    if (v_10_not_i52_i_i_i_i) { goto L_bb7_i62_i_i_i_i; } else { goto L_copy_from_slice_pkcs1_c_exit1485_i; }
+    v_10_not_i52_i_i_i_i = v_0_sroa_0_0_i_i19_i_i > v_encoding_sroa_0_0_i12_i2037_i;
+    if (v_10_not_i52_i_i_i_i) { goto L_bb7_i62_i_i_i_i; } else { goto L_copy_from_slice_pkcs1_c_exit1502_i; }
 L_bb7_i62_i_i_i_i:;
     TRAP();
     TRAP();
-L_copy_from_slice_pkcs1_c_exit1485_i:;
-    v_start1_i51_i_i_i_i = (u64)((u64)(v_0_sroa_0_0_i_i24_i_i) + (u64)(18446744073709551611ull));
+L_copy_from_slice_pkcs1_c_exit1502_i:;
+    v_start1_i51_i_i_i_i = (u64)((u64)(v_0_sroa_0_0_i_i19_i_i) + (u64)(18446744073709551611ull));
     v_310 = v_out + (int64_t)(v_start1_i51_i_i_i_i);
     put_u8(v_310, 2u);
     v_25_i_i_i_sroa_4_0_sroa_idx_i = v_310 + 1;
@@ -23816,128 +23816,128 @@ L_copy_from_slice_pkcs1_c_exit1485_i:;
     { p_v_writer_sroa_174_22_i = v_start1_i51_i_i_i_i; goto L_Prepend_prepend_header_exit_i_i__2; }
 L_Prepend_prepend_header_exit_i_i__2:;
     v_writer_sroa_174_22_i = p_v_writer_sroa_174_22_i;
-    v_5_i63_i_i = (u64)((u64)(v_encoding_sroa_0_0_i14_i2020_i) - (u64)(v_writer_sroa_174_22_i));
-    v_13_i64_i_i = (u32)(v_5_i63_i_i);
-    v_4_i_i66_i_i = v_13_i64_i_i < 128u;
-    if (v_4_i_i66_i_i) { goto L_bb1_i_i165_i_i; } else { goto L_bb2_i_i67_i_i; }
-L_bb2_i_i67_i_i:;
-    v_9_i_i68_i_i = v_13_i64_i_i < 256u;
-    if (v_9_i_i68_i_i) { goto L_bb3_i_i145_i_i; } else { goto L_bb4_i_i69_i_i; }
-L_bb1_i_i165_i_i:;
-    v_8_i_i166_i_i = (u16)(v_5_i63_i_i);
-    v_4_i_i_i170_i_i = v_writer_sroa_174_22_i < 2u;
-    if (v_4_i_i_i170_i_i) { p_v_0_sroa_0_1 = 0u; goto L_bb8; } else { goto L_bb2_i_i_i171_i_i; }
-L_bb2_i_i_i171_i_i:;
-    v_10_not_i_i_i173_i_i = v_writer_sroa_174_22_i > v_encoding_sroa_0_0_i14_i2020_i;
-    if (v_10_not_i_i_i173_i_i) { goto L_bb7_i_i_i184_i_i; } else { goto L_copy_from_slice_pkcs1_c_exit1489_i; }
-L_bb7_i_i_i184_i_i:;
+    v_5_i32_i_i = (u64)((u64)(v_encoding_sroa_0_0_i12_i2037_i) - (u64)(v_writer_sroa_174_22_i));
+    v_13_i33_i_i = (u32)(v_5_i32_i_i);
+    v_4_i_i35_i_i = v_13_i33_i_i < 128u;
+    if (v_4_i_i35_i_i) { goto L_bb1_i_i134_i_i; } else { goto L_bb2_i_i36_i_i; }
+L_bb2_i_i36_i_i:;
+    v_9_i_i37_i_i = v_13_i33_i_i < 256u;
+    if (v_9_i_i37_i_i) { goto L_bb3_i_i114_i_i; } else { goto L_bb4_i_i38_i_i; }
+L_bb1_i_i134_i_i:;
+    v_8_i_i135_i_i = (u16)(v_5_i32_i_i);
+    v_4_i_i_i139_i_i = v_writer_sroa_174_22_i < 2u;
+    if (v_4_i_i_i139_i_i) { p_v_0_sroa_0_1 = 0u; goto L_bb8; } else { goto L_bb2_i_i_i140_i_i; }
+L_bb2_i_i_i140_i_i:;
+    v_10_not_i_i_i142_i_i = v_writer_sroa_174_22_i > v_encoding_sroa_0_0_i12_i2037_i;
+    if (v_10_not_i_i_i142_i_i) { goto L_bb7_i_i_i153_i_i; } else { goto L_copy_from_slice_pkcs1_c_exit1506_i; }
+L_bb7_i_i_i153_i_i:;
     TRAP();
     TRAP();
-L_copy_from_slice_pkcs1_c_exit1489_i:;
+L_copy_from_slice_pkcs1_c_exit1506_i:;
     v_311 = (P)((u64)v_out + (u64)(v_writer_sroa_174_22_i));
     v_312 = (P)((u64)v_311 + (u64)(-2));
-    v_7_i_i60_i_sroa_0_sroa_4_0_insert_shift_i = (u16)((u32)(v_8_i_i166_i_i) << (u32)((8u & 31)));
-    v_7_i_i60_i_sroa_0_sroa_0_0_insert_insert_i = (u16)((u32)(v_7_i_i60_i_sroa_0_sroa_4_0_insert_shift_i) | (u32)(48u));
-    put_u16(v_312, v_7_i_i60_i_sroa_0_sroa_0_0_insert_insert_i);
+    v_7_i_i29_i_sroa_0_sroa_4_0_insert_shift_i = (u16)((u32)(v_8_i_i135_i_i) << (u32)((8u & 31)));
+    v_7_i_i29_i_sroa_0_sroa_0_0_insert_insert_i = (u16)((u32)(v_7_i_i29_i_sroa_0_sroa_4_0_insert_shift_i) | (u32)(48u));
+    put_u16(v_312, v_7_i_i29_i_sroa_0_sroa_0_0_insert_insert_i);
     { p_v_0_sroa_0_1 = 0u; goto L_bb8; }
-L_bb4_i_i69_i_i:;
-    v_14_i_i70_i_i = v_13_i64_i_i < 65536u;
-    if (v_14_i_i70_i_i) { goto L_bb5_i_i123_i_i; } else { goto L_bb6_i_i71_i_i; }
-L_bb3_i_i145_i_i:;
-    v_13_i_i146_i_i = (u8)(v_5_i63_i_i);
-    v_4_i11_i_i150_i_i = v_writer_sroa_174_22_i < 3u;
-    if (v_4_i11_i_i150_i_i) { p_v_0_sroa_0_1 = 0u; goto L_bb8; } else { goto L_bb2_i12_i_i151_i_i; }
-L_bb2_i12_i_i151_i_i:;
-    v_10_not_i14_i_i153_i_i = v_writer_sroa_174_22_i > v_encoding_sroa_0_0_i14_i2020_i;
-    if (v_10_not_i14_i_i153_i_i) { goto L_bb7_i24_i_i164_i_i; } else { goto L_copy_from_slice_pkcs1_c_exit1493_i; }
-L_bb7_i24_i_i164_i_i:;
+L_bb4_i_i38_i_i:;
+    v_14_i_i39_i_i = v_13_i33_i_i < 65536u;
+    if (v_14_i_i39_i_i) { goto L_bb5_i_i92_i_i; } else { goto L_bb6_i_i40_i_i; }
+L_bb3_i_i114_i_i:;
+    v_13_i_i115_i_i = (u8)(v_5_i32_i_i);
+    v_4_i11_i_i119_i_i = v_writer_sroa_174_22_i < 3u;
+    if (v_4_i11_i_i119_i_i) { p_v_0_sroa_0_1 = 0u; goto L_bb8; } else { goto L_bb2_i12_i_i120_i_i; }
+L_bb2_i12_i_i120_i_i:;
+    v_10_not_i14_i_i122_i_i = v_writer_sroa_174_22_i > v_encoding_sroa_0_0_i12_i2037_i;
+    if (v_10_not_i14_i_i122_i_i) { goto L_bb7_i24_i_i133_i_i; } else { goto L_copy_from_slice_pkcs1_c_exit1510_i; }
+L_bb7_i24_i_i133_i_i:;
     TRAP();
     TRAP();
-L_copy_from_slice_pkcs1_c_exit1493_i:;
+L_copy_from_slice_pkcs1_c_exit1510_i:;
     v_313 = (P)((u64)v_out + (u64)(v_writer_sroa_174_22_i));
     v_314 = (P)((u64)v_313 + (u64)(-3));
     put_u8(v_314, 48u);
-    v_12_i_i59_i_sroa_4_0_sroa_idx_i = (P)((u64)v_313 + (u64)(-2));
-    put_u8(v_12_i_i59_i_sroa_4_0_sroa_idx_i, 129u);
-    v_12_i_i59_i_sroa_5_0_sroa_idx_i = (P)((u64)v_313 + (u64)(-1));
-    put_u8(v_12_i_i59_i_sroa_5_0_sroa_idx_i, v_13_i_i146_i_i);
+    v_12_i_i28_i_sroa_4_0_sroa_idx_i = (P)((u64)v_313 + (u64)(-2));
+    put_u8(v_12_i_i28_i_sroa_4_0_sroa_idx_i, 129u);
+    v_12_i_i28_i_sroa_5_0_sroa_idx_i = (P)((u64)v_313 + (u64)(-1));
+    put_u8(v_12_i_i28_i_sroa_5_0_sroa_idx_i, v_13_i_i115_i_i);
     { p_v_0_sroa_0_1 = 0u; goto L_bb8; }
-L_bb6_i_i71_i_i:;
-    v_22_i_i72_i_i = v_13_i64_i_i < 16777216u;
-    if (v_22_i_i72_i_i) { goto L_bb7_i_i99_i_i; } else { goto L_bb8_i_i73_i_i; }
-L_bb5_i_i123_i_i:;
-    v_4_i30_i_i130_i_i = v_writer_sroa_174_22_i < 4u;
-    if (v_4_i30_i_i130_i_i) { p_v_0_sroa_0_1 = 0u; goto L_bb8; } else { goto L_bb2_i31_i_i131_i_i; }
-L_bb2_i31_i_i131_i_i:;
-    v_10_not_i33_i_i133_i_i = v_writer_sroa_174_22_i > v_encoding_sroa_0_0_i14_i2020_i;
-    if (v_10_not_i33_i_i133_i_i) { goto L_bb7_i43_i_i144_i_i; } else { goto L_copy_from_slice_pkcs1_c_exit1497_i; }
-L_bb7_i43_i_i144_i_i:;
+L_bb6_i_i40_i_i:;
+    v_22_i_i41_i_i = v_13_i33_i_i < 16777216u;
+    if (v_22_i_i41_i_i) { goto L_bb7_i_i68_i_i; } else { goto L_bb8_i_i42_i_i; }
+L_bb5_i_i92_i_i:;
+    v_4_i30_i_i99_i_i = v_writer_sroa_174_22_i < 4u;
+    if (v_4_i30_i_i99_i_i) { p_v_0_sroa_0_1 = 0u; goto L_bb8; } else { goto L_bb2_i31_i_i100_i_i; }
+L_bb2_i31_i_i100_i_i:;
+    v_10_not_i33_i_i102_i_i = v_writer_sroa_174_22_i > v_encoding_sroa_0_0_i12_i2037_i;
+    if (v_10_not_i33_i_i102_i_i) { goto L_bb7_i43_i_i113_i_i; } else { goto L_copy_from_slice_pkcs1_c_exit1514_i; }
+L_bb7_i43_i_i113_i_i:;
     TRAP();
     TRAP();
-L_copy_from_slice_pkcs1_c_exit1497_i:;
+L_copy_from_slice_pkcs1_c_exit1514_i:;
     v_315 = (P)((u64)v_out + (u64)(v_writer_sroa_174_22_i));
     v_316 = (P)((u64)v_315 + (u64)(-4));
-    v_317 = (u32)((u32)(v_13_i64_i_i) | (u32)(813826048u));
-    v_17_i_i58_i_sroa_0_sroa_0_0_insert_insert_i = TURNED(32, v_317);
-    put_u32(v_316, v_17_i_i58_i_sroa_0_sroa_0_0_insert_insert_i);
+    v_317 = (u32)((u32)(v_13_i33_i_i) | (u32)(813826048u));
+    v_17_i_i27_i_sroa_0_sroa_0_0_insert_insert_i = TURNED(32, v_317);
+    put_u32(v_316, v_17_i_i27_i_sroa_0_sroa_0_0_insert_insert_i);
     { p_v_0_sroa_0_1 = 0u; goto L_bb8; }
-L_bb8_i_i73_i_i:;
-    v_371_i_i74_i_i = (u64)((u64)(v_5_i63_i_i) >> (u64)((24u & 63)));
-    v_36_i_i75_i_i = (u8)(v_371_i_i74_i_i);
-    v_402_i_i76_i_i = (u64)((u64)(v_5_i63_i_i) >> (u64)((16u & 63)));
-    v_38_i_i77_i_i = (u8)(v_402_i_i76_i_i);
-    v_433_i_i78_i_i = (u64)((u64)(v_5_i63_i_i) >> (u64)((8u & 63)));
-    v_41_i_i79_i_i = (u8)(v_433_i_i78_i_i);
-    v_44_i_i80_i_i = (u8)(v_5_i63_i_i);
-    v_4_i68_i_i84_i_i = v_writer_sroa_174_22_i < 6u;
-    if (v_4_i68_i_i84_i_i) { p_v_0_sroa_0_1 = 0u; goto L_bb8; } else { goto L_bb2_i69_i_i85_i_i; }
-L_bb2_i69_i_i85_i_i:;
-    v_10_not_i71_i_i87_i_i = v_writer_sroa_174_22_i > v_encoding_sroa_0_0_i14_i2020_i;
-    if (v_10_not_i71_i_i87_i_i) { goto L_bb7_i81_i_i98_i_i; } else { goto L_copy_from_slice_pkcs1_c_exit1501_i; }
-L_bb7_i81_i_i98_i_i:;
+L_bb8_i_i42_i_i:;
+    v_371_i_i43_i_i = (u64)((u64)(v_5_i32_i_i) >> (u64)((24u & 63)));
+    v_36_i_i44_i_i = (u8)(v_371_i_i43_i_i);
+    v_402_i_i45_i_i = (u64)((u64)(v_5_i32_i_i) >> (u64)((16u & 63)));
+    v_38_i_i46_i_i = (u8)(v_402_i_i45_i_i);
+    v_433_i_i47_i_i = (u64)((u64)(v_5_i32_i_i) >> (u64)((8u & 63)));
+    v_41_i_i48_i_i = (u8)(v_433_i_i47_i_i);
+    v_44_i_i49_i_i = (u8)(v_5_i32_i_i);
+    v_4_i68_i_i53_i_i = v_writer_sroa_174_22_i < 6u;
+    if (v_4_i68_i_i53_i_i) { p_v_0_sroa_0_1 = 0u; goto L_bb8; } else { goto L_bb2_i69_i_i54_i_i; }
+L_bb2_i69_i_i54_i_i:;
+    v_10_not_i71_i_i56_i_i = v_writer_sroa_174_22_i > v_encoding_sroa_0_0_i12_i2037_i;
+    if (v_10_not_i71_i_i56_i_i) { goto L_bb7_i81_i_i67_i_i; } else { goto L_copy_from_slice_pkcs1_c_exit1518_i; }
+L_bb7_i81_i_i67_i_i:;
     TRAP();
     TRAP();
-L_copy_from_slice_pkcs1_c_exit1501_i:;
+L_copy_from_slice_pkcs1_c_exit1518_i:;
     v_318 = (P)((u64)v_out + (u64)(v_writer_sroa_174_22_i));
     v_319 = (P)((u64)v_318 + (u64)(-6));
     put_u8(v_319, 48u);
-    v_35_i_i56_i_sroa_4_0_sroa_idx_i = (P)((u64)v_318 + (u64)(-5));
-    put_u8(v_35_i_i56_i_sroa_4_0_sroa_idx_i, 132u);
-    v_35_i_i56_i_sroa_5_0_sroa_idx_i = (P)((u64)v_318 + (u64)(-4));
-    put_u8(v_35_i_i56_i_sroa_5_0_sroa_idx_i, v_36_i_i75_i_i);
-    v_35_i_i56_i_sroa_6_0_sroa_idx_i = (P)((u64)v_318 + (u64)(-3));
-    put_u8(v_35_i_i56_i_sroa_6_0_sroa_idx_i, v_38_i_i77_i_i);
-    v_35_i_i56_i_sroa_7_0_sroa_idx_i = (P)((u64)v_318 + (u64)(-2));
-    put_u8(v_35_i_i56_i_sroa_7_0_sroa_idx_i, v_41_i_i79_i_i);
-    v_35_i_i56_i_sroa_8_0_sroa_idx_i = (P)((u64)v_318 + (u64)(-1));
-    put_u8(v_35_i_i56_i_sroa_8_0_sroa_idx_i, v_44_i_i80_i_i);
+    v_35_i_i25_i_sroa_4_0_sroa_idx_i = (P)((u64)v_318 + (u64)(-5));
+    put_u8(v_35_i_i25_i_sroa_4_0_sroa_idx_i, 132u);
+    v_35_i_i25_i_sroa_5_0_sroa_idx_i = (P)((u64)v_318 + (u64)(-4));
+    put_u8(v_35_i_i25_i_sroa_5_0_sroa_idx_i, v_36_i_i44_i_i);
+    v_35_i_i25_i_sroa_6_0_sroa_idx_i = (P)((u64)v_318 + (u64)(-3));
+    put_u8(v_35_i_i25_i_sroa_6_0_sroa_idx_i, v_38_i_i46_i_i);
+    v_35_i_i25_i_sroa_7_0_sroa_idx_i = (P)((u64)v_318 + (u64)(-2));
+    put_u8(v_35_i_i25_i_sroa_7_0_sroa_idx_i, v_41_i_i48_i_i);
+    v_35_i_i25_i_sroa_8_0_sroa_idx_i = (P)((u64)v_318 + (u64)(-1));
+    put_u8(v_35_i_i25_i_sroa_8_0_sroa_idx_i, v_44_i_i49_i_i);
     { p_v_0_sroa_0_1 = 0u; goto L_bb8; }
-L_bb7_i_i99_i_i:;
-    v_274_i_i100_i_i = (u64)((u64)(v_5_i63_i_i) >> (u64)((16u & 63)));
-    v_26_i_i101_i_i = (u8)(v_274_i_i100_i_i);
-    v_305_i_i102_i_i = (u64)((u64)(v_5_i63_i_i) >> (u64)((8u & 63)));
-    v_28_i_i103_i_i = (u8)(v_305_i_i102_i_i);
-    v_31_i_i104_i_i = (u8)(v_5_i63_i_i);
-    v_4_i49_i_i108_i_i = v_writer_sroa_174_22_i < 5u;
-    if (v_4_i49_i_i108_i_i) { p_v_0_sroa_0_1 = 0u; goto L_bb8; } else { goto L_bb2_i50_i_i109_i_i; }
-L_bb2_i50_i_i109_i_i:;
-    v_10_not_i52_i_i111_i_i = v_writer_sroa_174_22_i > v_encoding_sroa_0_0_i14_i2020_i;
-    if (v_10_not_i52_i_i111_i_i) { goto L_bb7_i62_i_i122_i_i; } else { goto L_copy_from_slice_pkcs1_c_exit1505_i; }
-L_bb7_i62_i_i122_i_i:;
+L_bb7_i_i68_i_i:;
+    v_274_i_i69_i_i = (u64)((u64)(v_5_i32_i_i) >> (u64)((16u & 63)));
+    v_26_i_i70_i_i = (u8)(v_274_i_i69_i_i);
+    v_305_i_i71_i_i = (u64)((u64)(v_5_i32_i_i) >> (u64)((8u & 63)));
+    v_28_i_i72_i_i = (u8)(v_305_i_i71_i_i);
+    v_31_i_i73_i_i = (u8)(v_5_i32_i_i);
+    v_4_i49_i_i77_i_i = v_writer_sroa_174_22_i < 5u;
+    if (v_4_i49_i_i77_i_i) { p_v_0_sroa_0_1 = 0u; goto L_bb8; } else { goto L_bb2_i50_i_i78_i_i; }
+L_bb2_i50_i_i78_i_i:;
+    v_10_not_i52_i_i80_i_i = v_writer_sroa_174_22_i > v_encoding_sroa_0_0_i12_i2037_i;
+    if (v_10_not_i52_i_i80_i_i) { goto L_bb7_i62_i_i91_i_i; } else { goto L_copy_from_slice_pkcs1_c_exit1522_i; }
+L_bb7_i62_i_i91_i_i:;
     TRAP();
     TRAP();
-L_copy_from_slice_pkcs1_c_exit1505_i:;
+L_copy_from_slice_pkcs1_c_exit1522_i:;
     v_320 = (P)((u64)v_out + (u64)(v_writer_sroa_174_22_i));
     v_321 = (P)((u64)v_320 + (u64)(-5));
     put_u8(v_321, 48u);
-    v_25_i_i57_i_sroa_4_0_sroa_idx_i = (P)((u64)v_320 + (u64)(-4));
-    put_u8(v_25_i_i57_i_sroa_4_0_sroa_idx_i, 131u);
-    v_25_i_i57_i_sroa_5_0_sroa_idx_i = (P)((u64)v_320 + (u64)(-3));
-    put_u8(v_25_i_i57_i_sroa_5_0_sroa_idx_i, v_26_i_i101_i_i);
-    v_25_i_i57_i_sroa_6_0_sroa_idx_i = (P)((u64)v_320 + (u64)(-2));
-    put_u8(v_25_i_i57_i_sroa_6_0_sroa_idx_i, v_28_i_i103_i_i);
-    v_25_i_i57_i_sroa_7_0_sroa_idx_i = (P)((u64)v_320 + (u64)(-1));
-    put_u8(v_25_i_i57_i_sroa_7_0_sroa_idx_i, v_31_i_i104_i_i);
+    v_25_i_i26_i_sroa_4_0_sroa_idx_i = (P)((u64)v_320 + (u64)(-4));
+    put_u8(v_25_i_i26_i_sroa_4_0_sroa_idx_i, 131u);
+    v_25_i_i26_i_sroa_5_0_sroa_idx_i = (P)((u64)v_320 + (u64)(-3));
+    put_u8(v_25_i_i26_i_sroa_5_0_sroa_idx_i, v_26_i_i70_i_i);
+    v_25_i_i26_i_sroa_6_0_sroa_idx_i = (P)((u64)v_320 + (u64)(-2));
+    put_u8(v_25_i_i26_i_sroa_6_0_sroa_idx_i, v_28_i_i72_i_i);
+    v_25_i_i26_i_sroa_7_0_sroa_idx_i = (P)((u64)v_320 + (u64)(-1));
+    put_u8(v_25_i_i26_i_sroa_7_0_sroa_idx_i, v_31_i_i73_i_i);
     { p_v_0_sroa_0_1 = 0u; goto L_bb8; }
 L_bb8:;
     v_0_sroa_0_1 = p_v_0_sroa_0_1;
@@ -30380,17 +30380,17 @@ static u32 proved_public_key_encode(P v_key, P v_out, u64 v_out_len, P v_len) {
     u64 p_v_rest_sroa_9_07_i_i21_i_lcssa;
     u8 p_v_6_i_i22_i_lcssa;
     P p_v_27_sroa_0_058_i20_ph;
-    u8 p_v_5_i_i10_i_i_i;
+    u8 p_v_5_i_i_i9_i_i_i;
     u64 p_v_27_sroa_7_057_i21;
     P p_v_27_sroa_0_058_i20;
     u64 p_v_sink;
     u64 p_v_encoding_sroa_0_0_i_i_i_i_i_i;
-    u64 p_v_encoding_sroa_0_0_i_i171_i;
-    u64 p_v_0_sroa_0_0_i_i19_i_i56_i_i_i;
+    u64 p_v_encoding_sroa_0_0_i_i170_i;
+    u64 p_v_0_sroa_0_0_i_i19_i_i_i56_i_i_i;
     u64 p_v_writer_sroa_48_0_i;
     u64 p_v_writer_sroa_48_1_i;
-    u64 p_v_0_sroa_0_0_i_i19_i_i_i_i_i;
-    u64 p_v_writer_sroa_48_1238241_i;
+    u64 p_v_0_sroa_0_0_i_i19_i_i_i_i_i_i;
+    u64 p_v_writer_sroa_48_1237240_i;
     u64 p_v_writer_sroa_48_2_i;
     u64 p_v_writer_sroa_48_3_i;
     u32 p_v_0_sroa_0_0;
@@ -30435,25 +30435,25 @@ static u32 proved_public_key_encode(P v_key, P v_out, u64 v_out_len, P v_len) {
     u1 v_5_i24_i;
     u1 v_10;
     P v_27_sroa_0_058_i20_ph;
-    u8 v_5_i_i10_i_i_i_pr;
-    u8 v_5_i_i10_i_i_i;
+    u8 v_5_i_i_i9_i_i_i_pr;
+    u8 v_5_i_i_i9_i_i_i;
     u64 v_27_sroa_7_057_i21;
     P v_27_sroa_0_058_i20;
-    u1 v_4_i1_i11_i_i_i;
-    u8 v_5_i_i10_i_i_i_lobit;
+    u1 v_4_i_i_i10_i_i_i;
+    u8 v_5_i_i_i9_i_i_i_lobit;
     u64 v_11;
     u64 v_counter_i_sroa_0_0_i;
-    u1 v_9_i_i_i14_i_i_i;
-    u1 v_10_i_i_i16_i_i_i;
-    u1 v_11_i_i_i18_i_i_i;
-    u1 v_12_i_i_i20_i_i_i;
+    u1 v_9_i_i_i13_i_i_i;
+    u1 v_10_i_i_i15_i_i_i;
+    u1 v_11_i_i_i17_i_i_i;
+    u1 v_12_i_i_i19_i_i_i;
     u64 v_;
     u64 v_sink;
     u64 v_12;
     u64 v_13;
-    u8 v_5_i_i_i_i16_i;
-    u1 v_4_i1_i_i_i_i;
-    u8 v_5_i_i_i_i16_i_lobit;
+    u8 v_5_i_i_i_i_i14_i;
+    u1 v_4_i_i_i_i_i15_i;
+    u8 v_5_i_i_i_i_i14_i_lobit;
     u64 v_14;
     u64 v_counter_i_sroa_0_1_i;
     u64 v_15;
@@ -30478,83 +30478,83 @@ static u32 proved_public_key_encode(P v_key, P v_out, u64 v_out_len, P v_len) {
     u64 v_25;
     u64 v_26;
     u1 v_13_i_i;
-    u64 v_encoding_sroa_0_0_i_i171_i;
+    u64 v_encoding_sroa_0_0_i_i170_i;
     u1 v_9_i;
-    u1 v_4_i_i8_i_i44_i_i_i;
-    u64 v_start1_i_i10_i_i46_i_i_i;
+    u1 v_4_i_i8_i_i_i44_i_i_i;
+    u64 v_start1_i_i10_i_i_i46_i_i_i;
     P v_27;
-    u64 v_0_sroa_0_0_i_i19_i_i56_i_i_i;
-    u1 v_4_i_i_i6_i191_i_i_i;
-    u1 v_10_not_i_i_i_i194_i_i_i;
-    u64 v_start1_i_i_i_i193_i_i_i;
+    u64 v_0_sroa_0_0_i_i19_i_i_i56_i_i_i;
+    u1 v_4_i_i_i_i8_i190_i_i_i;
+    u1 v_10_not_i_i_i_i11_i193_i_i_i;
+    u64 v_start1_i_i_i_i10_i192_i_i_i;
     P v_28;
     u64 v_writer_sroa_48_0_i;
-    u64 v_5_i_i_i65_i_i_i;
-    u32 v_13_i_i_i66_i_i_i;
-    u1 v_4_i_i_i_i68_i_i_i;
-    u1 v_9_i_i_i_i70_i_i_i;
-    u16 v_8_i_i_i_i168_i_i_i;
-    u1 v_4_i_i_i_i_i172_i_i_i;
-    u1 v_10_not_i_i_i_i_i175_i_i_i;
-    u64 v_start1_i_i_i_i_i174_i_i_i;
+    u64 v_5_i_i_i64_i_i_i;
+    u32 v_13_i_i_i65_i_i_i;
+    u1 v_4_i_i_i_i67_i_i_i;
+    u1 v_9_i_i_i_i69_i_i_i;
+    u16 v_8_i_i_i_i167_i_i_i;
+    u1 v_4_i_i_i_i_i171_i_i_i;
+    u1 v_10_not_i_i_i_i_i174_i_i_i;
+    u64 v_start1_i_i_i_i_i173_i_i_i;
     P v_29;
     u16 v_7_i_i_i_i33_i_i_sroa_0_sroa_4_0_insert_shift_i;
     u16 v_7_i_i_i_i33_i_i_sroa_0_sroa_0_0_insert_insert_i;
-    u1 v_14_i_i_i_i72_i_i_i;
-    u8 v_13_i_i_i_i148_i_i_i;
-    u1 v_4_i11_i_i_i_i152_i_i_i;
-    u1 v_10_not_i14_i_i_i_i155_i_i_i;
-    u64 v_start1_i13_i_i_i_i154_i_i_i;
+    u1 v_14_i_i_i_i71_i_i_i;
+    u8 v_13_i_i_i_i147_i_i_i;
+    u1 v_4_i11_i_i_i_i151_i_i_i;
+    u1 v_10_not_i14_i_i_i_i154_i_i_i;
+    u64 v_start1_i13_i_i_i_i153_i_i_i;
     P v_30;
     P v_12_i_i_i_i32_i_i_sroa_4_0_sroa_idx_i;
     P v_12_i_i_i_i32_i_i_sroa_5_0_sroa_idx_i;
-    u1 v_22_i_i_i_i74_i_i_i;
-    u1 v_4_i30_i_i_i_i132_i_i_i;
-    u1 v_10_not_i33_i_i_i_i135_i_i_i;
-    u64 v_start1_i32_i_i_i_i134_i_i_i;
+    u1 v_22_i_i_i_i73_i_i_i;
+    u1 v_4_i30_i_i_i_i131_i_i_i;
+    u1 v_10_not_i33_i_i_i_i134_i_i_i;
+    u64 v_start1_i32_i_i_i_i133_i_i_i;
     P v_31;
     u32 v_32;
     u32 v_17_i_i_i_i31_i_i_sroa_0_sroa_0_0_insert_insert_i;
-    u64 v_371_i_i_i_i76_i_i_i;
-    u8 v_36_i_i_i_i77_i_i_i;
-    u64 v_402_i_i_i_i78_i_i_i;
-    u8 v_38_i_i_i_i79_i_i_i;
-    u64 v_433_i_i_i_i80_i_i_i;
-    u8 v_41_i_i_i_i81_i_i_i;
-    u8 v_44_i_i_i_i82_i_i_i;
-    u1 v_4_i68_i_i_i_i86_i_i_i;
-    u1 v_10_not_i71_i_i_i_i89_i_i_i;
-    u64 v_start1_i70_i_i_i_i88_i_i_i;
+    u64 v_371_i_i_i_i75_i_i_i;
+    u8 v_36_i_i_i_i76_i_i_i;
+    u64 v_402_i_i_i_i77_i_i_i;
+    u8 v_38_i_i_i_i78_i_i_i;
+    u64 v_433_i_i_i_i79_i_i_i;
+    u8 v_41_i_i_i_i80_i_i_i;
+    u8 v_44_i_i_i_i81_i_i_i;
+    u1 v_4_i68_i_i_i_i85_i_i_i;
+    u1 v_10_not_i71_i_i_i_i88_i_i_i;
+    u64 v_start1_i70_i_i_i_i87_i_i_i;
     P v_33;
     P v_35_i_i_i_i29_i_i_sroa_4_0_sroa_idx_i;
     P v_35_i_i_i_i29_i_i_sroa_5_0_sroa_idx_i;
     P v_35_i_i_i_i29_i_i_sroa_6_0_sroa_idx_i;
     P v_35_i_i_i_i29_i_i_sroa_7_0_sroa_idx_i;
     P v_35_i_i_i_i29_i_i_sroa_8_0_sroa_idx_i;
-    u64 v_274_i_i_i_i102_i_i_i;
-    u8 v_26_i_i_i_i103_i_i_i;
-    u64 v_305_i_i_i_i104_i_i_i;
-    u8 v_28_i_i_i_i105_i_i_i;
-    u8 v_31_i_i_i_i106_i_i_i;
-    u1 v_4_i49_i_i_i_i110_i_i_i;
-    u1 v_10_not_i52_i_i_i_i113_i_i_i;
-    u64 v_start1_i51_i_i_i_i112_i_i_i;
+    u64 v_274_i_i_i_i101_i_i_i;
+    u8 v_26_i_i_i_i102_i_i_i;
+    u64 v_305_i_i_i_i103_i_i_i;
+    u8 v_28_i_i_i_i104_i_i_i;
+    u8 v_31_i_i_i_i105_i_i_i;
+    u1 v_4_i49_i_i_i_i109_i_i_i;
+    u1 v_10_not_i52_i_i_i_i112_i_i_i;
+    u64 v_start1_i51_i_i_i_i111_i_i_i;
     P v_34;
     P v_25_i_i_i_i30_i_i_sroa_4_0_sroa_idx_i;
     P v_25_i_i_i_i30_i_i_sroa_5_0_sroa_idx_i;
     P v_25_i_i_i_i30_i_i_sroa_6_0_sroa_idx_i;
     P v_25_i_i_i_i30_i_i_sroa_7_0_sroa_idx_i;
     u64 v_writer_sroa_48_1_i;
-    u1 v_4_i_i8_i_i_i_i_i;
-    u1 v_10_not_i_i11_i_i_i_i_i;
-    u64 v_start1_i_i10_i_i_i_i_i;
+    u1 v_4_i_i8_i_i_i_i_i_i;
+    u1 v_10_not_i_i11_i_i_i_i_i_i;
+    u64 v_start1_i_i10_i_i_i_i_i_i;
     P v_35;
-    u64 v_0_sroa_0_0_i_i19_i_i_i_i_i;
-    u1 v_4_i_i_i6_i_i_i_i;
-    u1 v_10_not_i_i_i_i_i_i_i;
-    u64 v_start1_i_i_i_i_i_i_i;
+    u64 v_0_sroa_0_0_i_i19_i_i_i_i_i_i;
+    u1 v_4_i_i_i_i8_i_i_i_i;
+    u1 v_10_not_i_i_i_i11_i_i_i_i;
+    u64 v_start1_i_i_i_i10_i_i_i_i;
     P v_36;
-    u64 v_writer_sroa_48_1238241_i;
+    u64 v_writer_sroa_48_1237240_i;
     u64 v_writer_sroa_48_2_i;
     u64 v_5_i_i_i_i_i_i;
     u32 v_13_i_i_i_i_i_i;
@@ -30725,56 +30725,56 @@ L_bb9_i_i26_i:;
     if (v_3_i_i29_i) { p_v_rest_sroa_0_08_i_i20_i = v_17_i_i28_i; p_v_rest_sroa_9_07_i_i21_i = v_16_i_i27_i; goto L_bb3_i_i19_i; } else { goto L_UintRef_new_exit30_i; }
 L_uint_strip_exit_i11_i:;
     v_9 = v_12_1_i == 0u;
-    if (v_9) { p_v_0_sroa_0_0 = 4u; goto L_bb7; } else { p_v_27_sroa_0_058_i20_ph = v_12_0_i; goto L_bb2_i_i8_i_i_ithread_pre_split; }
+    if (v_9) { p_v_0_sroa_0_0 = 4u; goto L_bb7; } else { p_v_27_sroa_0_058_i20_ph = v_12_0_i; goto L_bb2_i_i_i8_i_i_ithread_pre_split; }
 L_bb3_i23_i:;
     v_rest_sroa_0_08_i_i20_i_lcssa = p_v_rest_sroa_0_08_i_i20_i_lcssa;
     v_rest_sroa_9_07_i_i21_i_lcssa = p_v_rest_sroa_9_07_i_i21_i_lcssa;
     v_6_i_i22_i_lcssa = p_v_6_i_i22_i_lcssa;
     v_5_i24_i = v_rest_sroa_9_07_i_i21_i_lcssa > 4294967295ull;
-    if (v_5_i24_i) { p_v_0_sroa_0_0 = 8u; goto L_bb7; } else { p_v_5_i_i10_i_i_i = v_6_i_i22_i_lcssa; p_v_27_sroa_7_057_i21 = v_rest_sroa_9_07_i_i21_i_lcssa; p_v_27_sroa_0_058_i20 = v_rest_sroa_0_08_i_i20_i_lcssa; goto L_bb2_i_i8_i_i_i; }
+    if (v_5_i24_i) { p_v_0_sroa_0_0 = 8u; goto L_bb7; } else { p_v_5_i_i_i9_i_i_i = v_6_i_i22_i_lcssa; p_v_27_sroa_7_057_i21 = v_rest_sroa_9_07_i_i21_i_lcssa; p_v_27_sroa_0_058_i20 = v_rest_sroa_0_08_i_i20_i_lcssa; goto L_bb2_i_i_i8_i_i_i; }
 L_UintRef_new_exit30_i:;
     v_10 = v_scevgep_i_i18_i == (P)0;
-    if (v_10) { p_v_0_sroa_0_0 = 2u; goto L_bb7; } else { p_v_27_sroa_0_058_i20_ph = v_scevgep_i_i18_i; goto L_bb2_i_i8_i_i_ithread_pre_split; }
-L_bb2_i_i8_i_i_ithread_pre_split:;
+    if (v_10) { p_v_0_sroa_0_0 = 2u; goto L_bb7; } else { p_v_27_sroa_0_058_i20_ph = v_scevgep_i_i18_i; goto L_bb2_i_i_i8_i_i_ithread_pre_split; }
+L_bb2_i_i_i8_i_i_ithread_pre_split:;
     v_27_sroa_0_058_i20_ph = p_v_27_sroa_0_058_i20_ph;
-    v_5_i_i10_i_i_i_pr = get_u8(v_27_sroa_0_058_i20_ph);
-    { p_v_5_i_i10_i_i_i = v_5_i_i10_i_i_i_pr; p_v_27_sroa_7_057_i21 = 1u; p_v_27_sroa_0_058_i20 = v_27_sroa_0_058_i20_ph; goto L_bb2_i_i8_i_i_i; }
-L_bb2_i_i8_i_i_i:;
-    v_5_i_i10_i_i_i = p_v_5_i_i10_i_i_i;
+    v_5_i_i_i9_i_i_i_pr = get_u8(v_27_sroa_0_058_i20_ph);
+    { p_v_5_i_i_i9_i_i_i = v_5_i_i_i9_i_i_i_pr; p_v_27_sroa_7_057_i21 = 1u; p_v_27_sroa_0_058_i20 = v_27_sroa_0_058_i20_ph; goto L_bb2_i_i_i8_i_i_i; }
+L_bb2_i_i_i8_i_i_i:;
+    v_5_i_i_i9_i_i_i = p_v_5_i_i_i9_i_i_i;
     v_27_sroa_7_057_i21 = p_v_27_sroa_7_057_i21;
     v_27_sroa_0_058_i20 = p_v_27_sroa_0_058_i20;
-    v_4_i1_i11_i_i_i = (u8)(v_5_i_i10_i_i_i ^ ((u8)1 << 7)) < (u8)(0u ^ ((u8)1 << 7));
-    v_5_i_i10_i_i_i_lobit = (u8)((u32)(v_5_i_i10_i_i_i) >> (u32)((7u & 31)));
-    v_11 = (u64)v_5_i_i10_i_i_i_lobit;
+    v_4_i_i_i10_i_i_i = (u8)(v_5_i_i_i9_i_i_i ^ ((u8)1 << 7)) < (u8)(0u ^ ((u8)1 << 7));
+    v_5_i_i_i9_i_i_i_lobit = (u8)((u32)(v_5_i_i_i9_i_i_i) >> (u32)((7u & 31)));
+    v_11 = (u64)v_5_i_i_i9_i_i_i_lobit;
     v_counter_i_sroa_0_0_i = (u64)((u64)(v_27_sroa_7_057_i21) + (u64)(v_11));
-    v_9_i_i_i14_i_i_i = v_counter_i_sroa_0_0_i < 128u;
-    if (v_9_i_i_i14_i_i_i) { p_v_sink = 2u; goto L_bb2_i_i_i_i14_i; } else { goto L_bb4_i_i_i15_i_i_i; }
-L_bb4_i_i_i15_i_i_i:;
-    v_10_i_i_i16_i_i_i = v_counter_i_sroa_0_0_i < 256u;
-    if (v_10_i_i_i16_i_i_i) { p_v_sink = 3u; goto L_bb2_i_i_i_i14_i; } else { goto L_bb6_i_i_i17_i_i_i; }
-L_bb6_i_i_i17_i_i_i:;
-    v_11_i_i_i18_i_i_i = v_counter_i_sroa_0_0_i < 65536u;
-    if (v_11_i_i_i18_i_i_i) { p_v_sink = 4u; goto L_bb2_i_i_i_i14_i; } else { goto L_bb8_i_i_i19_i_i_i; }
-L_bb8_i_i_i19_i_i_i:;
-    v_12_i_i_i20_i_i_i = v_counter_i_sroa_0_0_i < 16777216u;
-    v_ = v_12_i_i_i20_i_i_i ? 5u : 6u;
-    { p_v_sink = v_; goto L_bb2_i_i_i_i14_i; }
-L_bb2_i_i_i_i14_i:;
+    v_9_i_i_i13_i_i_i = v_counter_i_sroa_0_0_i < 128u;
+    if (v_9_i_i_i13_i_i_i) { p_v_sink = 2u; goto L_bb2_i_i_i_i_i13_i; } else { goto L_bb4_i_i_i14_i_i_i; }
+L_bb4_i_i_i14_i_i_i:;
+    v_10_i_i_i15_i_i_i = v_counter_i_sroa_0_0_i < 256u;
+    if (v_10_i_i_i15_i_i_i) { p_v_sink = 3u; goto L_bb2_i_i_i_i_i13_i; } else { goto L_bb6_i_i_i16_i_i_i; }
+L_bb6_i_i_i16_i_i_i:;
+    v_11_i_i_i17_i_i_i = v_counter_i_sroa_0_0_i < 65536u;
+    if (v_11_i_i_i17_i_i_i) { p_v_sink = 4u; goto L_bb2_i_i_i_i_i13_i; } else { goto L_bb8_i_i_i18_i_i_i; }
+L_bb8_i_i_i18_i_i_i:;
+    v_12_i_i_i19_i_i_i = v_counter_i_sroa_0_0_i < 16777216u;
+    v_ = v_12_i_i_i19_i_i_i ? 5u : 6u;
+    { p_v_sink = v_; goto L_bb2_i_i_i_i_i13_i; }
+L_bb2_i_i_i_i_i13_i:;
     v_sink = p_v_sink;
     v_12 = (u64)((u64)(v_counter_i_sroa_0_0_i) + (u64)(v_sink));
     v_13 = (u64)((u64)(v_12) + (u64)(v_14_sroa_7_047_i));
-    v_5_i_i_i_i16_i = get_u8(v_14_sroa_0_048_i);
-    v_4_i1_i_i_i_i = (u8)(v_5_i_i_i_i16_i ^ ((u8)1 << 7)) < (u8)(0u ^ ((u8)1 << 7));
-    v_5_i_i_i_i16_i_lobit = (u8)((u32)(v_5_i_i_i_i16_i) >> (u32)((7u & 31)));
-    v_14 = (u64)v_5_i_i_i_i16_i_lobit;
+    v_5_i_i_i_i_i14_i = get_u8(v_14_sroa_0_048_i);
+    v_4_i_i_i_i_i15_i = (u8)(v_5_i_i_i_i_i14_i ^ ((u8)1 << 7)) < (u8)(0u ^ ((u8)1 << 7));
+    v_5_i_i_i_i_i14_i_lobit = (u8)((u32)(v_5_i_i_i_i_i14_i) >> (u32)((7u & 31)));
+    v_14 = (u64)v_5_i_i_i_i_i14_i_lobit;
     v_counter_i_sroa_0_1_i = (u64)((u64)(v_13) + (u64)(v_14));
     v_15 = v_counter_i_sroa_0_1_i > v_12 ? v_counter_i_sroa_0_1_i - v_12 : 0u;
     v_9_i_i_i_i_i_i = v_15 < 128u;
-    if (v_9_i_i_i_i_i_i) { goto L_bb3_i_i_i_i_i_i; } else { goto L_bb4_i_i_i_i_i_i; }
+    if (v_9_i_i_i_i_i_i) { goto L_bb3_i_i_i_i_i16_i; } else { goto L_bb4_i_i_i_i_i_i; }
 L_bb4_i_i_i_i_i_i:;
     v_10_i_i_i_i_i_i = v_15 < 256u;
     if (v_10_i_i_i_i_i_i) { goto L_bb5_i_i_i_i_i_i; } else { goto L_bb6_i_i_i_i_i_i; }
-L_bb3_i_i_i_i_i_i:;
+L_bb3_i_i_i_i_i16_i:;
     v_16 = (u64)((u64)(v_15) + (u64)(2u));
     { p_v_encoding_sroa_0_0_i_i_i_i_i_i = v_16; goto L_counter_Counter_exit_i; }
 L_bb6_i_i_i_i_i_i:;
@@ -30805,217 +30805,217 @@ L_bb4_i_i_i:;
     if (v_10_i_i_i) { goto L_bb5_i_i_i; } else { goto L_bb6_i_i_i; }
 L_bb3_i_i_i4:;
     v_22 = (u64)((u64)(v_21) + (u64)(2u));
-    { p_v_encoding_sroa_0_0_i_i171_i = v_22; goto L_bb4_i; }
+    { p_v_encoding_sroa_0_0_i_i170_i = v_22; goto L_bb4_i; }
 L_bb6_i_i_i:;
     v_11_i_i_i = v_21 < 65536u;
     if (v_11_i_i_i) { goto L_bb7_i_i_i; } else { goto L_bb8_i_i_i; }
 L_bb5_i_i_i:;
     v_23 = (u64)((u64)(v_21) + (u64)(3u));
-    { p_v_encoding_sroa_0_0_i_i171_i = v_23; goto L_bb4_i; }
+    { p_v_encoding_sroa_0_0_i_i170_i = v_23; goto L_bb4_i; }
 L_bb8_i_i_i:;
     v_12_i_i_i = v_21 < 16777216u;
     if (v_12_i_i_i) { goto L_bb9_i_i_i3; } else { goto L_counter_Counter_exit_i__2; }
 L_bb7_i_i_i:;
     v_24 = (u64)((u64)(v_21) + (u64)(4u));
-    { p_v_encoding_sroa_0_0_i_i171_i = v_24; goto L_bb4_i; }
+    { p_v_encoding_sroa_0_0_i_i170_i = v_24; goto L_bb4_i; }
 L_bb9_i_i_i3:;
     v_25 = (u64)((u64)(v_21) + (u64)(5u));
-    { p_v_encoding_sroa_0_0_i_i171_i = v_25; goto L_bb4_i; }
+    { p_v_encoding_sroa_0_0_i_i170_i = v_25; goto L_bb4_i; }
 L_counter_Counter_exit_i__2:;
     v_26 = v_21 + (6u < ~v_21 ? 6u : ~v_21);
     v_13_i_i = v_26 > 4294967295ull;
-    if (v_13_i_i) { p_v_0_sroa_0_0 = 8u; goto L_bb7; } else { p_v_encoding_sroa_0_0_i_i171_i = v_26; goto L_bb4_i; }
+    if (v_13_i_i) { p_v_0_sroa_0_0 = 8u; goto L_bb7; } else { p_v_encoding_sroa_0_0_i_i170_i = v_26; goto L_bb4_i; }
 L_bb4_i:;
-    v_encoding_sroa_0_0_i_i171_i = p_v_encoding_sroa_0_0_i_i171_i;
-    put_u64(v_len, v_encoding_sroa_0_0_i_i171_i);
-    v_9_i = v_encoding_sroa_0_0_i_i171_i > v_out_len;
+    v_encoding_sroa_0_0_i_i170_i = p_v_encoding_sroa_0_0_i_i170_i;
+    put_u64(v_len, v_encoding_sroa_0_0_i_i170_i);
+    v_9_i = v_encoding_sroa_0_0_i_i170_i > v_out_len;
     if (v_9_i) { p_v_0_sroa_0_0 = 15u; goto L_bb7; } else { goto L_bb10_i; }
 L_bb10_i:;
-    v_4_i_i8_i_i44_i_i_i = v_27_sroa_7_057_i21 > v_encoding_sroa_0_0_i_i171_i;
-    if (v_4_i_i8_i_i44_i_i_i) { p_v_0_sroa_0_0_i_i19_i_i56_i_i_i = v_encoding_sroa_0_0_i_i171_i; goto L_bb2_i_i58_i_i_i; } else { goto L_copy_from_slice_pkcs1_c_exit_i; }
+    v_4_i_i8_i_i_i44_i_i_i = v_27_sroa_7_057_i21 > v_encoding_sroa_0_0_i_i170_i;
+    if (v_4_i_i8_i_i_i44_i_i_i) { p_v_0_sroa_0_0_i_i19_i_i_i56_i_i_i = v_encoding_sroa_0_0_i_i170_i; goto L_bb2_i_i_i58_i_i_i; } else { goto L_copy_from_slice_pkcs1_c_exit_i; }
 L_copy_from_slice_pkcs1_c_exit_i:;
-    v_start1_i_i10_i_i46_i_i_i = (u64)((u64)(v_encoding_sroa_0_0_i_i171_i) - (u64)(v_27_sroa_7_057_i21));
-    v_27 = v_out + (int64_t)(v_start1_i_i10_i_i46_i_i_i);
+    v_start1_i_i10_i_i_i46_i_i_i = (u64)((u64)(v_encoding_sroa_0_0_i_i170_i) - (u64)(v_27_sroa_7_057_i21));
+    v_27 = v_out + (int64_t)(v_start1_i_i10_i_i_i46_i_i_i);
     copy(v_27, v_27_sroa_0_058_i20, v_27_sroa_7_057_i21);
-    { p_v_0_sroa_0_0_i_i19_i_i56_i_i_i = v_start1_i_i10_i_i46_i_i_i; goto L_bb2_i_i58_i_i_i; }
-L_bb2_i_i58_i_i_i:;
-    v_0_sroa_0_0_i_i19_i_i56_i_i_i = p_v_0_sroa_0_0_i_i19_i_i56_i_i_i;
-    if (v_4_i1_i11_i_i_i) { goto L_bb3_i_i187_i_i_i; } else { p_v_writer_sroa_48_0_i = v_0_sroa_0_0_i_i19_i_i56_i_i_i; goto L_back_writer_BackWriter_exit_i62_i_i_i; }
-L_bb3_i_i187_i_i_i:;
-    v_4_i_i_i6_i191_i_i_i = v_0_sroa_0_0_i_i19_i_i56_i_i_i == 0u;
-    if (v_4_i_i_i6_i191_i_i_i) { p_v_writer_sroa_48_1238241_i = 0u; p_v_writer_sroa_48_2_i = 0u; goto L_back_writer_BackWriter_exit_i_i_i_i; } else { goto L_bb2_i_i_i7_i192_i_i_i; }
-L_bb2_i_i_i7_i192_i_i_i:;
-    v_10_not_i_i_i_i194_i_i_i = v_0_sroa_0_0_i_i19_i_i56_i_i_i > v_encoding_sroa_0_0_i_i171_i;
-    if (v_10_not_i_i_i_i194_i_i_i) { goto L_bb7_i_i_i10_i205_i_i_i; } else { goto L_copy_from_slice_pkcs1_c_exit27_i; }
-L_bb7_i_i_i10_i205_i_i_i:;
+    { p_v_0_sroa_0_0_i_i19_i_i_i56_i_i_i = v_start1_i_i10_i_i_i46_i_i_i; goto L_bb2_i_i_i58_i_i_i; }
+L_bb2_i_i_i58_i_i_i:;
+    v_0_sroa_0_0_i_i19_i_i_i56_i_i_i = p_v_0_sroa_0_0_i_i19_i_i_i56_i_i_i;
+    if (v_4_i_i_i10_i_i_i) { goto L_bb3_i_i_i186_i_i_i; } else { p_v_writer_sroa_48_0_i = v_0_sroa_0_0_i_i19_i_i_i56_i_i_i; goto L_back_writer_BackWriter_exit_i61_i_i_i; }
+L_bb3_i_i_i186_i_i_i:;
+    v_4_i_i_i_i8_i190_i_i_i = v_0_sroa_0_0_i_i19_i_i_i56_i_i_i == 0u;
+    if (v_4_i_i_i_i8_i190_i_i_i) { p_v_writer_sroa_48_1237240_i = 0u; p_v_writer_sroa_48_2_i = 0u; goto L_back_writer_BackWriter_exit_i_i_i_i; } else { goto L_bb2_i_i_i_i9_i191_i_i_i; }
+L_bb2_i_i_i_i9_i191_i_i_i:;
+    v_10_not_i_i_i_i11_i193_i_i_i = v_0_sroa_0_0_i_i19_i_i_i56_i_i_i > v_encoding_sroa_0_0_i_i170_i;
+    if (v_10_not_i_i_i_i11_i193_i_i_i) { goto L_bb7_i_i_i_i21_i204_i_i_i; } else { goto L_copy_from_slice_pkcs1_c_exit26_i; }
+L_bb7_i_i_i_i21_i204_i_i_i:;
     TRAP();
     TRAP();
-L_copy_from_slice_pkcs1_c_exit27_i:;
-    v_start1_i_i_i_i193_i_i_i = (u64)((u64)(v_0_sroa_0_0_i_i19_i_i56_i_i_i) + (u64)(18446744073709551615ull));
-    v_28 = v_out + (int64_t)(v_start1_i_i_i_i193_i_i_i);
+L_copy_from_slice_pkcs1_c_exit26_i:;
+    v_start1_i_i_i_i10_i192_i_i_i = (u64)((u64)(v_0_sroa_0_0_i_i19_i_i_i56_i_i_i) + (u64)(18446744073709551615ull));
+    v_28 = v_out + (int64_t)(v_start1_i_i_i_i10_i192_i_i_i);
     put_u8(v_28, 0u);
-    { p_v_writer_sroa_48_0_i = v_start1_i_i_i_i193_i_i_i; goto L_back_writer_BackWriter_exit_i62_i_i_i; }
-L_back_writer_BackWriter_exit_i62_i_i_i:;
+    { p_v_writer_sroa_48_0_i = v_start1_i_i_i_i10_i192_i_i_i; goto L_back_writer_BackWriter_exit_i61_i_i_i; }
+L_back_writer_BackWriter_exit_i61_i_i_i:;
     v_writer_sroa_48_0_i = p_v_writer_sroa_48_0_i;
-    v_5_i_i_i65_i_i_i = (u64)((u64)(v_encoding_sroa_0_0_i_i171_i) - (u64)(v_writer_sroa_48_0_i));
-    v_13_i_i_i66_i_i_i = (u32)(v_5_i_i_i65_i_i_i);
-    v_4_i_i_i_i68_i_i_i = v_13_i_i_i66_i_i_i < 128u;
-    if (v_4_i_i_i_i68_i_i_i) { goto L_bb1_i_i_i_i167_i_i_i; } else { goto L_bb2_i_i_i_i69_i_i_i; }
-L_bb2_i_i_i_i69_i_i_i:;
-    v_9_i_i_i_i70_i_i_i = v_13_i_i_i66_i_i_i < 256u;
-    if (v_9_i_i_i_i70_i_i_i) { goto L_bb3_i_i_i_i147_i_i_i; } else { goto L_bb4_i_i_i_i71_i_i_i; }
-L_bb1_i_i_i_i167_i_i_i:;
-    v_8_i_i_i_i168_i_i_i = (u16)(v_5_i_i_i65_i_i_i);
-    v_4_i_i_i_i_i172_i_i_i = v_writer_sroa_48_0_i < 2u;
-    if (v_4_i_i_i_i_i172_i_i_i) { p_v_writer_sroa_48_1_i = v_writer_sroa_48_0_i; goto L_back_writer_BackWriter_exit_i_i_i; } else { goto L_bb2_i_i_i_i_i173_i_i_i; }
-L_bb2_i_i_i_i_i173_i_i_i:;
-    v_10_not_i_i_i_i_i175_i_i_i = v_writer_sroa_48_0_i > v_encoding_sroa_0_0_i_i171_i;
-    if (v_10_not_i_i_i_i_i175_i_i_i) { goto L_bb7_i_i_i_i_i186_i_i_i; } else { goto L_copy_from_slice_pkcs1_c_exit31_i; }
-L_bb7_i_i_i_i_i186_i_i_i:;
+    v_5_i_i_i64_i_i_i = (u64)((u64)(v_encoding_sroa_0_0_i_i170_i) - (u64)(v_writer_sroa_48_0_i));
+    v_13_i_i_i65_i_i_i = (u32)(v_5_i_i_i64_i_i_i);
+    v_4_i_i_i_i67_i_i_i = v_13_i_i_i65_i_i_i < 128u;
+    if (v_4_i_i_i_i67_i_i_i) { goto L_bb1_i_i_i_i166_i_i_i; } else { goto L_bb2_i_i_i_i68_i_i_i; }
+L_bb2_i_i_i_i68_i_i_i:;
+    v_9_i_i_i_i69_i_i_i = v_13_i_i_i65_i_i_i < 256u;
+    if (v_9_i_i_i_i69_i_i_i) { goto L_bb3_i_i_i_i146_i_i_i; } else { goto L_bb4_i_i_i_i70_i_i_i; }
+L_bb1_i_i_i_i166_i_i_i:;
+    v_8_i_i_i_i167_i_i_i = (u16)(v_5_i_i_i64_i_i_i);
+    v_4_i_i_i_i_i171_i_i_i = v_writer_sroa_48_0_i < 2u;
+    if (v_4_i_i_i_i_i171_i_i_i) { p_v_writer_sroa_48_1_i = v_writer_sroa_48_0_i; goto L_back_writer_BackWriter_exit_i_i_i; } else { goto L_bb2_i_i_i_i_i172_i_i_i; }
+L_bb2_i_i_i_i_i172_i_i_i:;
+    v_10_not_i_i_i_i_i174_i_i_i = v_writer_sroa_48_0_i > v_encoding_sroa_0_0_i_i170_i;
+    if (v_10_not_i_i_i_i_i174_i_i_i) { goto L_bb7_i_i_i_i_i185_i_i_i; } else { goto L_copy_from_slice_pkcs1_c_exit30_i; }
+L_bb7_i_i_i_i_i185_i_i_i:;
     TRAP();
     TRAP();
-L_copy_from_slice_pkcs1_c_exit31_i:;
-    v_start1_i_i_i_i_i174_i_i_i = (u64)((u64)(v_writer_sroa_48_0_i) + (u64)(18446744073709551614ull));
-    v_29 = v_out + (int64_t)(v_start1_i_i_i_i_i174_i_i_i);
-    v_7_i_i_i_i33_i_i_sroa_0_sroa_4_0_insert_shift_i = (u16)((u32)(v_8_i_i_i_i168_i_i_i) << (u32)((8u & 31)));
+L_copy_from_slice_pkcs1_c_exit30_i:;
+    v_start1_i_i_i_i_i173_i_i_i = (u64)((u64)(v_writer_sroa_48_0_i) + (u64)(18446744073709551614ull));
+    v_29 = v_out + (int64_t)(v_start1_i_i_i_i_i173_i_i_i);
+    v_7_i_i_i_i33_i_i_sroa_0_sroa_4_0_insert_shift_i = (u16)((u32)(v_8_i_i_i_i167_i_i_i) << (u32)((8u & 31)));
     v_7_i_i_i_i33_i_i_sroa_0_sroa_0_0_insert_insert_i = (u16)((u32)(v_7_i_i_i_i33_i_i_sroa_0_sroa_4_0_insert_shift_i) | (u32)(2u));
     put_u16(v_29, v_7_i_i_i_i33_i_i_sroa_0_sroa_0_0_insert_insert_i);
-    { p_v_writer_sroa_48_1_i = v_start1_i_i_i_i_i174_i_i_i; goto L_back_writer_BackWriter_exit_i_i_i; }
-L_bb4_i_i_i_i71_i_i_i:;
-    v_14_i_i_i_i72_i_i_i = v_13_i_i_i66_i_i_i < 65536u;
-    if (v_14_i_i_i_i72_i_i_i) { goto L_bb5_i_i_i_i125_i_i_i; } else { goto L_bb6_i_i_i_i73_i_i_i; }
-L_bb3_i_i_i_i147_i_i_i:;
-    v_13_i_i_i_i148_i_i_i = (u8)(v_5_i_i_i65_i_i_i);
-    v_4_i11_i_i_i_i152_i_i_i = v_writer_sroa_48_0_i < 3u;
-    if (v_4_i11_i_i_i_i152_i_i_i) { p_v_writer_sroa_48_1_i = v_writer_sroa_48_0_i; goto L_back_writer_BackWriter_exit_i_i_i; } else { goto L_bb2_i12_i_i_i_i153_i_i_i; }
-L_bb2_i12_i_i_i_i153_i_i_i:;
-    v_10_not_i14_i_i_i_i155_i_i_i = v_writer_sroa_48_0_i > v_encoding_sroa_0_0_i_i171_i;
-    if (v_10_not_i14_i_i_i_i155_i_i_i) { goto L_bb7_i24_i_i_i_i166_i_i_i; } else { goto L_copy_from_slice_pkcs1_c_exit35_i; }
-L_bb7_i24_i_i_i_i166_i_i_i:;
+    { p_v_writer_sroa_48_1_i = v_start1_i_i_i_i_i173_i_i_i; goto L_back_writer_BackWriter_exit_i_i_i; }
+L_bb4_i_i_i_i70_i_i_i:;
+    v_14_i_i_i_i71_i_i_i = v_13_i_i_i65_i_i_i < 65536u;
+    if (v_14_i_i_i_i71_i_i_i) { goto L_bb5_i_i_i_i124_i_i_i; } else { goto L_bb6_i_i_i_i72_i_i_i; }
+L_bb3_i_i_i_i146_i_i_i:;
+    v_13_i_i_i_i147_i_i_i = (u8)(v_5_i_i_i64_i_i_i);
+    v_4_i11_i_i_i_i151_i_i_i = v_writer_sroa_48_0_i < 3u;
+    if (v_4_i11_i_i_i_i151_i_i_i) { p_v_writer_sroa_48_1_i = v_writer_sroa_48_0_i; goto L_back_writer_BackWriter_exit_i_i_i; } else { goto L_bb2_i12_i_i_i_i152_i_i_i; }
+L_bb2_i12_i_i_i_i152_i_i_i:;
+    v_10_not_i14_i_i_i_i154_i_i_i = v_writer_sroa_48_0_i > v_encoding_sroa_0_0_i_i170_i;
+    if (v_10_not_i14_i_i_i_i154_i_i_i) { goto L_bb7_i24_i_i_i_i165_i_i_i; } else { goto L_copy_from_slice_pkcs1_c_exit34_i; }
+L_bb7_i24_i_i_i_i165_i_i_i:;
     TRAP();
     TRAP();
-L_copy_from_slice_pkcs1_c_exit35_i:;
-    v_start1_i13_i_i_i_i154_i_i_i = (u64)((u64)(v_writer_sroa_48_0_i) + (u64)(18446744073709551613ull));
-    v_30 = v_out + (int64_t)(v_start1_i13_i_i_i_i154_i_i_i);
+L_copy_from_slice_pkcs1_c_exit34_i:;
+    v_start1_i13_i_i_i_i153_i_i_i = (u64)((u64)(v_writer_sroa_48_0_i) + (u64)(18446744073709551613ull));
+    v_30 = v_out + (int64_t)(v_start1_i13_i_i_i_i153_i_i_i);
     put_u8(v_30, 2u);
     v_12_i_i_i_i32_i_i_sroa_4_0_sroa_idx_i = v_30 + 1;
     put_u8(v_12_i_i_i_i32_i_i_sroa_4_0_sroa_idx_i, 129u);
     v_12_i_i_i_i32_i_i_sroa_5_0_sroa_idx_i = v_30 + 2;
-    put_u8(v_12_i_i_i_i32_i_i_sroa_5_0_sroa_idx_i, v_13_i_i_i_i148_i_i_i);
-    { p_v_writer_sroa_48_1_i = v_start1_i13_i_i_i_i154_i_i_i; goto L_back_writer_BackWriter_exit_i_i_i; }
-L_bb6_i_i_i_i73_i_i_i:;
-    v_22_i_i_i_i74_i_i_i = v_13_i_i_i66_i_i_i < 16777216u;
-    if (v_22_i_i_i_i74_i_i_i) { goto L_bb7_i_i_i_i101_i_i_i; } else { goto L_bb8_i_i_i_i75_i_i_i; }
-L_bb5_i_i_i_i125_i_i_i:;
-    v_4_i30_i_i_i_i132_i_i_i = v_writer_sroa_48_0_i < 4u;
-    if (v_4_i30_i_i_i_i132_i_i_i) { p_v_writer_sroa_48_1_i = v_writer_sroa_48_0_i; goto L_back_writer_BackWriter_exit_i_i_i; } else { goto L_bb2_i31_i_i_i_i133_i_i_i; }
-L_bb2_i31_i_i_i_i133_i_i_i:;
-    v_10_not_i33_i_i_i_i135_i_i_i = v_writer_sroa_48_0_i > v_encoding_sroa_0_0_i_i171_i;
-    if (v_10_not_i33_i_i_i_i135_i_i_i) { goto L_bb7_i43_i_i_i_i146_i_i_i; } else { goto L_copy_from_slice_pkcs1_c_exit39_i; }
-L_bb7_i43_i_i_i_i146_i_i_i:;
+    put_u8(v_12_i_i_i_i32_i_i_sroa_5_0_sroa_idx_i, v_13_i_i_i_i147_i_i_i);
+    { p_v_writer_sroa_48_1_i = v_start1_i13_i_i_i_i153_i_i_i; goto L_back_writer_BackWriter_exit_i_i_i; }
+L_bb6_i_i_i_i72_i_i_i:;
+    v_22_i_i_i_i73_i_i_i = v_13_i_i_i65_i_i_i < 16777216u;
+    if (v_22_i_i_i_i73_i_i_i) { goto L_bb7_i_i_i_i100_i_i_i; } else { goto L_bb8_i_i_i_i74_i_i_i; }
+L_bb5_i_i_i_i124_i_i_i:;
+    v_4_i30_i_i_i_i131_i_i_i = v_writer_sroa_48_0_i < 4u;
+    if (v_4_i30_i_i_i_i131_i_i_i) { p_v_writer_sroa_48_1_i = v_writer_sroa_48_0_i; goto L_back_writer_BackWriter_exit_i_i_i; } else { goto L_bb2_i31_i_i_i_i132_i_i_i; }
+L_bb2_i31_i_i_i_i132_i_i_i:;
+    v_10_not_i33_i_i_i_i134_i_i_i = v_writer_sroa_48_0_i > v_encoding_sroa_0_0_i_i170_i;
+    if (v_10_not_i33_i_i_i_i134_i_i_i) { goto L_bb7_i43_i_i_i_i145_i_i_i; } else { goto L_copy_from_slice_pkcs1_c_exit38_i; }
+L_bb7_i43_i_i_i_i145_i_i_i:;
     TRAP();
     TRAP();
-L_copy_from_slice_pkcs1_c_exit39_i:;
-    v_start1_i32_i_i_i_i134_i_i_i = (u64)((u64)(v_writer_sroa_48_0_i) + (u64)(18446744073709551612ull));
-    v_31 = v_out + (int64_t)(v_start1_i32_i_i_i_i134_i_i_i);
-    v_32 = (u32)((u32)(v_13_i_i_i66_i_i_i) | (u32)(42074112u));
+L_copy_from_slice_pkcs1_c_exit38_i:;
+    v_start1_i32_i_i_i_i133_i_i_i = (u64)((u64)(v_writer_sroa_48_0_i) + (u64)(18446744073709551612ull));
+    v_31 = v_out + (int64_t)(v_start1_i32_i_i_i_i133_i_i_i);
+    v_32 = (u32)((u32)(v_13_i_i_i65_i_i_i) | (u32)(42074112u));
     v_17_i_i_i_i31_i_i_sroa_0_sroa_0_0_insert_insert_i = TURNED(32, v_32);
     put_u32(v_31, v_17_i_i_i_i31_i_i_sroa_0_sroa_0_0_insert_insert_i);
-    { p_v_writer_sroa_48_1_i = v_start1_i32_i_i_i_i134_i_i_i; goto L_back_writer_BackWriter_exit_i_i_i; }
-L_bb8_i_i_i_i75_i_i_i:;
-    v_371_i_i_i_i76_i_i_i = (u64)((u64)(v_5_i_i_i65_i_i_i) >> (u64)((24u & 63)));
-    v_36_i_i_i_i77_i_i_i = (u8)(v_371_i_i_i_i76_i_i_i);
-    v_402_i_i_i_i78_i_i_i = (u64)((u64)(v_5_i_i_i65_i_i_i) >> (u64)((16u & 63)));
-    v_38_i_i_i_i79_i_i_i = (u8)(v_402_i_i_i_i78_i_i_i);
-    v_433_i_i_i_i80_i_i_i = (u64)((u64)(v_5_i_i_i65_i_i_i) >> (u64)((8u & 63)));
-    v_41_i_i_i_i81_i_i_i = (u8)(v_433_i_i_i_i80_i_i_i);
-    v_44_i_i_i_i82_i_i_i = (u8)(v_5_i_i_i65_i_i_i);
-    v_4_i68_i_i_i_i86_i_i_i = v_writer_sroa_48_0_i < 6u;
-    if (v_4_i68_i_i_i_i86_i_i_i) { p_v_writer_sroa_48_1_i = v_writer_sroa_48_0_i; goto L_back_writer_BackWriter_exit_i_i_i; } else { goto L_bb2_i69_i_i_i_i87_i_i_i; }
-L_bb2_i69_i_i_i_i87_i_i_i:;
-    v_10_not_i71_i_i_i_i89_i_i_i = v_writer_sroa_48_0_i > v_encoding_sroa_0_0_i_i171_i;
-    if (v_10_not_i71_i_i_i_i89_i_i_i) { goto L_bb7_i81_i_i_i_i100_i_i_i; } else { goto L_copy_from_slice_pkcs1_c_exit43_i; }
-L_bb7_i81_i_i_i_i100_i_i_i:;
+    { p_v_writer_sroa_48_1_i = v_start1_i32_i_i_i_i133_i_i_i; goto L_back_writer_BackWriter_exit_i_i_i; }
+L_bb8_i_i_i_i74_i_i_i:;
+    v_371_i_i_i_i75_i_i_i = (u64)((u64)(v_5_i_i_i64_i_i_i) >> (u64)((24u & 63)));
+    v_36_i_i_i_i76_i_i_i = (u8)(v_371_i_i_i_i75_i_i_i);
+    v_402_i_i_i_i77_i_i_i = (u64)((u64)(v_5_i_i_i64_i_i_i) >> (u64)((16u & 63)));
+    v_38_i_i_i_i78_i_i_i = (u8)(v_402_i_i_i_i77_i_i_i);
+    v_433_i_i_i_i79_i_i_i = (u64)((u64)(v_5_i_i_i64_i_i_i) >> (u64)((8u & 63)));
+    v_41_i_i_i_i80_i_i_i = (u8)(v_433_i_i_i_i79_i_i_i);
+    v_44_i_i_i_i81_i_i_i = (u8)(v_5_i_i_i64_i_i_i);
+    v_4_i68_i_i_i_i85_i_i_i = v_writer_sroa_48_0_i < 6u;
+    if (v_4_i68_i_i_i_i85_i_i_i) { p_v_writer_sroa_48_1_i = v_writer_sroa_48_0_i; goto L_back_writer_BackWriter_exit_i_i_i; } else { goto L_bb2_i69_i_i_i_i86_i_i_i; }
+L_bb2_i69_i_i_i_i86_i_i_i:;
+    v_10_not_i71_i_i_i_i88_i_i_i = v_writer_sroa_48_0_i > v_encoding_sroa_0_0_i_i170_i;
+    if (v_10_not_i71_i_i_i_i88_i_i_i) { goto L_bb7_i81_i_i_i_i99_i_i_i; } else { goto L_copy_from_slice_pkcs1_c_exit42_i; }
+L_bb7_i81_i_i_i_i99_i_i_i:;
     TRAP();
     TRAP();
-L_copy_from_slice_pkcs1_c_exit43_i:;
-    v_start1_i70_i_i_i_i88_i_i_i = (u64)((u64)(v_writer_sroa_48_0_i) + (u64)(18446744073709551610ull));
-    v_33 = v_out + (int64_t)(v_start1_i70_i_i_i_i88_i_i_i);
+L_copy_from_slice_pkcs1_c_exit42_i:;
+    v_start1_i70_i_i_i_i87_i_i_i = (u64)((u64)(v_writer_sroa_48_0_i) + (u64)(18446744073709551610ull));
+    v_33 = v_out + (int64_t)(v_start1_i70_i_i_i_i87_i_i_i);
     put_u8(v_33, 2u);
     v_35_i_i_i_i29_i_i_sroa_4_0_sroa_idx_i = v_33 + 1;
     put_u8(v_35_i_i_i_i29_i_i_sroa_4_0_sroa_idx_i, 132u);
     v_35_i_i_i_i29_i_i_sroa_5_0_sroa_idx_i = v_33 + 2;
-    put_u8(v_35_i_i_i_i29_i_i_sroa_5_0_sroa_idx_i, v_36_i_i_i_i77_i_i_i);
+    put_u8(v_35_i_i_i_i29_i_i_sroa_5_0_sroa_idx_i, v_36_i_i_i_i76_i_i_i);
     v_35_i_i_i_i29_i_i_sroa_6_0_sroa_idx_i = v_33 + 3;
-    put_u8(v_35_i_i_i_i29_i_i_sroa_6_0_sroa_idx_i, v_38_i_i_i_i79_i_i_i);
+    put_u8(v_35_i_i_i_i29_i_i_sroa_6_0_sroa_idx_i, v_38_i_i_i_i78_i_i_i);
     v_35_i_i_i_i29_i_i_sroa_7_0_sroa_idx_i = v_33 + 4;
-    put_u8(v_35_i_i_i_i29_i_i_sroa_7_0_sroa_idx_i, v_41_i_i_i_i81_i_i_i);
+    put_u8(v_35_i_i_i_i29_i_i_sroa_7_0_sroa_idx_i, v_41_i_i_i_i80_i_i_i);
     v_35_i_i_i_i29_i_i_sroa_8_0_sroa_idx_i = v_33 + 5;
-    put_u8(v_35_i_i_i_i29_i_i_sroa_8_0_sroa_idx_i, v_44_i_i_i_i82_i_i_i);
-    { p_v_writer_sroa_48_1_i = v_start1_i70_i_i_i_i88_i_i_i; goto L_back_writer_BackWriter_exit_i_i_i; }
-L_bb7_i_i_i_i101_i_i_i:;
-    v_274_i_i_i_i102_i_i_i = (u64)((u64)(v_5_i_i_i65_i_i_i) >> (u64)((16u & 63)));
-    v_26_i_i_i_i103_i_i_i = (u8)(v_274_i_i_i_i102_i_i_i);
-    v_305_i_i_i_i104_i_i_i = (u64)((u64)(v_5_i_i_i65_i_i_i) >> (u64)((8u & 63)));
-    v_28_i_i_i_i105_i_i_i = (u8)(v_305_i_i_i_i104_i_i_i);
-    v_31_i_i_i_i106_i_i_i = (u8)(v_5_i_i_i65_i_i_i);
-    v_4_i49_i_i_i_i110_i_i_i = v_writer_sroa_48_0_i < 5u;
-    if (v_4_i49_i_i_i_i110_i_i_i) { p_v_writer_sroa_48_1_i = v_writer_sroa_48_0_i; goto L_back_writer_BackWriter_exit_i_i_i; } else { goto L_bb2_i50_i_i_i_i111_i_i_i; }
-L_bb2_i50_i_i_i_i111_i_i_i:;
-    v_10_not_i52_i_i_i_i113_i_i_i = v_writer_sroa_48_0_i > v_encoding_sroa_0_0_i_i171_i;
-    if (v_10_not_i52_i_i_i_i113_i_i_i) { goto L_bb7_i62_i_i_i_i124_i_i_i; } else { goto L_copy_from_slice_pkcs1_c_exit47_i; }
-L_bb7_i62_i_i_i_i124_i_i_i:;
+    put_u8(v_35_i_i_i_i29_i_i_sroa_8_0_sroa_idx_i, v_44_i_i_i_i81_i_i_i);
+    { p_v_writer_sroa_48_1_i = v_start1_i70_i_i_i_i87_i_i_i; goto L_back_writer_BackWriter_exit_i_i_i; }
+L_bb7_i_i_i_i100_i_i_i:;
+    v_274_i_i_i_i101_i_i_i = (u64)((u64)(v_5_i_i_i64_i_i_i) >> (u64)((16u & 63)));
+    v_26_i_i_i_i102_i_i_i = (u8)(v_274_i_i_i_i101_i_i_i);
+    v_305_i_i_i_i103_i_i_i = (u64)((u64)(v_5_i_i_i64_i_i_i) >> (u64)((8u & 63)));
+    v_28_i_i_i_i104_i_i_i = (u8)(v_305_i_i_i_i103_i_i_i);
+    v_31_i_i_i_i105_i_i_i = (u8)(v_5_i_i_i64_i_i_i);
+    v_4_i49_i_i_i_i109_i_i_i = v_writer_sroa_48_0_i < 5u;
+    if (v_4_i49_i_i_i_i109_i_i_i) { p_v_writer_sroa_48_1_i = v_writer_sroa_48_0_i; goto L_back_writer_BackWriter_exit_i_i_i; } else { goto L_bb2_i50_i_i_i_i110_i_i_i; }
+L_bb2_i50_i_i_i_i110_i_i_i:;
+    v_10_not_i52_i_i_i_i112_i_i_i = v_writer_sroa_48_0_i > v_encoding_sroa_0_0_i_i170_i;
+    if (v_10_not_i52_i_i_i_i112_i_i_i) { goto L_bb7_i62_i_i_i_i123_i_i_i; } else { goto L_copy_from_slice_pkcs1_c_exit46_i; }
+L_bb7_i62_i_i_i_i123_i_i_i:;
     TRAP();
     TRAP();
-L_copy_from_slice_pkcs1_c_exit47_i:;
-    v_start1_i51_i_i_i_i112_i_i_i = (u64)((u64)(v_writer_sroa_48_0_i) + (u64)(18446744073709551611ull));
-    v_34 = v_out + (int64_t)(v_start1_i51_i_i_i_i112_i_i_i);
+L_copy_from_slice_pkcs1_c_exit46_i:;
+    v_start1_i51_i_i_i_i111_i_i_i = (u64)((u64)(v_writer_sroa_48_0_i) + (u64)(18446744073709551611ull));
+    v_34 = v_out + (int64_t)(v_start1_i51_i_i_i_i111_i_i_i);
     put_u8(v_34, 2u);
     v_25_i_i_i_i30_i_i_sroa_4_0_sroa_idx_i = v_34 + 1;
     put_u8(v_25_i_i_i_i30_i_i_sroa_4_0_sroa_idx_i, 131u);
     v_25_i_i_i_i30_i_i_sroa_5_0_sroa_idx_i = v_34 + 2;
-    put_u8(v_25_i_i_i_i30_i_i_sroa_5_0_sroa_idx_i, v_26_i_i_i_i103_i_i_i);
+    put_u8(v_25_i_i_i_i30_i_i_sroa_5_0_sroa_idx_i, v_26_i_i_i_i102_i_i_i);
     v_25_i_i_i_i30_i_i_sroa_6_0_sroa_idx_i = v_34 + 3;
-    put_u8(v_25_i_i_i_i30_i_i_sroa_6_0_sroa_idx_i, v_28_i_i_i_i105_i_i_i);
+    put_u8(v_25_i_i_i_i30_i_i_sroa_6_0_sroa_idx_i, v_28_i_i_i_i104_i_i_i);
     v_25_i_i_i_i30_i_i_sroa_7_0_sroa_idx_i = v_34 + 4;
-    put_u8(v_25_i_i_i_i30_i_i_sroa_7_0_sroa_idx_i, v_31_i_i_i_i106_i_i_i);
-    { p_v_writer_sroa_48_1_i = v_start1_i51_i_i_i_i112_i_i_i; goto L_back_writer_BackWriter_exit_i_i_i; }
+    put_u8(v_25_i_i_i_i30_i_i_sroa_7_0_sroa_idx_i, v_31_i_i_i_i105_i_i_i);
+    { p_v_writer_sroa_48_1_i = v_start1_i51_i_i_i_i111_i_i_i; goto L_back_writer_BackWriter_exit_i_i_i; }
 L_back_writer_BackWriter_exit_i_i_i:;
     v_writer_sroa_48_1_i = p_v_writer_sroa_48_1_i;
-    v_4_i_i8_i_i_i_i_i = v_14_sroa_7_047_i > v_writer_sroa_48_1_i;
-    if (v_4_i_i8_i_i_i_i_i) { p_v_0_sroa_0_0_i_i19_i_i_i_i_i = v_writer_sroa_48_1_i; goto L_bb2_i_i_i_i5_i; } else { goto L_bb2_i_i9_i_i_i_i_i; }
-L_bb2_i_i9_i_i_i_i_i:;
-    v_10_not_i_i11_i_i_i_i_i = v_writer_sroa_48_1_i > v_encoding_sroa_0_0_i_i171_i;
-    if (v_10_not_i_i11_i_i_i_i_i) { goto L_bb7_i_i21_i_i_i_i_i; } else { goto L_copy_from_slice_pkcs1_c_exit51_i; }
-L_bb7_i_i21_i_i_i_i_i:;
+    v_4_i_i8_i_i_i_i_i_i = v_14_sroa_7_047_i > v_writer_sroa_48_1_i;
+    if (v_4_i_i8_i_i_i_i_i_i) { p_v_0_sroa_0_0_i_i19_i_i_i_i_i_i = v_writer_sroa_48_1_i; goto L_bb2_i_i_i_i_i_i; } else { goto L_bb2_i_i9_i_i_i_i_i_i; }
+L_bb2_i_i9_i_i_i_i_i_i:;
+    v_10_not_i_i11_i_i_i_i_i_i = v_writer_sroa_48_1_i > v_encoding_sroa_0_0_i_i170_i;
+    if (v_10_not_i_i11_i_i_i_i_i_i) { goto L_bb7_i_i21_i_i_i_i_i_i; } else { goto L_copy_from_slice_pkcs1_c_exit50_i; }
+L_bb7_i_i21_i_i_i_i_i_i:;
     TRAP();
     TRAP();
-L_copy_from_slice_pkcs1_c_exit51_i:;
-    v_start1_i_i10_i_i_i_i_i = (u64)((u64)(v_writer_sroa_48_1_i) - (u64)(v_14_sroa_7_047_i));
-    v_35 = v_out + (int64_t)(v_start1_i_i10_i_i_i_i_i);
+L_copy_from_slice_pkcs1_c_exit50_i:;
+    v_start1_i_i10_i_i_i_i_i_i = (u64)((u64)(v_writer_sroa_48_1_i) - (u64)(v_14_sroa_7_047_i));
+    v_35 = v_out + (int64_t)(v_start1_i_i10_i_i_i_i_i_i);
     copy(v_35, v_14_sroa_0_048_i, v_14_sroa_7_047_i);
-    { p_v_0_sroa_0_0_i_i19_i_i_i_i_i = v_start1_i_i10_i_i_i_i_i; goto L_bb2_i_i_i_i5_i; }
-L_bb2_i_i_i_i5_i:;
-    v_0_sroa_0_0_i_i19_i_i_i_i_i = p_v_0_sroa_0_0_i_i19_i_i_i_i_i;
-    if (v_4_i1_i_i_i_i) { goto L_bb3_i_i_i_i_i; } else { p_v_writer_sroa_48_1238241_i = v_writer_sroa_48_1_i; p_v_writer_sroa_48_2_i = v_0_sroa_0_0_i_i19_i_i_i_i_i; goto L_back_writer_BackWriter_exit_i_i_i_i; }
-L_bb3_i_i_i_i_i:;
-    v_4_i_i_i6_i_i_i_i = v_0_sroa_0_0_i_i19_i_i_i_i_i == 0u;
-    if (v_4_i_i_i6_i_i_i_i) { p_v_writer_sroa_48_1238241_i = v_writer_sroa_48_1_i; p_v_writer_sroa_48_2_i = 0u; goto L_back_writer_BackWriter_exit_i_i_i_i; } else { goto L_bb2_i_i_i7_i_i_i_i; }
-L_bb2_i_i_i7_i_i_i_i:;
-    v_10_not_i_i_i_i_i_i_i = v_0_sroa_0_0_i_i19_i_i_i_i_i > v_encoding_sroa_0_0_i_i171_i;
-    if (v_10_not_i_i_i_i_i_i_i) { goto L_bb7_i_i_i10_i_i_i_i; } else { goto L_copy_from_slice_pkcs1_c_exit55_i; }
-L_bb7_i_i_i10_i_i_i_i:;
+    { p_v_0_sroa_0_0_i_i19_i_i_i_i_i_i = v_start1_i_i10_i_i_i_i_i_i; goto L_bb2_i_i_i_i_i_i; }
+L_bb2_i_i_i_i_i_i:;
+    v_0_sroa_0_0_i_i19_i_i_i_i_i_i = p_v_0_sroa_0_0_i_i19_i_i_i_i_i_i;
+    if (v_4_i_i_i_i_i15_i) { goto L_bb3_i_i_i_i_i_i; } else { p_v_writer_sroa_48_1237240_i = v_writer_sroa_48_1_i; p_v_writer_sroa_48_2_i = v_0_sroa_0_0_i_i19_i_i_i_i_i_i; goto L_back_writer_BackWriter_exit_i_i_i_i; }
+L_bb3_i_i_i_i_i_i:;
+    v_4_i_i_i_i8_i_i_i_i = v_0_sroa_0_0_i_i19_i_i_i_i_i_i == 0u;
+    if (v_4_i_i_i_i8_i_i_i_i) { p_v_writer_sroa_48_1237240_i = v_writer_sroa_48_1_i; p_v_writer_sroa_48_2_i = 0u; goto L_back_writer_BackWriter_exit_i_i_i_i; } else { goto L_bb2_i_i_i_i9_i_i_i_i; }
+L_bb2_i_i_i_i9_i_i_i_i:;
+    v_10_not_i_i_i_i11_i_i_i_i = v_0_sroa_0_0_i_i19_i_i_i_i_i_i > v_encoding_sroa_0_0_i_i170_i;
+    if (v_10_not_i_i_i_i11_i_i_i_i) { goto L_bb7_i_i_i_i21_i_i_i_i; } else { goto L_copy_from_slice_pkcs1_c_exit54_i; }
+L_bb7_i_i_i_i21_i_i_i_i:;
     TRAP();
     TRAP();
-L_copy_from_slice_pkcs1_c_exit55_i:;
-    v_start1_i_i_i_i_i_i_i = (u64)((u64)(v_0_sroa_0_0_i_i19_i_i_i_i_i) + (u64)(18446744073709551615ull));
-    v_36 = v_out + (int64_t)(v_start1_i_i_i_i_i_i_i);
+L_copy_from_slice_pkcs1_c_exit54_i:;
+    v_start1_i_i_i_i10_i_i_i_i = (u64)((u64)(v_0_sroa_0_0_i_i19_i_i_i_i_i_i) + (u64)(18446744073709551615ull));
+    v_36 = v_out + (int64_t)(v_start1_i_i_i_i10_i_i_i_i);
     put_u8(v_36, 0u);
-    { p_v_writer_sroa_48_1238241_i = v_writer_sroa_48_1_i; p_v_writer_sroa_48_2_i = v_start1_i_i_i_i_i_i_i; goto L_back_writer_BackWriter_exit_i_i_i_i; }
+    { p_v_writer_sroa_48_1237240_i = v_writer_sroa_48_1_i; p_v_writer_sroa_48_2_i = v_start1_i_i_i_i10_i_i_i_i; goto L_back_writer_BackWriter_exit_i_i_i_i; }
 L_back_writer_BackWriter_exit_i_i_i_i:;
-    v_writer_sroa_48_1238241_i = p_v_writer_sroa_48_1238241_i;
+    v_writer_sroa_48_1237240_i = p_v_writer_sroa_48_1237240_i;
     v_writer_sroa_48_2_i = p_v_writer_sroa_48_2_i;
-    v_5_i_i_i_i_i_i = (u64)((u64)(v_writer_sroa_48_1238241_i) - (u64)(v_writer_sroa_48_2_i));
+    v_5_i_i_i_i_i_i = (u64)((u64)(v_writer_sroa_48_1237240_i) - (u64)(v_writer_sroa_48_2_i));
     v_13_i_i_i_i_i_i = (u32)(v_5_i_i_i_i_i_i);
     v_4_i_i_i_i_i_i_i = v_13_i_i_i_i_i_i < 128u;
     if (v_4_i_i_i_i_i_i_i) { goto L_bb1_i_i_i_i_i_i_i; } else { goto L_bb2_i_i_i_i_i_i_i; }
@@ -31027,12 +31027,12 @@ L_bb1_i_i_i_i_i_i_i:;
     v_4_i_i_i_i_i_i_i_i = v_writer_sroa_48_2_i < 2u;
     if (v_4_i_i_i_i_i_i_i_i) { p_v_writer_sroa_48_3_i = v_writer_sroa_48_2_i; goto L_back_writer_BackWriter_exit_i; } else { goto L_bb2_i_i_i_i_i_i_i_i; }
 L_bb2_i_i_i_i_i_i_i_i:;
-    v_10_not_i_i_i_i_i_i_i_i = v_writer_sroa_48_2_i > v_encoding_sroa_0_0_i_i171_i;
-    if (v_10_not_i_i_i_i_i_i_i_i) { goto L_bb7_i_i_i_i_i_i_i_i; } else { goto L_copy_from_slice_pkcs1_c_exit59_i; }
+    v_10_not_i_i_i_i_i_i_i_i = v_writer_sroa_48_2_i > v_encoding_sroa_0_0_i_i170_i;
+    if (v_10_not_i_i_i_i_i_i_i_i) { goto L_bb7_i_i_i_i_i_i_i_i; } else { goto L_copy_from_slice_pkcs1_c_exit58_i; }
 L_bb7_i_i_i_i_i_i_i_i:;
     TRAP();
     TRAP();
-L_copy_from_slice_pkcs1_c_exit59_i:;
+L_copy_from_slice_pkcs1_c_exit58_i:;
     v_start1_i_i_i_i_i_i_i_i = (u64)((u64)(v_writer_sroa_48_2_i) + (u64)(18446744073709551614ull));
     v_37 = v_out + (int64_t)(v_start1_i_i_i_i_i_i_i_i);
     v_7_i_i_i_i_i_i_sroa_0_sroa_4_0_insert_shift_i = (u16)((u32)(v_8_i_i_i_i_i_i_i) << (u32)((8u & 31)));
@@ -31047,12 +31047,12 @@ L_bb3_i_i_i_i_i_i_i:;
     v_4_i11_i_i_i_i_i_i_i = v_writer_sroa_48_2_i < 3u;
     if (v_4_i11_i_i_i_i_i_i_i) { p_v_writer_sroa_48_3_i = v_writer_sroa_48_2_i; goto L_back_writer_BackWriter_exit_i; } else { goto L_bb2_i12_i_i_i_i_i_i_i; }
 L_bb2_i12_i_i_i_i_i_i_i:;
-    v_10_not_i14_i_i_i_i_i_i_i = v_writer_sroa_48_2_i > v_encoding_sroa_0_0_i_i171_i;
-    if (v_10_not_i14_i_i_i_i_i_i_i) { goto L_bb7_i24_i_i_i_i_i_i_i; } else { goto L_copy_from_slice_pkcs1_c_exit63_i; }
+    v_10_not_i14_i_i_i_i_i_i_i = v_writer_sroa_48_2_i > v_encoding_sroa_0_0_i_i170_i;
+    if (v_10_not_i14_i_i_i_i_i_i_i) { goto L_bb7_i24_i_i_i_i_i_i_i; } else { goto L_copy_from_slice_pkcs1_c_exit62_i; }
 L_bb7_i24_i_i_i_i_i_i_i:;
     TRAP();
     TRAP();
-L_copy_from_slice_pkcs1_c_exit63_i:;
+L_copy_from_slice_pkcs1_c_exit62_i:;
     v_start1_i13_i_i_i_i_i_i_i = (u64)((u64)(v_writer_sroa_48_2_i) + (u64)(18446744073709551613ull));
     v_38 = v_out + (int64_t)(v_start1_i13_i_i_i_i_i_i_i);
     put_u8(v_38, 2u);
@@ -31068,12 +31068,12 @@ L_bb5_i_i_i_i_i_i_i:;
     v_4_i30_i_i_i_i_i_i_i = v_writer_sroa_48_2_i < 4u;
     if (v_4_i30_i_i_i_i_i_i_i) { p_v_writer_sroa_48_3_i = v_writer_sroa_48_2_i; goto L_back_writer_BackWriter_exit_i; } else { goto L_bb2_i31_i_i_i_i_i_i_i; }
 L_bb2_i31_i_i_i_i_i_i_i:;
-    v_10_not_i33_i_i_i_i_i_i_i = v_writer_sroa_48_2_i > v_encoding_sroa_0_0_i_i171_i;
-    if (v_10_not_i33_i_i_i_i_i_i_i) { goto L_bb7_i43_i_i_i_i_i_i_i; } else { goto L_copy_from_slice_pkcs1_c_exit67_i; }
+    v_10_not_i33_i_i_i_i_i_i_i = v_writer_sroa_48_2_i > v_encoding_sroa_0_0_i_i170_i;
+    if (v_10_not_i33_i_i_i_i_i_i_i) { goto L_bb7_i43_i_i_i_i_i_i_i; } else { goto L_copy_from_slice_pkcs1_c_exit66_i; }
 L_bb7_i43_i_i_i_i_i_i_i:;
     TRAP();
     TRAP();
-L_copy_from_slice_pkcs1_c_exit67_i:;
+L_copy_from_slice_pkcs1_c_exit66_i:;
     v_start1_i32_i_i_i_i_i_i_i = (u64)((u64)(v_writer_sroa_48_2_i) + (u64)(18446744073709551612ull));
     v_39 = v_out + (int64_t)(v_start1_i32_i_i_i_i_i_i_i);
     v_40 = (u32)((u32)(v_13_i_i_i_i_i_i) | (u32)(42074112u));
@@ -31091,12 +31091,12 @@ L_bb8_i_i_i_i_i_i_i:;
     v_4_i68_i_i_i_i_i_i_i = v_writer_sroa_48_2_i < 6u;
     if (v_4_i68_i_i_i_i_i_i_i) { p_v_writer_sroa_48_3_i = v_writer_sroa_48_2_i; goto L_back_writer_BackWriter_exit_i; } else { goto L_bb2_i69_i_i_i_i_i_i_i; }
 L_bb2_i69_i_i_i_i_i_i_i:;
-    v_10_not_i71_i_i_i_i_i_i_i = v_writer_sroa_48_2_i > v_encoding_sroa_0_0_i_i171_i;
-    if (v_10_not_i71_i_i_i_i_i_i_i) { goto L_bb7_i81_i_i_i_i_i_i_i; } else { goto L_copy_from_slice_pkcs1_c_exit71_i; }
+    v_10_not_i71_i_i_i_i_i_i_i = v_writer_sroa_48_2_i > v_encoding_sroa_0_0_i_i170_i;
+    if (v_10_not_i71_i_i_i_i_i_i_i) { goto L_bb7_i81_i_i_i_i_i_i_i; } else { goto L_copy_from_slice_pkcs1_c_exit70_i; }
 L_bb7_i81_i_i_i_i_i_i_i:;
     TRAP();
     TRAP();
-L_copy_from_slice_pkcs1_c_exit71_i:;
+L_copy_from_slice_pkcs1_c_exit70_i:;
     v_start1_i70_i_i_i_i_i_i_i = (u64)((u64)(v_writer_sroa_48_2_i) + (u64)(18446744073709551610ull));
     v_41 = v_out + (int64_t)(v_start1_i70_i_i_i_i_i_i_i);
     put_u8(v_41, 2u);
@@ -31120,12 +31120,12 @@ L_bb7_i_i_i_i_i_i_i:;
     v_4_i49_i_i_i_i_i_i_i = v_writer_sroa_48_2_i < 5u;
     if (v_4_i49_i_i_i_i_i_i_i) { p_v_writer_sroa_48_3_i = v_writer_sroa_48_2_i; goto L_back_writer_BackWriter_exit_i; } else { goto L_bb2_i50_i_i_i_i_i_i_i; }
 L_bb2_i50_i_i_i_i_i_i_i:;
-    v_10_not_i52_i_i_i_i_i_i_i = v_writer_sroa_48_2_i > v_encoding_sroa_0_0_i_i171_i;
-    if (v_10_not_i52_i_i_i_i_i_i_i) { goto L_bb7_i62_i_i_i_i_i_i_i; } else { goto L_copy_from_slice_pkcs1_c_exit75_i; }
+    v_10_not_i52_i_i_i_i_i_i_i = v_writer_sroa_48_2_i > v_encoding_sroa_0_0_i_i170_i;
+    if (v_10_not_i52_i_i_i_i_i_i_i) { goto L_bb7_i62_i_i_i_i_i_i_i; } else { goto L_copy_from_slice_pkcs1_c_exit74_i; }
 L_bb7_i62_i_i_i_i_i_i_i:;
     TRAP();
     TRAP();
-L_copy_from_slice_pkcs1_c_exit75_i:;
+L_copy_from_slice_pkcs1_c_exit74_i:;
     v_start1_i51_i_i_i_i_i_i_i = (u64)((u64)(v_writer_sroa_48_2_i) + (u64)(18446744073709551611ull));
     v_42 = v_out + (int64_t)(v_start1_i51_i_i_i_i_i_i_i);
     put_u8(v_42, 2u);
@@ -31140,7 +31140,7 @@ L_copy_from_slice_pkcs1_c_exit75_i:;
     { p_v_writer_sroa_48_3_i = v_start1_i51_i_i_i_i_i_i_i; goto L_back_writer_BackWriter_exit_i; }
 L_back_writer_BackWriter_exit_i:;
     v_writer_sroa_48_3_i = p_v_writer_sroa_48_3_i;
-    v_5_i_i_i = (u64)((u64)(v_encoding_sroa_0_0_i_i171_i) - (u64)(v_writer_sroa_48_3_i));
+    v_5_i_i_i = (u64)((u64)(v_encoding_sroa_0_0_i_i170_i) - (u64)(v_writer_sroa_48_3_i));
     v_13_i_i_i = (u32)(v_5_i_i_i);
     v_4_i_i_i_i = v_13_i_i_i < 128u;
     if (v_4_i_i_i_i) { goto L_bb1_i_i_i_i; } else { goto L_bb2_i_i_i_i; }
@@ -31152,12 +31152,12 @@ L_bb1_i_i_i_i:;
     v_4_i_i_i_i_i = v_writer_sroa_48_3_i < 2u;
     if (v_4_i_i_i_i_i) { p_v_0_sroa_0_0 = 0u; goto L_bb7; } else { goto L_bb2_i_i_i_i_i; }
 L_bb2_i_i_i_i_i:;
-    v_10_not_i_i_i_i_i = v_writer_sroa_48_3_i > v_encoding_sroa_0_0_i_i171_i;
-    if (v_10_not_i_i_i_i_i) { goto L_bb7_i_i_i_i_i; } else { goto L_copy_from_slice_pkcs1_c_exit79_i; }
+    v_10_not_i_i_i_i_i = v_writer_sroa_48_3_i > v_encoding_sroa_0_0_i_i170_i;
+    if (v_10_not_i_i_i_i_i) { goto L_bb7_i_i_i_i_i; } else { goto L_copy_from_slice_pkcs1_c_exit78_i; }
 L_bb7_i_i_i_i_i:;
     TRAP();
     TRAP();
-L_copy_from_slice_pkcs1_c_exit79_i:;
+L_copy_from_slice_pkcs1_c_exit78_i:;
     v_43 = (P)((u64)v_out + (u64)(v_writer_sroa_48_3_i));
     v_44 = (P)((u64)v_43 + (u64)(-2));
     v_7_i_i_i_sroa_0_sroa_4_0_insert_shift_i = (u16)((u32)(v_8_i_i_i_i) << (u32)((8u & 31)));
@@ -31172,12 +31172,12 @@ L_bb3_i_i_i_i:;
     v_4_i11_i_i_i_i = v_writer_sroa_48_3_i < 3u;
     if (v_4_i11_i_i_i_i) { p_v_0_sroa_0_0 = 0u; goto L_bb7; } else { goto L_bb2_i12_i_i_i_i; }
 L_bb2_i12_i_i_i_i:;
-    v_10_not_i14_i_i_i_i = v_writer_sroa_48_3_i > v_encoding_sroa_0_0_i_i171_i;
-    if (v_10_not_i14_i_i_i_i) { goto L_bb7_i24_i_i_i_i; } else { goto L_copy_from_slice_pkcs1_c_exit83_i; }
+    v_10_not_i14_i_i_i_i = v_writer_sroa_48_3_i > v_encoding_sroa_0_0_i_i170_i;
+    if (v_10_not_i14_i_i_i_i) { goto L_bb7_i24_i_i_i_i; } else { goto L_copy_from_slice_pkcs1_c_exit82_i; }
 L_bb7_i24_i_i_i_i:;
     TRAP();
     TRAP();
-L_copy_from_slice_pkcs1_c_exit83_i:;
+L_copy_from_slice_pkcs1_c_exit82_i:;
     v_45 = (P)((u64)v_out + (u64)(v_writer_sroa_48_3_i));
     v_46 = (P)((u64)v_45 + (u64)(-3));
     put_u8(v_46, 48u);
@@ -31193,12 +31193,12 @@ L_bb5_i_i_i_i:;
     v_4_i30_i_i_i_i = v_writer_sroa_48_3_i < 4u;
     if (v_4_i30_i_i_i_i) { p_v_0_sroa_0_0 = 0u; goto L_bb7; } else { goto L_bb2_i31_i_i_i_i; }
 L_bb2_i31_i_i_i_i:;
-    v_10_not_i33_i_i_i_i = v_writer_sroa_48_3_i > v_encoding_sroa_0_0_i_i171_i;
-    if (v_10_not_i33_i_i_i_i) { goto L_bb7_i43_i_i_i_i; } else { goto L_copy_from_slice_pkcs1_c_exit87_i; }
+    v_10_not_i33_i_i_i_i = v_writer_sroa_48_3_i > v_encoding_sroa_0_0_i_i170_i;
+    if (v_10_not_i33_i_i_i_i) { goto L_bb7_i43_i_i_i_i; } else { goto L_copy_from_slice_pkcs1_c_exit86_i; }
 L_bb7_i43_i_i_i_i:;
     TRAP();
     TRAP();
-L_copy_from_slice_pkcs1_c_exit87_i:;
+L_copy_from_slice_pkcs1_c_exit86_i:;
     v_47 = (P)((u64)v_out + (u64)(v_writer_sroa_48_3_i));
     v_48 = (P)((u64)v_47 + (u64)(-4));
     v_49 = (u32)((u32)(v_13_i_i_i) | (u32)(813826048u));
@@ -31216,12 +31216,12 @@ L_bb8_i_i_i_i:;
     v_4_i68_i_i_i_i = v_writer_sroa_48_3_i < 6u;
     if (v_4_i68_i_i_i_i) { p_v_0_sroa_0_0 = 0u; goto L_bb7; } else { goto L_bb2_i69_i_i_i_i; }
 L_bb2_i69_i_i_i_i:;
-    v_10_not_i71_i_i_i_i = v_writer_sroa_48_3_i > v_encoding_sroa_0_0_i_i171_i;
-    if (v_10_not_i71_i_i_i_i) { goto L_bb7_i81_i_i_i_i; } else { goto L_copy_from_slice_pkcs1_c_exit91_i; }
+    v_10_not_i71_i_i_i_i = v_writer_sroa_48_3_i > v_encoding_sroa_0_0_i_i170_i;
+    if (v_10_not_i71_i_i_i_i) { goto L_bb7_i81_i_i_i_i; } else { goto L_copy_from_slice_pkcs1_c_exit90_i; }
 L_bb7_i81_i_i_i_i:;
     TRAP();
     TRAP();
-L_copy_from_slice_pkcs1_c_exit91_i:;
+L_copy_from_slice_pkcs1_c_exit90_i:;
     v_50 = (P)((u64)v_out + (u64)(v_writer_sroa_48_3_i));
     v_51 = (P)((u64)v_50 + (u64)(-6));
     put_u8(v_51, 48u);
@@ -31245,12 +31245,12 @@ L_bb7_i_i_i_i:;
     v_4_i49_i_i_i_i = v_writer_sroa_48_3_i < 5u;
     if (v_4_i49_i_i_i_i) { p_v_0_sroa_0_0 = 0u; goto L_bb7; } else { goto L_bb2_i50_i_i_i_i; }
 L_bb2_i50_i_i_i_i:;
-    v_10_not_i52_i_i_i_i = v_writer_sroa_48_3_i > v_encoding_sroa_0_0_i_i171_i;
-    if (v_10_not_i52_i_i_i_i) { goto L_bb7_i62_i_i_i_i; } else { goto L_copy_from_slice_pkcs1_c_exit95_i; }
+    v_10_not_i52_i_i_i_i = v_writer_sroa_48_3_i > v_encoding_sroa_0_0_i_i170_i;
+    if (v_10_not_i52_i_i_i_i) { goto L_bb7_i62_i_i_i_i; } else { goto L_copy_from_slice_pkcs1_c_exit94_i; }
 L_bb7_i62_i_i_i_i:;
     TRAP();
     TRAP();
-L_copy_from_slice_pkcs1_c_exit95_i:;
+L_copy_from_slice_pkcs1_c_exit94_i:;
     v_52 = (P)((u64)v_out + (u64)(v_writer_sroa_48_3_i));
     v_53 = (P)((u64)v_52 + (u64)(-5));
     put_u8(v_53, 48u);
@@ -34240,7 +34240,7 @@ L_Prepend_prepend_header_exit:;
     return;
 }
 static void f_back_writer_BackWriter__3(u8 v_value_0_val, P v_writer) {
-    u64 p_v_0_sroa_0_0_i_i_i29;
+    u64 p_v_0_sroa_0_0_i_i_i30;
     u64 p_v_8_i_i3;
     u64 p_v_8_i;
     u64 p_v_0_sroa_0_0_i_i_i_sink;
@@ -34253,12 +34253,12 @@ static void f_back_writer_BackWriter__3(u8 v_value_0_val, P v_writer) {
     u1 v_10_not_i_i11_i;
     u64 v_start1_i_i10_i;
     P v_2;
-    u1 v_8_i15;
-    u1 v_8_i1515;
-    u1 v_4_i_i_i18;
-    u64 v_start1_i_i_i20;
+    u1 v_4_i16;
+    u1 v_4_i1615;
+    u1 v_4_i_i_i19;
+    u64 v_start1_i_i_i21;
     P v_3;
-    u64 v_0_sroa_0_0_i_i_i29;
+    u64 v_0_sroa_0_0_i_i_i30;
     u64 v_8_i_i3;
     u64 v_5_i_i;
     u32 v_13_i_i4;
@@ -34389,23 +34389,23 @@ L_Prepend_prepend_exit22_i:;
     v_start1_i_i10_i = (u64)((u64)(v_4_i) + (u64)(18446744073709551615ull));
     v_2 = v_5_0_i5_i + (int64_t)(v_start1_i_i10_i);
     put_u8(v_2, v_value_0_val);
-    v_8_i15 = (u8)(v_value_0_val ^ ((u8)1 << 7)) < (u8)(0u ^ ((u8)1 << 7));
-    if (v_8_i15) { goto L_bb2_i; } else { p_v_8_i_i3 = v_start1_i_i10_i; goto L_back_writer_BackWriter_exit; }
+    v_4_i16 = (u8)(v_value_0_val ^ ((u8)1 << 7)) < (u8)(0u ^ ((u8)1 << 7));
+    if (v_4_i16) { goto L_bb3_i; } else { p_v_8_i_i3 = v_start1_i_i10_i; goto L_back_writer_BackWriter_exit; }
 L_Prepend_prepend_exit22_i_thread:;
-    v_8_i1515 = (u8)(v_value_0_val ^ ((u8)1 << 7)) < (u8)(0u ^ ((u8)1 << 7));
-    if (v_8_i1515) { p_v_0_sroa_0_0_i_i_i29 = 0u; goto L_Prepend_prepend_exit_i; } else { p_v_0_sroa_0_0_i_i_i_sink = 0u; goto L_Prepend_prepend_header_exit; }
-L_bb2_i:;
-    v_4_i_i_i18 = v_start1_i_i10_i == 0u;
-    if (v_4_i_i_i18) { p_v_0_sroa_0_0_i_i_i29 = 0u; goto L_Prepend_prepend_exit_i; } else { goto L_copy_from_slice_pkcs1_c_exit34; }
-L_copy_from_slice_pkcs1_c_exit34:;
-    v_start1_i_i_i20 = (u64)((u64)(v_4_i) + (u64)(18446744073709551614ull));
-    v_3 = v_5_0_i5_i + (int64_t)(v_start1_i_i_i20);
+    v_4_i1615 = (u8)(v_value_0_val ^ ((u8)1 << 7)) < (u8)(0u ^ ((u8)1 << 7));
+    if (v_4_i1615) { p_v_0_sroa_0_0_i_i_i30 = 0u; goto L_Prepend_prepend_exit_i; } else { p_v_0_sroa_0_0_i_i_i_sink = 0u; goto L_Prepend_prepend_header_exit; }
+L_bb3_i:;
+    v_4_i_i_i19 = v_start1_i_i10_i == 0u;
+    if (v_4_i_i_i19) { p_v_0_sroa_0_0_i_i_i30 = 0u; goto L_Prepend_prepend_exit_i; } else { goto L_copy_from_slice_pkcs1_c_exit35; }
+L_copy_from_slice_pkcs1_c_exit35:;
+    v_start1_i_i_i21 = (u64)((u64)(v_4_i) + (u64)(18446744073709551614ull));
+    v_3 = v_5_0_i5_i + (int64_t)(v_start1_i_i_i21);
     put_u8(v_3, 0u);
-    { p_v_0_sroa_0_0_i_i_i29 = v_start1_i_i_i20; goto L_Prepend_prepend_exit_i; }
+    { p_v_0_sroa_0_0_i_i_i30 = v_start1_i_i_i21; goto L_Prepend_prepend_exit_i; }
 L_Prepend_prepend_exit_i:;
-    v_0_sroa_0_0_i_i_i29 = p_v_0_sroa_0_0_i_i_i29;
-    put_u64(v_1, v_0_sroa_0_0_i_i_i29);
-    { p_v_8_i_i3 = v_0_sroa_0_0_i_i_i29; goto L_back_writer_BackWriter_exit; }
+    v_0_sroa_0_0_i_i_i30 = p_v_0_sroa_0_0_i_i_i30;
+    put_u64(v_1, v_0_sroa_0_0_i_i_i30);
+    { p_v_8_i_i3 = v_0_sroa_0_0_i_i_i30; goto L_back_writer_BackWriter_exit; }
 L_back_writer_BackWriter_exit:;
     v_8_i_i3 = p_v_8_i_i3;
     v_5_i_i = (u64)((u64)(v_4_i) - (u64)(v_8_i_i3));
@@ -34421,11 +34421,11 @@ L_bb1_i_i_i:;
     if (v_4_i_i_i_i) { p_v_8_i = v_8_i_i3; goto L_back_writer_BackWriter_exit__2; } else { goto L_bb2_i_i_i_i; }
 L_bb2_i_i_i_i:;
     v_10_not_i_i_i_i = v_8_i_i3 > v_5_1_i;
-    if (v_10_not_i_i_i_i) { goto L_bb7_i_i_i_i; } else { goto L_copy_from_slice_pkcs1_c_exit37; }
+    if (v_10_not_i_i_i_i) { goto L_bb7_i_i_i_i; } else { goto L_copy_from_slice_pkcs1_c_exit38; }
 L_bb7_i_i_i_i:;
     TRAP();
     TRAP();
-L_copy_from_slice_pkcs1_c_exit37:;
+L_copy_from_slice_pkcs1_c_exit38:;
     v_start1_i_i_i_i = (u64)((u64)(v_8_i_i3) + (u64)(18446744073709551614ull));
     v_4 = v_5_0_i5_i + (int64_t)(v_start1_i_i_i_i);
     v_7_i_i_i_sroa_0_sroa_4_0_insert_shift = (u16)((u32)(v_8_i_i_i) << (u32)((8u & 31)));
@@ -34441,11 +34441,11 @@ L_bb3_i_i_i:;
     if (v_4_i11_i_i_i) { p_v_8_i = v_8_i_i3; goto L_back_writer_BackWriter_exit__2; } else { goto L_bb2_i12_i_i_i; }
 L_bb2_i12_i_i_i:;
     v_10_not_i14_i_i_i = v_8_i_i3 > v_5_1_i;
-    if (v_10_not_i14_i_i_i) { goto L_bb7_i24_i_i_i; } else { goto L_copy_from_slice_pkcs1_c_exit40; }
+    if (v_10_not_i14_i_i_i) { goto L_bb7_i24_i_i_i; } else { goto L_copy_from_slice_pkcs1_c_exit41; }
 L_bb7_i24_i_i_i:;
     TRAP();
     TRAP();
-L_copy_from_slice_pkcs1_c_exit40:;
+L_copy_from_slice_pkcs1_c_exit41:;
     v_start1_i13_i_i_i = (u64)((u64)(v_8_i_i3) + (u64)(18446744073709551613ull));
     v_5 = v_5_0_i5_i + (int64_t)(v_start1_i13_i_i_i);
     put_u8(v_5, 2u);
@@ -34462,11 +34462,11 @@ L_bb5_i_i_i10:;
     if (v_4_i30_i_i_i) { p_v_8_i = v_8_i_i3; goto L_back_writer_BackWriter_exit__2; } else { goto L_bb2_i31_i_i_i; }
 L_bb2_i31_i_i_i:;
     v_10_not_i33_i_i_i = v_8_i_i3 > v_5_1_i;
-    if (v_10_not_i33_i_i_i) { goto L_bb7_i43_i_i_i; } else { goto L_copy_from_slice_pkcs1_c_exit43; }
+    if (v_10_not_i33_i_i_i) { goto L_bb7_i43_i_i_i; } else { goto L_copy_from_slice_pkcs1_c_exit44; }
 L_bb7_i43_i_i_i:;
     TRAP();
     TRAP();
-L_copy_from_slice_pkcs1_c_exit43:;
+L_copy_from_slice_pkcs1_c_exit44:;
     v_start1_i32_i_i_i = (u64)((u64)(v_8_i_i3) + (u64)(18446744073709551612ull));
     v_6 = v_5_0_i5_i + (int64_t)(v_start1_i32_i_i_i);
     v_7 = (u32)((u32)(v_13_i_i4) | (u32)(42074112u));
@@ -34485,11 +34485,11 @@ L_bb8_i_i_i8:;
     if (v_4_i68_i_i_i) { p_v_8_i = v_8_i_i3; goto L_back_writer_BackWriter_exit__2; } else { goto L_bb2_i69_i_i_i; }
 L_bb2_i69_i_i_i:;
     v_10_not_i71_i_i_i = v_8_i_i3 > v_5_1_i;
-    if (v_10_not_i71_i_i_i) { goto L_bb7_i81_i_i_i; } else { goto L_copy_from_slice_pkcs1_c_exit46; }
+    if (v_10_not_i71_i_i_i) { goto L_bb7_i81_i_i_i; } else { goto L_copy_from_slice_pkcs1_c_exit47; }
 L_bb7_i81_i_i_i:;
     TRAP();
     TRAP();
-L_copy_from_slice_pkcs1_c_exit46:;
+L_copy_from_slice_pkcs1_c_exit47:;
     v_start1_i70_i_i_i = (u64)((u64)(v_8_i_i3) + (u64)(18446744073709551610ull));
     v_8 = v_5_0_i5_i + (int64_t)(v_start1_i70_i_i_i);
     put_u8(v_8, 2u);
@@ -34514,11 +34514,11 @@ L_bb7_i_i_i9:;
     if (v_4_i49_i_i_i) { p_v_8_i = v_8_i_i3; goto L_back_writer_BackWriter_exit__2; } else { goto L_bb2_i50_i_i_i; }
 L_bb2_i50_i_i_i:;
     v_10_not_i52_i_i_i = v_8_i_i3 > v_5_1_i;
-    if (v_10_not_i52_i_i_i) { goto L_bb7_i62_i_i_i; } else { goto L_copy_from_slice_pkcs1_c_exit49; }
+    if (v_10_not_i52_i_i_i) { goto L_bb7_i62_i_i_i; } else { goto L_copy_from_slice_pkcs1_c_exit50; }
 L_bb7_i62_i_i_i:;
     TRAP();
     TRAP();
-L_copy_from_slice_pkcs1_c_exit49:;
+L_copy_from_slice_pkcs1_c_exit50:;
     v_start1_i51_i_i_i = (u64)((u64)(v_8_i_i3) + (u64)(18446744073709551611ull));
     v_9 = v_5_0_i5_i + (int64_t)(v_start1_i51_i_i_i);
     put_u8(v_9, 2u);
@@ -34546,11 +34546,11 @@ L_bb1_i_i:;
     if (v_4_i_i_i) { p_v_0_sroa_0_0_i_i_i_sink = v_8_i; goto L_Prepend_prepend_header_exit; } else { goto L_bb2_i_i_i; }
 L_bb2_i_i_i:;
     v_10_not_i_i_i = v_8_i > v_5_1_i;
-    if (v_10_not_i_i_i) { goto L_bb7_i_i_i; } else { goto L_copy_from_slice_pkcs1_c_exit52; }
+    if (v_10_not_i_i_i) { goto L_bb7_i_i_i; } else { goto L_copy_from_slice_pkcs1_c_exit53; }
 L_bb7_i_i_i:;
     TRAP();
     TRAP();
-L_copy_from_slice_pkcs1_c_exit52:;
+L_copy_from_slice_pkcs1_c_exit53:;
     v_start1_i_i_i = (u64)((u64)(v_8_i) + (u64)(18446744073709551614ull));
     v_10 = v_5_0_i5_i + (int64_t)(v_start1_i_i_i);
     v_7_i_i_sroa_0_sroa_4_0_insert_shift = (u16)((u32)(v_8_i_i) << (u32)((8u & 31)));
@@ -34566,11 +34566,11 @@ L_bb3_i_i:;
     if (v_4_i11_i_i) { p_v_0_sroa_0_0_i_i_i_sink = v_8_i; goto L_Prepend_prepend_header_exit; } else { goto L_bb2_i12_i_i; }
 L_bb2_i12_i_i:;
     v_10_not_i14_i_i = v_8_i > v_5_1_i;
-    if (v_10_not_i14_i_i) { goto L_bb7_i24_i_i; } else { goto L_copy_from_slice_pkcs1_c_exit55; }
+    if (v_10_not_i14_i_i) { goto L_bb7_i24_i_i; } else { goto L_copy_from_slice_pkcs1_c_exit56; }
 L_bb7_i24_i_i:;
     TRAP();
     TRAP();
-L_copy_from_slice_pkcs1_c_exit55:;
+L_copy_from_slice_pkcs1_c_exit56:;
     v_start1_i13_i_i = (u64)((u64)(v_8_i) + (u64)(18446744073709551613ull));
     v_11 = v_5_0_i5_i + (int64_t)(v_start1_i13_i_i);
     put_u8(v_11, 162u);
@@ -34587,11 +34587,11 @@ L_bb5_i_i:;
     if (v_4_i30_i_i) { p_v_0_sroa_0_0_i_i_i_sink = v_8_i; goto L_Prepend_prepend_header_exit; } else { goto L_bb2_i31_i_i; }
 L_bb2_i31_i_i:;
     v_10_not_i33_i_i = v_8_i > v_5_1_i;
-    if (v_10_not_i33_i_i) { goto L_bb7_i43_i_i; } else { goto L_copy_from_slice_pkcs1_c_exit58; }
+    if (v_10_not_i33_i_i) { goto L_bb7_i43_i_i; } else { goto L_copy_from_slice_pkcs1_c_exit59; }
 L_bb7_i43_i_i:;
     TRAP();
     TRAP();
-L_copy_from_slice_pkcs1_c_exit58:;
+L_copy_from_slice_pkcs1_c_exit59:;
     v_start1_i32_i_i = (u64)((u64)(v_8_i) + (u64)(18446744073709551612ull));
     v_12 = v_5_0_i5_i + (int64_t)(v_start1_i32_i_i);
     v_13 = (u32)((u32)(v_13_i) | (u32)(2726428672ull));
@@ -34610,11 +34610,11 @@ L_bb8_i_i:;
     if (v_4_i68_i_i) { p_v_0_sroa_0_0_i_i_i_sink = v_8_i; goto L_Prepend_prepend_header_exit; } else { goto L_bb2_i69_i_i; }
 L_bb2_i69_i_i:;
     v_10_not_i71_i_i = v_8_i > v_5_1_i;
-    if (v_10_not_i71_i_i) { goto L_bb7_i81_i_i; } else { goto L_copy_from_slice_pkcs1_c_exit61; }
+    if (v_10_not_i71_i_i) { goto L_bb7_i81_i_i; } else { goto L_copy_from_slice_pkcs1_c_exit62; }
 L_bb7_i81_i_i:;
     TRAP();
     TRAP();
-L_copy_from_slice_pkcs1_c_exit61:;
+L_copy_from_slice_pkcs1_c_exit62:;
     v_start1_i70_i_i = (u64)((u64)(v_8_i) + (u64)(18446744073709551610ull));
     v_14 = v_5_0_i5_i + (int64_t)(v_start1_i70_i_i);
     put_u8(v_14, 162u);
@@ -34639,11 +34639,11 @@ L_bb7_i_i:;
     if (v_4_i49_i_i) { p_v_0_sroa_0_0_i_i_i_sink = v_8_i; goto L_Prepend_prepend_header_exit; } else { goto L_bb2_i50_i_i; }
 L_bb2_i50_i_i:;
     v_10_not_i52_i_i = v_8_i > v_5_1_i;
-    if (v_10_not_i52_i_i) { goto L_bb7_i62_i_i; } else { goto L_copy_from_slice_pkcs1_c_exit64; }
+    if (v_10_not_i52_i_i) { goto L_bb7_i62_i_i; } else { goto L_copy_from_slice_pkcs1_c_exit65; }
 L_bb7_i62_i_i:;
     TRAP();
     TRAP();
-L_copy_from_slice_pkcs1_c_exit64:;
+L_copy_from_slice_pkcs1_c_exit65:;
     v_start1_i51_i_i = (u64)((u64)(v_8_i) + (u64)(18446744073709551611ull));
     v_15 = v_5_0_i5_i + (int64_t)(v_start1_i51_i_i);
     put_u8(v_15, 162u);
@@ -34666,7 +34666,7 @@ static void f_counter_Counter__3(u8 v_value_0_val, P v_writer) {
     u64 p_v_encoding_sroa_0_0_i;
     u64 v_0_i;
     u64 v_0;
-    u1 v_8_i;
+    u1 v_4_i;
     u64 v_1;
     u64 v_storemerge;
     u64 v_2;
@@ -34695,9 +34695,9 @@ static void f_counter_Counter__3(u8 v_value_0_val, P v_writer) {
     u64 v_15;
     v_0_i = get_u64(v_writer);
     v_0 = v_0_i + (1u < ~v_0_i ? 1u : ~v_0_i);
-    v_8_i = (u8)(v_value_0_val ^ ((u8)1 << 7)) < (u8)(0u ^ ((u8)1 << 7));
+    v_4_i = (u8)(v_value_0_val ^ ((u8)1 << 7)) < (u8)(0u ^ ((u8)1 << 7));
     v_1 = v_0_i + (2u < ~v_0_i ? 2u : ~v_0_i);
-    v_storemerge = v_8_i ? v_1 : v_0;
+    v_storemerge = v_4_i ? v_1 : v_0;
     v_2 = v_storemerge > v_0_i ? v_storemerge - v_0_i : 0u;
     v_9_i_i = v_2 < 128u;
     if (v_9_i_i) { goto L_bb3_i_i; } else { goto L_bb4_i_i; }
