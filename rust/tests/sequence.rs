@@ -5,7 +5,7 @@ use pkcs1_proved::der::asn1::{
 };
 use pkcs1_proved::der::{Decode, Encode, ErrorKind, Result};
 use pkcs1_proved::spki::AlgorithmIdentifier;
-use pkcs1_proved::{UintRef, sequence};
+use pkcs1_proved::{RsaPublicKeyRef, UintRef, sequence};
 
 sequence! {
     /// A DSA or ECDSA signature (RFC 3279 2.2.3), over any numbers.
@@ -61,11 +61,11 @@ sequence! {
         pub path_len: Option<u8>,
     }
 
-    /// RFC 5280 4.1.2.7, of an EC key.
+    /// RFC 5280 4.1.2.7, of an RSA key.
     #[derive(Clone, Copy, Debug, PartialEq, Eq)]
     pub struct Subject<'a> {
         pub algorithm: AlgorithmIdentifier<AnyRef<'a>>,
-        pub key: bit_string containing DssSigValue<UintRef<'a>>,
+        pub key: bit_string containing RsaPublicKeyRef<'a>,
     }
 
     /// An algorithm with parameters of one's own.
