@@ -159,7 +159,7 @@ preconditions() {
     planted kernel.rs '$a pub use crate::proved::der_core::Prepend;' 'Prepend is named, and writes'
     planted kernel.rs '$a pub use crate::proved::der_core::Decode;' 'read_one has a'
     planted lib.rs '$a pub use proved::der_core::PrependRow;' 'PrependRow is named, and writes'
-    planted part.rs 's/fn read_value(memory: Global/fn read_all(memory: Global/' 'calls read_value,'
+    planted part.rs 's/fn read_value(memory: M/fn read_all(memory: M/' 'calls read_value,'
     planted list.rs 's/T::read_one(memory, left)/read_front(memory, left)/' 'which calls no such function'
     planted conversions.rs 's/Length::of(self.as_bytes().len())/self.len()/' 'is 0 calls'
 }

@@ -109,7 +109,7 @@ impl<T: FixedTag> KnownByTag for T {}
 /// A row that can be read.
 #[diagnostic::on_unimplemented(
     message = "these fields can't stand in a row",
-    label = "the type of each has to be a field's, and at most two in a row may be left out, at the end, and one elsewhere"
+    label = "the type of each has to be a field's"
 )]
 pub trait RowOfParts {}
 

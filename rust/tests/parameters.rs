@@ -7,7 +7,7 @@ use pkcs1_proved::der::{Encode, ErrorKind, Tag, oid::AssociatedOid};
 use pkcs1_proved::holders::Held;
 use pkcs1_proved::spki::AlgorithmIdentifier;
 use pkcs1_proved::{
-    Mgf1, PSpecified, RsaOaepParamsRef, RsaPssParamsRef, RsaPssParamsView, Sha1, Sha256, Sha384, Sha512, TrailerField,
+    Mgf1, PSpecified, RsaOaepParamsRef, RsaPssParamsRef, RsaPssParamsView, Sha1, Sha256, Sha384, TrailerField,
 };
 
 #[test]
@@ -155,7 +155,7 @@ fn what_is_known_and_what_is_not_is_written_alike() {
         assert_eq!(params.label(), Some(&octets[..len]));
         let hash =
             AlgorithmIdentifier { parameters: AnyRef::new(Tag::OCTET_STRING, &octets[..len]).ok(), ..params.hash };
-        let params = RsaPssParamsRef { hash, ..RsaPssParamsRef::new::<Sha512>(64) };
+        let params = RsaPssParamsRef { hash, ..RsaPssParamsRef::new::<pkcs1_proved::Sha512>(64) };
         check(&params, &params.to_der().unwrap());
     }
     for salt_len in 0..=255 {

@@ -61,6 +61,23 @@ sequence! {
         pub path_len: Option<u8>,
     }
 
+    /// RFC 5280 4.2.1.1: three OPTIONAL fields in a row.
+    #[derive(Clone, Copy, Debug, PartialEq, Eq)]
+    pub struct AuthorityKeyIdentifier<'a> {
+        pub key_identifier: [0] implicit Option<OctetStringRef<'a>>,
+        pub issuer: [1] implicit Option<OpaqueSet<'a>>,
+        pub serial_number: [2] implicit Option<UintRef<'a>>,
+    }
+
+    /// OPTIONAL fields in a row, and one that has to be there.
+    #[derive(Clone, Copy, Debug, PartialEq, Eq)]
+    struct Version<'a> {
+        major: [0] explicit Option<u8>,
+        minor: Option<u8>,
+        flag: bool = false,
+        name: OctetStringRef<'a>,
+    }
+
     /// RFC 5280 4.1.2.7, of an RSA key.
     #[derive(Clone, Copy, Debug, PartialEq, Eq)]
     pub struct Subject<'a> {
@@ -148,6 +165,8 @@ fn outcome(name: &str, der: &[u8]) -> Option<Result<Vec<u8>>> {
         "OneAsymmetricKey" => written(OneAsymmetricKey::from_der(der)),
         "Extension" => written(Extension::from_der(der)),
         "BasicConstraints" => written(BasicConstraints::from_der(der)),
+        "AuthorityKeyIdentifier" => written(AuthorityKeyIdentifier::from_der(der)),
+        "Version" => written(Version::from_der(der)),
         "Subject" => written(Subject::from_der(der)),
         "DsaKey" => written(DsaKey::from_der(der)),
         "Required" => written(Required::from_der(der)),

@@ -63,11 +63,3 @@ sequence! { //~ `SameTagLater`: an OPTIONAL field, or one with a default, begins
         any: AnyRef<'a>,
     }
 }
-
-sequence! { //~ these fields can't stand in a row
-    struct ThreeOptional {
-        first: [0] explicit Option<u8>,
-        second: [1] explicit Option<u8>,
-        third: [2] explicit Option<u8>,
-    }
-}
