@@ -96,7 +96,7 @@ impl<P: Held, O: Identifier> RsaOaepParams<P, O> {
     #[inline]
     #[must_use]
     pub fn label(&self) -> Option<&[u8]> {
-        // Of the other fields, which `label` doesn't look at, nothing is copied.
+        // `label` doesn't look at the other fields, so nothing of them is copied.
         let p_source = self.p_source.as_view();
         let mask_gen = AlgorithmView { oid: p_source.oid, parameters: None };
         proved::RsaOaepParamsView { hash: p_source, mask_gen, p_source }.label()

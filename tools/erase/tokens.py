@@ -80,7 +80,7 @@ class Code:
         raise Refused(f"nothing of {ends} follows")
 
     def clause_end(self, at):
-        """The token behind a clause, if one stands here."""
+        """The token after a clause, if one stands here."""
         if self.word(at) not in ("requires", "ensures"):
             return at
         brace = at + 1 + (self.word(at + 1) == "*")
