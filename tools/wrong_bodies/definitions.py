@@ -54,18 +54,20 @@ def copies_of(rows_crate, path, begin):
     """The copies of the file that these edits are of, numbered from `begin` on."""
     crate, file = path.parent.name, path.stem
     text = read(f"crates/{crate}/specs/{file}.antt")
+    longer = tuple(it.stem for it in pathlib.Path(f"crates/{crate}/specs").glob(f"{file}?*.antt"))
     beside = sorted(pathlib.Path(f"crates/{rows_crate}/proofs").glob(f"{file}*Rows.antt"))
-    rows = {it.stem: read(it) for it in beside}
+    rows = {it.stem: read(it) for it in beside if not it.stem.startswith(longer)}
     own, cited = f"crates/{crate}/proofs/Rows.antt", re.compile(rf"\bRattle\.{crate}\.specs\.{file}\b")
-    if os.path.isfile(own) and cited.search(read(own)):
+    if os.path.isfile(own):
         rows[f"{file}OwnRows"] = read(own)
-    made = []
+    rows = {name: it for name, it in rows.items() if cited.search(it)}
+    made, end = [], CITED if rows_crate in FUNCTIONS else ""
     for edit in [None, *edits_of(str(path), file)]:
         number = begin + len(made)
         module = f"{file}_{number}"
         texts = {f"specs/{module}": edit.applied({file: text})[file] if edit else text}
         for name, it in rows.items():
-            texts[f"proofs/{name}_{number}"] = cited.sub(f"Rattle.{rows_crate}.specs.{module}", it) + CITED
+            texts[f"proofs/{name}_{number}"] = cited.sub(f"Rattle.{rows_crate}.specs.{module}", it) + end
         made.append(Copy(edit.name if edit else f"{path}, without an edit", module, texts))
     return made
 

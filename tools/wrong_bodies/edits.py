@@ -5,7 +5,7 @@ from typing import NamedTuple
 from functions import functions
 
 # The words that lines begin with. 'old' and 'new' come in pairs.
-WORDS = ("old", "new", "refused", "row")
+WORDS = ("old", "new", "refused", "row", "is")
 
 
 class BadEdit(Exception):

@@ -1,10 +1,10 @@
 -- Worked rows of `specs/Statement.antt` of `standard`: what each promise says of any values, and what lies at the ends of
 -- the definitions: at the limit and beyond, after the first of two, and one octet beside what is allowed.
-use Rattle.std.proofs.Common.{ℕ, List, [], ◌∷◌, ◌++◌, ◌≡◌, ◌≢◌, ◌≤◌, ◌<◌, ◌∙◌, length, refl, ap, sym, arith, Option, Some, None, inl, inr, replicate, codes, drop, take, map, zero, suc}
+use Rattle.std.proofs.Common.{ℕ, List, [], ◌∷◌, ◌++◌, ◌≡◌, ◌≢◌, ◌≤◌, ◌<◌, length, refl, ap, arith, Some, None, inl, inr, replicate, codes, drop, take, map, zero, suc}
 use Rattle.std.specs.List.{AllByRecursion}
 use Rattle.std.specs.Prelude.{slice_index, nat_lt, if◌then◌else◌, true, false}
 use Rattle.standard.specs.Hex.{digit, hex}
-use Rattle.standard.specs.Statement.{Algorithm, AlgorithmEncoding, AreOctets, Container, ContainerEncoding, Encodes, Field, Fields, IfPresent, IsAlgorithm, IsAny, IsIdentifier, IsOaep, IsPss, IsShortest, Lists, OaepParameters, OtherPrime, PrivateKey, PrivateKeyEncoding, PssParameters, PublicKey, PublicKeyEncoding, SequenceOf, TagAndContents, algorithm, any, empty_label, integer, integers, length_octets, limit, longest, mgf1_sha1, oaep_fields, octets, optional, other_primes, pss_fields, rsa_encryption, sequence, sha1, tlv, version}
+use Rattle.standard.specs.Statement.{Algorithm, AlgorithmEncoding, AreOctets, Container, ContainerEncoding, Encodes, Field, Fields, IfPresent, IsAlgorithm, IsAny, IsIdentifier, IsOaep, IsPss, IsShortest, Lists, OtherPrime, PrivateKey, PrivateKeyEncoding, PssParameters, PublicKey, PublicKeyEncoding, SequenceOf, TagAndContents, algorithm, any, empty_label, integer, integers, length_octets, limit, longest, mgf1_sha1, oaep_fields, octets, optional, other_primes, pss_fields, sequence, sha1, tlv}
 
 -- == What writing and listing say, of any values ==
 written_says : {V : Type 0} (Encoding : V → List ℕ → Type 0) (v : V) (old new : List ℕ) (n : ℕ)
