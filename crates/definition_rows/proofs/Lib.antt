@@ -1,11 +1,16 @@
 -- The worked rows: of the statement, of the kernel, of what values hold and of how they are read.
 pub mod AlgorithmValueRows
 pub mod AlgorithmsRows
+pub mod AllocatingRows
+pub mod AnswerRows
 pub mod ContainerValueRows
+pub mod CopiedRows
 pub mod CountingRows
 pub mod DocumentRows
 pub mod DocumentValueRows
 pub mod EncodingsRows
+pub mod ErrorsRows
+pub mod ExplicitRows
 pub mod FilesRows
 pub mod HashFunctionsRows
 pub mod HeldRows
@@ -19,12 +24,15 @@ pub mod LabelsRows
 pub mod LengthRows
 pub mod MeaningsRows
 pub mod OaepValueRows
+pub mod OtherPrimesHeldRows
 pub mod PartsRows
 pub mod PrintedRows
 pub mod PssValueRows
 pub mod ReadingPromiseRows
 pub mod ReadingRows
 pub mod ReadingsOfPartsRows
+pub mod ReplacedRows
+pub mod RsaRows
 pub mod SlicesRows
 pub mod SourcesSinksRows
 pub mod SpellingsRows
@@ -37,3 +45,4 @@ pub mod TransferRows
 pub mod VersionsRows
 pub mod WritersRows
 pub mod WritingRows
+pub mod WrittenRows

@@ -111,3 +111,11 @@ oaep_view_tags p = refl
 oaep_owned_tags : (p : OaepParamsOf ObjectIdentifier AnyRef)
     → (oaep_of p).p_source ≡ algorithm_in own_octets_of any_of p.p_source
 oaep_owned_tags p = refl
+
+labels_fit : (oid : List ℕ) (n : ℕ) → LabelFits oid n → (label : List ℕ) → AreBytes label → length label ≡ n
+    → (b : List ℕ) × OaepEncoding (labelled oid label) b
+labels_fit oid n fits label is counted = fits label is counted
+
+no_label_fits : (oid : List ℕ) (n : ℕ) → ((label b : List ℕ) → AreBytes label → length label ≡ n
+    → OaepEncoding (labelled oid label) b → ⊥) → NoLabelFits oid n
+no_label_fits oid n none label is counted b encodes = none label b is counted encodes

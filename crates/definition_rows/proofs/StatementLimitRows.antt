@@ -2,9 +2,9 @@
 -- the definitions: at the limit and beyond, after the first of two, and one octet beside what is allowed.
 use Rattle.std.proofs.Common.{ℕ, List, [], ◌∷◌, ◌++◌, ◌≡◌, ◌≢◌, ◌≤◌, ◌<◌, length, refl, ap, arith, Some, None, inl, inr, replicate, codes, drop, take, map, zero, suc}
 use Rattle.std.specs.List.{AllByRecursion}
-use Rattle.std.specs.Prelude.{slice_index, nat_lt, if◌then◌else◌, true, false}
+use Rattle.std.specs.Prelude.{◌↔◌, slice_index, nat_lt, if◌then◌else◌, true, false}
 use Rattle.standard.specs.Hex.{digit, hex}
-use Rattle.standard.specs.Statement.{Algorithm, AlgorithmEncoding, AreOctets, Container, ContainerEncoding, Encodes, Field, Fields, IfPresent, IsAlgorithm, IsAny, IsIdentifier, IsOaep, IsPss, IsShortest, Lists, OtherPrime, PrivateKey, PrivateKeyEncoding, PssParameters, PublicKey, PublicKeyEncoding, SequenceOf, TagAndContents, algorithm, any, empty_label, integer, integers, length_octets, limit, longest, mgf1_sha1, oaep_fields, octets, optional, other_primes, pss_fields, sequence, sha1, tlv}
+use Rattle.standard.specs.Statement.{Algorithm, AlgorithmEncoding, AreOctets, Container, ContainerEncoding, Encodes, Field, Fields, IfPresent, IsAlgorithm, IsAny, IsIdentifier, IsOaep, IsPss, IsShortest, Lists, OaepAlgorithmEncoding, OaepEncoding, OaepParameters, OtherPrime, PrivateKey, PrivateKeyEncoding, PssAlgorithmEncoding, PssEncoding, PssParameters, PublicKey, PublicKeyEncoding, SequenceOf, TagAndContents, algorithm, any, empty_label, id_rsaes_oaep, id_rsassa_pss, integer, integers, length_octets, limit, longest, mgf1_sha1, oaep_fields, octets, optional, other_primes, pss_fields, sequence, sha1, tlv}
 
 -- == What writing and listing say, of any values ==
 written_says : {V : Type 0} (Encoding : V → List ℕ → Type 0) (v : V) (old new : List ℕ) (n : ℕ)
@@ -186,3 +186,29 @@ high_integer n high = ap (λ low. tlv 2 (if low then octets n else (0 ∷ octets
 
 low_integer : (n : ℕ) → nat_lt (slice_index (octets n) 0) 128 ≡ true → integer n ≡ tlv 2 (octets n)
 low_integer n low = ap (λ low. tlv 2 (if low then octets n else (0 ∷ octets n))) low
+
+-- == What is in an algorithm identifier, and which parameters may be encoded ==
+pss_algorithm_says : (p : PssParameters) (bytes : List ℕ) → PssAlgorithmEncoding p bytes
+    ↔ ((length bytes ≤ limit) × (parameters : List ℕ) × PssEncoding p parameters
+    × (bytes ≡ sequence (tlv 6 id_rsassa_pss ++ parameters)))
+pss_algorithm_says p bytes = (λ is. is, λ is. is)
+
+oaep_algorithm_says : (p : OaepParameters) (bytes : List ℕ) → OaepAlgorithmEncoding p bytes
+    ↔ ((length bytes ≤ limit) × (parameters : List ℕ) × OaepEncoding p parameters
+    × (bytes ≡ sequence (tlv 6 id_rsaes_oaep ++ parameters)))
+oaep_algorithm_says p bytes = (λ is. is, λ is. is)
+
+pss_says : (p : PssParameters) (bytes : List ℕ) → PssEncoding p bytes
+    ↔ (IsPss p × (length bytes ≤ limit) × (contents : List ℕ) × Fields (pss_fields p) contents
+    × (bytes ≡ sequence contents))
+pss_says p bytes = (λ is. is, λ is. is)
+
+oaep_says : (p : OaepParameters) (bytes : List ℕ) → OaepEncoding p bytes
+    ↔ (IsOaep p × (length bytes ≤ limit) × (contents : List ℕ) × Fields (oaep_fields p) contents
+    × (bytes ≡ sequence contents))
+oaep_says p bytes = (λ is. is, λ is. is)
+
+algorithm_says : (Is : TagAndContents → Type 0) (oid : List ℕ) (v : TagAndContents)
+    → (IsAlgorithm Is (record { oid = oid; parameters = Some v }) ↔ (IsIdentifier oid × Is v))
+    × (IsIdentifier oid → IsAlgorithm Is (record { oid = oid; parameters = None }))
+algorithm_says Is oid v = ((λ is. is, λ is. is), (λ is. (is, tt)))

@@ -273,3 +273,30 @@ none_past_the_limit octets fills counted v k is defaults within =
       length-append (length_octets (length outer)) outer,
       length-append (tlv 6 identifier) (longest (filled v)),
     ))
+
+two_past_the_limit : (octets : List ℕ) → limit < length (longest (filled octets))
+    → TwoToTheDefaults (λ v. v ≡ octets) filled
+two_past_the_limit octets long v k is defaults within =
+    absurd (omega (arith, long, within, ap (λ it. length (longest (filled it))) is))
+
+filled_twice_in : (octets : List ℕ) (all : List (List ℕ))
+    → AreAll (AlgorithmEncoding identifier) (λ v. v ≡ octets) filled octets 1 all → ⊥
+filled_twice_in octets all p =
+    let first = p.under 0 (omega arith) in
+    let second = p.under 1 (omega arith) in
+    let one = first.2.4 ∙ ap sequence (filled_contents octets first.2.2 0 first.2.3) in
+    let other = second.2.4 ∙ ap sequence (filled_contents octets second.2.2 1 second.2.3) in
+    let first_is = first.3 ∙ ap (λ b. sequence (tlv 6 identifier ++ b)) one in
+    let second_is = second.3 ∙ ap (λ b. sequence (tlv 6 identifier ++ b)) other in
+    omega (arith, p.different 0 1 (omega arith) (omega arith) (first_is ∙ sym second_is))
+
+two_at_the_limit_in : (octets : List ℕ) → length (sequence (tlv 6 identifier ++ longest (filled octets))) ≡ limit
+    → TwoToTheDefaultsIn identifier (λ v. v ≡ octets) filled → ⊥
+two_at_the_limit_in octets fills p =
+    let both = p octets 1 refl (filled_defaults octets) (omega (arith, fills)) in filled_twice_in octets both.0 both.1
+
+-- Shortest encodings are equal exactly if the values are, of any encodings.
+same_says : {V : Type 0} (Encoding : V → List ℕ → Type 0) → SameByShortest Encoding → (v w : V) (a b s t : List ℕ)
+    → Encoding v a → Encoding w b → IsShortest Encoding v s → IsShortest Encoding w t
+    → (v ≡ w → s ≡ t) × (s ≡ t → v ≡ w)
+same_says Encoding p v w a b s t va wb vs wt = p v w a b s t va wb vs wt
