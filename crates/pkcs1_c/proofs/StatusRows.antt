@@ -1,5 +1,6 @@
 -- Worked rows of `Status.antt`: the number of each error, and which status a call returns.
-use Rattle.std.proofs.Common.{ℕ, [], ◌∷◌, ◌≡◌, ◌<◌, arith, codes, refl, length, map, Result, Ok, Err}
+use Rattle.std.proofs.Common.{ℕ, [], ◌∷◌, ◌≡◌, ◌<◌, arith, codes, refl, length, map, suc, Result, Ok, Err}
+use Rattle.std.specs.Prelude.{◌↔◌}
 use Rattle.der_core.specs.declared.error.ErrorKind.{ErrorKind}
 use Rattle.der_core.specs.declared.error.ErrorKind.TheVariants.{Failed, File, Incomplete, IndefiniteLength, Length, NoRoom, Noncanonical, OidMalformed, OidUnknown, OutOfMemory, Overflow, Overlength, ParametersMissing, TagUnexpected, TagUnknown, TrailingData, Value}
 use Rattle.der_core.specs.Words.{integer_tag, sequence_tag}
@@ -66,3 +67,19 @@ text_of_other_primes = refl
 
 text_behind : status_text 22 ≡ codes "another error"
 text_behind = refl
+
+-- == Of any function and any status, no more and no less ==
+module _ (given : Result ℕ ErrorKind) (n : ℕ) (WhyNot : ℕ → Type 0) where
+  error_number : IsErrorNumber given n ↔ ((kind : ErrorKind) × (given ≡ Err kind) × (n ≡ kind_number kind))
+  error_number = (λ p. p, λ p. p)
+
+  status_given : (IsStatusOf given 0 ↔ ((v : ℕ) × (given ≡ Ok v)))
+      × (IsStatusOf given (suc n) ↔ ((suc n < 15) × IsErrorNumber given (suc n)))
+  status_given = ((λ p. p, λ p. p), (λ p. p, λ p. p))
+
+  no_status : NoStatus WhyNot ↔ ((status : ℕ) → WhyNot status → ⊥)
+  no_status = (λ p. p, λ p. p)
+
+  error_given : (IsErrorOf WhyNot 0 ↔ ((status : ℕ) → WhyNot status → ⊥))
+      × (IsErrorOf WhyNot (suc n) ↔ (WhyNot (suc n) × ((other : ℕ) → WhyNot other → other ≡ suc n)))
+  error_given = ((λ p. p, λ p. p), (λ p. p, λ p. p))
