@@ -10,4 +10,5 @@ pub mod Writes
 pub mod StructErrors
 pub mod StatusRows
 pub mod StructErrorsRows
+pub mod StructsPromiseRows
 pub mod StructsRows
