@@ -12,7 +12,7 @@ pub use Rattle.der_core.specs.Files.{FileCall, FileFault, FileGives, FileRefuses
 pub use Rattle.der_core.specs.Tlv.{HeaderEncoding, LengthEncoding, Tlv, tlv}
 pub use Rattle.der_core.specs.Input.{Input, ReadsOrFails, end_of, front_of, inner_of, left_in, octet_at, read_from}
 unfoldable pub use Rattle.der_core.specs.Input.{header_at, length_at}
-pub use Rattle.der_core.specs.Integer.{HoldsNumber, IsBitLength, integer_contents}
+pub use Rattle.der_core.specs.Integer.{HoldsNumber, IsBitLength, IsCanonical, NumberContents, integer_contents}
 pub use Rattle.der_core.specs.IntegerReading.{Answers, WhyNoNumber, integer_of, small_of}
 pub use Rattle.der_core.specs.Length.{IsBase256, IsLength, length_octets, limit, long, short, tlv_len}
 pub use Rattle.der_core.specs.OctetStringRefValue.{octets_of}
@@ -37,13 +37,13 @@ pub use Rattle.der_core.specs.Laws.BitString.{behind_zero_alike, behind_zero_ask
 pub use Rattle.der_core.specs.Laws.Boolean.{boolean_law}
 pub use Rattle.der_core.specs.Laws.Encodings.{last_part_asks_as_it, nothing_asked, parts_ask_as_each, same_tag, tlv_not_empty, tlv_recast, tlv_short, tlv_split}
 pub use Rattle.der_core.specs.Laws.Integer.{and_decides, bytes_decide, canonical_same, holds_canonical, number_decides, option_decides, written_large}
-pub use Rattle.der_core.specs.Laws.Length.{length_octets-only, length_octets-short, length_octets-within}
+pub use Rattle.der_core.specs.Laws.Length.{length_octets-exact, length_octets-only, length_octets-short, length_octets-within}
 pub use Rattle.der_core.specs.Laws.LengthReading.{are_bytes, cond_cases, header_at-complete, header_at-sound, header_at-tells, header_sound, length_at-complete, length_at-sound, length_at-tells, ok_pair, value_error_tells}
 pub use Rattle.der_core.specs.Laws.Numbers.{after_ge, base256_ge}
 pub use Rattle.der_core.specs.Laws.OptionalReadings.{is_next_false, is_next_false_only, is_next_true, optional_reads, tlv_front_is_next}
 pub use Rattle.der_core.specs.Laws.Printed.Alike.{alone_alike, chain_alike, front_alike, front_row_alike, items_alike, itself_once, last_alike, last_once, list_once, made_alike, optional_alike, reading_alike, row_alike, row_once, tagged_alike, values_alike, whole_alike}
 pub use Rattle.der_core.specs.Laws.Printed.Items.{front_reading_reads, items_law, ok_meant, ok_meant_front, ok_paired, prints_some, reading_reads, written_prints}
-pub use Rattle.der_core.specs.Laws.Printed.Leaves.{number_contents_as, number_law, number_octets, numbers_encode, octets_canonical, octets_grow, octets_law, octets_number, small_law, tlv_fit, tlv_is, tlv_made}
+pub use Rattle.der_core.specs.Laws.Printed.Leaves.{integer_exact, number_contents_as, number_law, number_octets, numbers_encode, octets_canonical, octets_exact, octets_grow, octets_law, octets_number, small_law, tlv_exact, tlv_fit, tlv_is, tlv_made}
 pub use Rattle.der_core.specs.Laws.Printed.Optional.{IsInRange, chain_law, checked_optional_law, front_end_law, front_row_law, last_begins, last_by_tag_law, last_law, nothing_begins, optional_begins, optional_gives, optional_part_law, optional_row_law, ranged_law, row_begins, tagged_starts, unless_alike, unless_shortest}
 pub use Rattle.der_core.specs.Laws.Printed.Relations.{StatedAs, decodes_stated, encodes_stated, memory_stated, optional_itself, stated, unwritten_stated, written_encodes}
 pub use Rattle.der_core.specs.Laws.Printed.Rows.{alone_law, decodes_as, end_law, expected_law, made_law, meant_decodes, prints_one, reads_printed_as, row_law, such_law, tagged_law, whole_decodes, whole_takes}

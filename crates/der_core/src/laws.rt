@@ -1,8 +1,8 @@
-//! Laws of comparing, copying and reading: functions that do nothing, each with a law as its contract.
-ghost use Rattle.std.specs.Prelude.{◌≡◌, ◌≤◌, ℕ, List, length, Result, Decides};
+//! Laws of definitions, comparing, copying and reading: functions that do nothing, each with a law as its contract.
+ghost use Rattle.std.specs.Prelude.{◌≡◌, ◌≤◌, ◌<◌, ◌^◌, ◌↔◌, ℕ, List, length, Result, Decides};
 ghost use Rattle.std.specs.Ordering.{nat_cmp};
 ghost use Rattle.standard.specs.Statement as standard;
-ghost use Rattle.der_core.specs.Words.{encoding_of, octets_of, ReadsAlike, ReadsFrontPrinted, ReadsPrinted, ReadsContents, ReadsFronts, alone, last, optional_front, tagged, bytes_of, Answers, AreBytes, Prints, PrintsOne, ReadsFrontAlike, Spells, limit, ok_of, WritesShortest, value_in, whole};
+ghost use Rattle.der_core.specs.Words.{encoding_of, octets_of, ReadsAlike, ReadsFrontPrinted, ReadsPrinted, ReadsContents, ReadsFronts, alone, last, optional_front, tagged, bytes_of, Answers, AreBytes, Prints, PrintsOne, ReadsFrontAlike, Spells, limit, number_from_digits, ok_of, WritesShortest, value_in, whole, IsCanonical, IsLength, NumberContents, Tlv};
 ghost use Rattle.der_core.specs.declared.document.DocumentOf as documents;
 ghost use Rattle.der_core.specs.declared.document.Open as marks;
 ghost use Rattle.der_core.specs.declared.error.Error as errors;
@@ -21,6 +21,22 @@ use crate::integer::UintRef;
 use crate::length::Length;
 use crate::octet_string::OctetStringRef;
 use crate::tag::{Tag, TagNumber};
+
+/// The functions of `Statement.antt` give what the relations of this crate hold of, and nothing else.
+///
+/// - `length`: the length octets, of each length that has any.
+/// - `octets`: the octets of a number, which are canonical.
+/// - `integer`: the encoding of a number.
+/// - `tlv`: the encoding with these contents.
+pub fn lemma_statement_gives_the_relations()
+    ensures length { (n : ℕ) (bytes : List ℕ) → n < 256 ^ 126 → (standard.length_octets n ≡ bytes) ↔ IsLength n bytes }
+    ensures octets { (n : ℕ) (bytes : List ℕ)
+        → (standard.octets n ≡ bytes) ↔ (IsCanonical bytes × (number_from_digits 256 bytes ≡ n)) }
+    ensures integer { (n : ℕ) (bytes : List ℕ) → length bytes ≤ limit
+        → (standard.integer n ≡ bytes) ↔ Tlv 2 (NumberContents n) bytes }
+    ensures tlv { (tag : ℕ) (contents bytes : List ℕ) → length bytes ≤ limit
+        → (standard.tlv tag contents ≡ bytes) ↔ Tlv tag (λ c. c ≡ contents) bytes }
+{}
 
 /// Lengths compare as their numbers.
 pub fn lemma_lengths_compare_by_number()

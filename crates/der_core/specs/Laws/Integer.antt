@@ -102,7 +102,7 @@ integer_of_takes (x ∷ xs) c (p, inr i) =
     rw (i.1, more) refl
 
 pub small_of_takes : (n : ℕ) (c : List ℕ) → SmallContents n c → small_of c ≡ Ok n
-small_of_takes n c (l, bytes, e, i) =
+small_of_takes n c (l, (bytes, e, i)) =
     let test : nat_lt (number_from_digits 256 bytes) 256 ≡ true = rw e (grind (arith, nat_tests)) in
     rw (integer_of_takes bytes c i, test, e) refl
 

@@ -1,5 +1,5 @@
 -- Length octets: told apart, one for each length, no fewer for a greater one. An encoding is a document in one way.
-use Rattle.std.proofs.Common.{ℕ, List, [], ◌∷◌, ◌++◌, ◌≡◌, ◌<◌, ◌≤◌, ◌+◌, ◌^◌, length, refl, sym, ap, ◌∙◌, arith, inl, inr, nat_lt, true, false}
+use Rattle.std.proofs.Common.{ℕ, List, [], ◌∷◌, ◌++◌, ◌≡◌, ◌<◌, ◌≤◌, ◌+◌, ◌^◌, ◌↔◌, length, refl, sym, subst, ap, ◌∙◌, arith, inl, inr, nat_lt, true, false}
 use Rattle.std.proofs.lemmas.Bool.{cases_lt}
 use Rattle.std.specs.Int.Digits.{digits_of, number_from_digits}
 use Rattle.std.proofs.lemmas.Int.Digits.{all_below_base_digits_of, number_digits_of, first_digits_of, length-digits_of-le}
@@ -112,6 +112,17 @@ length_octets-only n s p = length_same n s (length_octets n) p (length_octets-ar
 
 pub length_octets-within : (n : ℕ) → n < 2 ^ 128 → IsLength n (length_octets n)
 length_octets-within n h = let made = length_made n h in length_octets-are n n made.0 (omega arith) made.1
+
+-- The function gives what the relation holds of, for each length that has length octets: with 126 more of them at most.
+pub length_octets-exact : (n : ℕ) (s : List ℕ) → n < 256 ^ 126 → (length_octets n ≡ s) ↔ IsLength n s
+length_octets-exact n s few = (λ e. subst (λ x. IsLength n x) e made, λ p. sym (length_octets-only n s p))
+  where
+    made : IsLength n (length_octets n)
+    made = elim (cases_lt n 128) [
+      | inl h ↦ short h (length_octets-short n h)
+      | inr h ↦ long (digits_of 256 n) h (length-digits_of-le 256 126 n (omega arith) few)
+          (digits_of_base256 n (omega arith)) (length_octets-long n h)
+    ]
 
 -- There are few length octets.
 pub length_few : (n : ℕ) (s : List ℕ) → IsLength n s → length s ≤ 127

@@ -55,7 +55,7 @@ small_gives_of c n b (Ok bytes) is e = elim (cond_cases (nat_lt (number_from_dig
   | inl w ↦
       let less : number_from_digits 256 bytes < 256 = grind (arith, nat_tests, w.0) in
       let same : number_from_digits 256 bytes ≡ n = let is = w.1 in cc in
-      (rw (← same) less, bytes, same, integer_gives c bytes b is)
+      (rw (← same) less, (bytes, same, integer_gives c bytes b is))
   | inr w ↦ let no = w.1 in cc
 ]
 

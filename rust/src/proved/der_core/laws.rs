@@ -1,5 +1,5 @@
 // Made of crates/der_core/src/laws.rt by tools/erase/erase.py, and not to be edited.
-//! Laws of comparing, copying and reading: functions that do nothing, each with a law as its contract.
+//! Laws of definitions, comparing, copying and reading: functions that do nothing, each with a law as its contract.
 
 use crate::proved::der_core::document::{DocumentOf, Open};
 use crate::proved::der_core::error::{Error, ErrorKind};
@@ -9,6 +9,14 @@ use crate::proved::der_core::integer::UintRef;
 use crate::proved::der_core::length::Length;
 use crate::proved::der_core::octet_string::OctetStringRef;
 use crate::proved::der_core::tag::{Tag, TagNumber};
+
+/// The functions of `Statement.antt` give what the relations of this crate hold of, and nothing else.
+///
+/// - `length`: the length octets, of each length that has any.
+/// - `octets`: the octets of a number, which are canonical.
+/// - `integer`: the encoding of a number.
+/// - `tlv`: the encoding with these contents.
+pub fn lemma_statement_gives_the_relations() {}
 
 /// Lengths compare as their numbers.
 pub fn lemma_lengths_compare_by_number() {}

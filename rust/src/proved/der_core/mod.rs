@@ -108,6 +108,7 @@ pub use laws::lemma_headers_compare_by_value;
 pub use laws::lemma_kinds_compare_by_value;
 pub use laws::lemma_lengths_compare_by_number;
 pub use laws::lemma_optional_parts_are_read;
+pub use laws::lemma_statement_gives_the_relations;
 pub use laws::lemma_tag_numbers_compare_by_number;
 pub use length::Length;
 pub use memory::Memory;

@@ -1,13 +1,13 @@
 -- The leaves: octets of numbers, length octets, INTEGER, OCTET STRING.
-use Rattle.std.proofs.Common.{ℕ, List, [], ◌∷◌, ◌++◌, ◌≡◌, ◌<◌, ◌≤◌, ◌⊎◌, ◌==◌, length, refl, sym, subst, ap, ◌∙◌, arith, inl, inr, true, false, Ok, length-append, Decides, bytes_eq}
+use Rattle.std.proofs.Common.{ℕ, List, [], ◌∷◌, ◌++◌, ◌≡◌, ◌<◌, ◌≤◌, ◌⊎◌, ◌↔◌, ◌==◌, length, refl, sym, subst, ap, ◌∙◌, arith, inl, inr, true, false, Ok, length-append, Decides, bytes_eq}
 use Rattle.std.specs.Int.Digits.{number_from_digits, digits_of}
 use Rattle.std.proofs.lemmas.Bool.{cases_lt}
 use Rattle.std.proofs.lemmas.Bool.Decides.{nat_tests}
 use Rattle.std.proofs.lemmas.Int.Digits.{all_below_base_digits_of, number_digits_of, first_digits_of}
 use Rattle.der_core.specs.Encodings.{AreBytes}
-use Rattle.der_core.specs.Integer.{EncodesNumbers, HoldsNumber, IntegerContents, IsCanonical, SmallContents, integer_contents}
+use Rattle.der_core.specs.Integer.{EncodesNumbers, HoldsNumber, IntegerContents, IsCanonical, NumberContents, SmallContents, integer_contents}
 use Rattle.der_core.specs.IntegerReading.{integer_of, small_of}
-use Rattle.der_core.specs.Laws.Encodings.{tlv_relates}
+use Rattle.der_core.specs.Laws.Encodings.{tlv_recast, tlv_relates}
 use Rattle.der_core.specs.Laws.Integer.{bytes_decide, canonical_same, contents_at_most_one, holds_canonical, integer_relates}
 use Rattle.der_core.specs.Laws.Length.{length_grows, length_octets-only, length_octets-within}
 use Rattle.der_core.specs.Laws.Readings.{bind_ok, integer_reads, made_tells, ok_injective, small_reads}
@@ -40,6 +40,13 @@ pub number_octets : (x : List ℕ) → IsCanonical x → octets (number_from_dig
 number_octets x p =
     canonical_same (octets (number_from_digits 256 x)) x (octets_canonical (number_from_digits 256 x)) p
     (octets_number (number_from_digits 256 x))
+
+pub octets_exact : (n : ℕ) (bytes : List ℕ)
+    → (octets n ≡ bytes) ↔ (IsCanonical bytes × (number_from_digits 256 bytes ≡ n))
+octets_exact n bytes = (
+  λ e. (subst IsCanonical e (octets_canonical n), subst (λ x. number_from_digits 256 x ≡ n) e (octets_number n)),
+  λ (p, is). ap octets (sym is) ∙ number_octets bytes p,
+)
 
 -- INTEGER
 number_contents_hold : (n : ℕ) → IntegerContents (octets n) (number_contents n)
@@ -85,10 +92,10 @@ number_law = record {
 pub small_law : ReadsPrinted (λ n. n < 256) number_contents small_of
 small_law = record {
   gives = λ c n bytes e.
-      let (less, x, number, p) : SmallContents n c = small_reads.gives c n bytes e in
+      let (less, (x, number, p)) : SmallContents n c = small_reads.gives c n bytes e in
       (less, number_contents_only x c n number p);
   takes = λ n less few.
-      small_reads.takes (number_contents n) n few (less, octets n, octets_number n, number_contents_hold n);
+      small_reads.takes (number_contents n) n few (less, (octets n, octets_number n, number_contents_hold n));
   tells = small_reads.tells;
 }
 
@@ -122,6 +129,27 @@ tlv_is t w encoding is p =
 pub tlv_made : {P : List ℕ → Type 0} (t : ℕ) (w : List ℕ) → P w → length (tlv t w) ≤ limit → Tlv t P (tlv t w)
 tlv_made {P} t w h fits =
     tlv_relates t (λ (_ : Unit {0}). P) (λ _. w) tt (λ _. h) (omega (arith, fits))
+
+-- The functions give what the relations hold of, within the limit.
+pub tlv_exact : (P : List ℕ → Type 0) (t : ℕ) (encoding : List ℕ) → length encoding ≤ limit
+    → ((c : List ℕ) × P c × (tlv t c ≡ encoding)) ↔ Tlv t P encoding
+tlv_exact P t encoding fits = (
+  λ (c, h, is). subst (λ e. Tlv t P e) is (tlv_made t c h (subst (λ e. length e ≤ limit) (sym is) fits)),
+  λ p. (
+    p.contents,
+    p.holds,
+    sym (tlv_is t p.contents encoding (λ c same. same)
+        (tlv_recast encoding p refl)),
+  ),
+)
+
+pub integer_exact : (n : ℕ) (encoding : List ℕ) → length encoding ≤ limit
+    → (integer n ≡ encoding) ↔ Tlv 2 (NumberContents n) encoding
+integer_exact n encoding fits = (
+  λ is. (tlv_exact (NumberContents n) 2 encoding fits).0
+      (number_contents n, (octets n, octets_number n, number_contents_hold n), is),
+  λ p. sym (tlv_is 2 (number_contents n) encoding (λ c (x, number, holds). number_contents_only x c n number holds) p),
+)
 
 pub tlv_fit : (t : ℕ) (c : List ℕ) → length c ≤ length (tlv t c)
 tlv_fit t c = omega (arith, length-append (length_octets (length c)) c)
