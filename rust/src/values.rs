@@ -3,7 +3,7 @@
 use crate::der::asn1::{ObjectIdentifier, ObjectIdentifierRef};
 use crate::der::{self, Result, Tag, cloned};
 use crate::proved::der_core::{self as proved, AsUintRef, Uint, UintRef};
-use crate::proved::spki_core::{self, AnyParams, AnyRef, AnyValue};
+use crate::proved::spki_core::{self, AnyParams, AnyRef};
 use crate::rattle_std::alloc::Global;
 use core::cmp::Ordering;
 use core::hash::{Hash, Hasher};

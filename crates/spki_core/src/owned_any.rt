@@ -40,6 +40,16 @@ impl Any {
         Any::copy_of(alloc, tag, contents)
     }
 
+    /// The tag and contents, borrowed. `AnyValue` has it too, for code that is generic over its holders.
+    pub fn as_any_ref(&self) -> AnyRef<'_>
+        ensures { any_of result ≡ own_any_of self.now }
+    {
+        match AnyRef::new(self.tag, self.contents.as_slice()) {
+            Ok(any) => any,
+            Err(_) => unreachable!(),
+        }
+    }
+
     /// A copy of the tag and contents. The only error is `OutOfMemory`.
     pub fn try_clone(&self, alloc: Global) -> Result<Any>
         ensures ok { IfOk result (λ copy. own_any_of copy ≡ own_any_of self.now) }
@@ -150,10 +160,7 @@ impl AnyValue for Any {
     ghost any = { own_any_of };
 
     fn as_any_ref(&self) -> AnyRef<'_> {
-        match AnyRef::new(self.tag, self.contents.as_slice()) {
-            Ok(any) => any,
-            Err(_) => unreachable!(),
-        }
+        Any::as_any_ref(self)
     }
 
     ghost holds = { holds_itself own_any_of };

@@ -26,6 +26,15 @@ impl Any {
         Any::copy_of(alloc, tag, contents)
     }
 
+    /// The tag and contents, borrowed. `AnyValue` has it too, for code that is generic over its holders.
+    #[must_use]
+    pub fn as_any_ref(&self) -> AnyRef<'_> {
+        match AnyRef::new(self.tag, self.contents.as_slice()) {
+            Ok(any) => any,
+            Err(_) => unreachable!(),
+        }
+    }
+
     /// A copy of the tag and contents. The only error is `OutOfMemory`.
     pub(crate) fn try_clone_in(&self, alloc: Global) -> Result<Any> {
         Any::copy_of(alloc, self.tag, self.contents.as_slice())
@@ -83,10 +92,7 @@ impl EqualByValue for Any {}
 
 impl AnyValue for Any {
     fn as_any_ref(&self) -> AnyRef<'_> {
-        match AnyRef::new(self.tag, self.contents.as_slice()) {
-            Ok(any) => any,
-            Err(_) => unreachable!(),
-        }
+        Any::as_any_ref(self)
     }
 }
 
