@@ -142,8 +142,7 @@ impl<P: Held, O: Identifier> RsaPssParams<P, O> {
         if mask >> view.default_fields() != 0 {
             return Err(Error::new(ErrorKind::Value { tag: Tag::SEQUENCE }).into());
         }
-        let length = (&view).encode_spelling_into(mask, out)?;
-        Ok(&out[..length])
+        (&view).encode_spelling(mask, out)
     }
 
     /// All spellings, each at the index that is its mask: two to the number of default fields.

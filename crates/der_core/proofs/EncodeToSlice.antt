@@ -1,19 +1,48 @@
--- What `encode_to_slice` leaves in the slice that it answers the front of, from what the calls in it say.
-use Rattle.std.proofs.Common.{ℕ, List, ◌∷◌, ◌≡◌, ◌≤◌, length, take, ◌++◌, ◌∙◌, arith, sym, subst, ap, Err, [], Ok, drop, Result, IfOk, IfErr, OnOk, OnErr, MatchResult, length-append, length-take, Bor, MutBor}
+-- What a call leaves in the slice that it answers the front of, from what the calls in it say; and the laws of the types
+-- that these return.
+use Rattle.std.proofs.Common.{ℕ, List, ◌∷◌, ◌≡◌, ◌≤◌, length, take, ◌++◌, ◌∙◌, arith, sym, subst, ap, refl, Err, [], Ok, drop, Result, IfOk, IfErr, OnOk, OnErr, MatchResult, length-append, length-take, Bor, MutBor}
 use Rattle.std.proofs.Math.Seq.{take-append_seam}
 use Rattle.der_core.specs.Words.{Error, IsFront, RefusedAs, SliceRests, Tag}
 use Rattle.std.specs.Bool.{⊤}
 use Rattle.std.specs.Borrow.{u8, Array}
+use Rattle.std.specs.contracts.result.Result as Res
+use Rattle.std.proofs.result.Result.TheLaws.{the_row_laws as result_laws}
+use mir.Syntax.{named}
+use denote.Builtin.{usize}
+use denote.Param.Laws.{Laws, of_field}
+use denote.Param.Shared.{copy_shared}
+use denote.RattleType.{RattleType}
+use denote.Struct.Field.{usize-field, u8-field, shr_slice_field}
+use denote.Struct.Laws.{usize-laws, usize-copy, u8-laws, u8-copy, shr_slice_laws, shr_slice_copy}
 use mathlib.Core.Option.{none}
 use seplogic.Ra.Ura.{Ura}
 use base.Logic.{ent}
-use base.Fml.{fres}
+use base.Fml.{Lft, fres}
 use base.Stored.{coded_list}
 use types.Logic.{Logic, sem}
 use types.Kit.{‵, ◌$◌, ◌∵◌, !, qed, use1, fpack, done}
-use denote.Slice.{finally}
+use denote.Slice.{ShrSlice, finally}
 use denote.Follow.{such_by, follows_by}
 use denote.FollowSlice.{finally-res}
+
+-- Bytes; a length or an error; a shared slice of bytes or an error.
+pub byte_laws : Laws u8
+byte_laws = of_field u8-field u8-laws refl (copy_shared u8-field u8-copy)
+
+abbrev pub CountOr : RattleType → RattleType
+CountOr E = Res.the_row usize E
+
+pub count_laws : (E : RattleType) → Laws E → Laws (CountOr E)
+count_laws E L = result_laws usize E (of_field usize-field usize-laws refl (copy_shared usize-field usize-copy)) L
+
+abbrev pub FrontOr : RattleType → Lft → RattleType
+FrontOr E κ = Res.the_row (ShrSlice (named 0) κ u8) E
+
+pub front_laws : (E : RattleType) → Laws E → (κ : Lft) → Laws (FrontOr E κ)
+front_laws E L κ =
+    let F = shr_slice_field (record { mir = named 0; lft = κ }) u8 tt in
+    result_laws F.row E (of_field F (shr_slice_laws (record { mir = named 0; lft = κ }) u8 tt) refl
+    (copy_shared F (shr_slice_copy (record { mir = named 0; lft = κ }) u8 tt byte_laws.shr_laws))) L
 
 -- A slice whose last list is known rests at it.
 module _ {M : Type 1} {𝓤 : Ura M} (𝓛 : Logic 𝓤) where

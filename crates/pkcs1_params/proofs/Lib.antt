@@ -6,3 +6,4 @@ pub mod ParameterReads
 pub mod WholeParameters
 pub mod Labels
 pub mod Wrapped
+pub mod WrittenFront

@@ -1,10 +1,12 @@
 -- What calls return, and why, as errors of this crate.
-use Rattle.std.specs.Prelude.{ℕ, List, [], ◌++◌, ◌≡◌, Option, Some, None, Result, Ok, Err}
+use Rattle.std.specs.Prelude.{ℕ, List, [], ◌++◌, ◌≡◌, length, Option, Some, None, Result, Ok, Err}
+use Rattle.std.specs.Borrow.{Bor, MutBor, Fml}
 use Rattle.der_core.specs.declared.error.ErrorKind.{ErrorKind}
-use Rattle.der_core.specs.Words.{FaultOrMemory, TellsOfBytes, Reading, Unwritten, encode_error}
+use Rattle.der_core.specs.Words.{FaultOrMemory, SliceRests, TellsOfBytes, Reading, Unwritten, encode_error, ok_of}
 use Rattle.pkcs1_params.specs.declared.error.Error.{Error}
 use Rattle.pkcs1_params.specs.declared.error.Error.TheVariants as error
 use Rattle.pkcs1_params.specs.Errors.{IsAsn1}
+use Rattle.standard.specs.Statement.{Encodes}
 
 -- The bytes encode some value.
 abbrev pub IsEncoded : {V : Type 0} → (V → List ℕ → Type 0) → List ℕ → Type 0
@@ -46,3 +48,10 @@ FaultsTell read = (bytes : List ℕ) (kind : ErrorKind) → read bytes ≡ Err k
 -- Why a value isn't written to so many bytes. The kinds are Value, Overflow and NoRoom.
 abbrev pub Refuses : {V : Type 0} → (V → Type 0) → (V → List ℕ → Type 0) → V → ℕ → Error → Type 0
 Refuses Is Encoding v room = IsAsn1 (λ e. Unwritten Is Encoding v room (encode_error e.kind))
+
+-- What a slice holds once the borrow of the result is over: the front that was returned is the value's shortest
+-- encoding, and the other octets are as before; after an error all are.
+abbrev pub LeavesEncoded : {V : Type 0} → (V → List ℕ → Type 0) → V → MutBor (List ℕ) → Result (Bor (List ℕ)) Error
+    → Fml
+LeavesEncoded Encoding v s r =
+    SliceRests s (λ end. Encodes Encoding v s.now end (ok_of (λ front. length front.now) r))

@@ -4,7 +4,7 @@ pub use Rattle.pkcs1_params.specs.DefaultBits.{bit_of, bits_of}
 pub use Rattle.pkcs1_params.specs.Errors.{IsAsn1, error_text}
 pub use Rattle.pkcs1_params.specs.HashFunctions.{AreSameMask, AreSameOaep, AreSamePss, UsesHash, hash_algorithm}
 pub use Rattle.pkcs1_params.specs.Labels.{CountsLabelled, LabelOf, source_with, written_labelled, written_source}
-pub use Rattle.pkcs1_params.specs.Meanings.{AnswersAsn1, AnswersAsn1OrAsks, AreDelimited, FaultsTell, IsEncoded, Refuses, fault_in, fault_told}
+pub use Rattle.pkcs1_params.specs.Meanings.{AnswersAsn1, AnswersAsn1OrAsks, AreDelimited, FaultsTell, IsEncoded, LeavesEncoded, Refuses, fault_in, fault_told}
 pub use Rattle.pkcs1_params.specs.OaepValue.{IsBareOaep, LabelFits, NoLabelFits, OwnedOaepAllocates, labelled, oaep_in, oaep_of, oaep_viewed, oaep_with}
 pub use Rattle.pkcs1_params.specs.ParameterReadings.{field_in, field_number, hash_kind, mask_kind, oaep_kinds, oaep_read, of_oaep_fields, of_pss_fields, plain_front, pss_kinds, pss_read, rsa_oaep_params, rsa_pss_params, salt_kind, source_kind, strict_oaep_params, strict_pss_params, trailer_kind, trailer_read}
 pub use Rattle.pkcs1_params.specs.Parameters.{OaepParameters, PssParameters, id_mgf1, id_p_specified, id_rsa_encryption, id_sha1, octets_value, pkcs1_algorithm, with_parameters}

@@ -86,20 +86,6 @@ impl<O: IdentifierValue, P: AnyValue> PssParamsOf<O, P> {
         count_defaults(self)
     }
 
-    /// As `encode_spelling_to_slice`. A caller that needs in a proof what the rest of the slice holds calls
-    /// `encode_spelling_into`.
-    pub fn encode_spelling<'b>(&self, mask: u8, out: &'b mut [u8]) -> Result<&'b [u8]>
-        requires { IsMask (pss_fields (pss_in O.octets P.any self.now)) mask }
-        ensures written { let Encoding = SequenceOf IsPss pss_fields (FieldsUnder mask) in
-            IfOk result (λ encoding. IsShortest Encoding (pss_in O.octets P.any self.now) encoding.now) }
-        ensures room { IfOk result (λ encoding. length encoding.now ≤ length out.old) }
-        ensures err { let Encoding = SequenceOf IsPss pss_fields (FieldsUnder mask) in
-            let params = pss_in O.octets P.any self.now in
-            IfErr result (Refuses (λ _. ⊤) Encoding params (length out.old)) }
-    {
-        self.encode_spelling_to_slice(mask, out)
-    }
-
     /// All encodings of the parameters, each at the index that is its mask, none twice, so the shortest is the first:
     /// two to the number of default fields. Ok only if the one with every field is no longer than `Length::MAX`. Err:
     /// `Overflow` exactly if it is longer, before anything is allocated; else `OutOfMemory`.

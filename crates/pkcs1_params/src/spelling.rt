@@ -1,11 +1,12 @@
 //! Spellings of parameters: a mask says which of their defaults are written.
 ghost use Rattle.std.specs.Prelude.{◌≡◌, ◌≤◌, ◌<◌, ⊤, List, length, IfErr, IfOk};
-ghost use Rattle.der_core.specs.Words.{begins_with_any, limit, ok_of, one_spelling_shortest, reading_alike};
+ghost use Rattle.std.specs.Borrow.{sem};
+ghost use Rattle.der_core.specs.Words.{IsFront, begins_with_any, limit, ok_of, one_spelling_shortest, reading_alike};
 ghost use Rattle.der_core.specs.declared.error.ErrorKind.{ErrorKind};
 ghost use Rattle.spki_core.specs.Words.{AreSpelled, FieldRecord, are_defaults, record_fields, record_law, record_under, spelling_printed, spelling_read};
 ghost use Rattle.spki_core.specs.FieldSpellings as spellings;
 ghost use Rattle.pkcs1_params.specs.DefaultBits.{bits_of};
-ghost use Rattle.pkcs1_params.specs.Meanings.{Refuses};
+ghost use Rattle.pkcs1_params.specs.Meanings.{LeavesEncoded, Refuses};
 ghost use Rattle.pkcs1_params.specs.Spellings.{EncodingOfFields, EncodingUnderMask, IsMask, MaskIsInRange};
 ghost use Rattle.standard.specs.Statement.{Defaults, Encodes, Field, IsShortest};
 
@@ -81,24 +82,31 @@ pub trait EncodeParams: Copy + Drop {
         Ok(spelling.encode_into(out)?)
     }
 
-    /// Like `encode_spelling_into`, but returns the part of the slice that was written, as `encode_to_slice` does. It
-    /// is no longer than the slice. That it is the front of it, and that after an error all of the slice is as it was,
-    /// is only tested.
-    final fn encode_spelling_to_slice<'b>(self, mask: u8, out: &'b mut [u8]) -> Result<&'b [u8]>
+    /// Writes the only encoding under this mask, as `encode_spelling_into` does, and returns the front of the slice that
+    /// holds it. A caller that needs in a proof what the slice holds calls `encode_spelling_into`.
+    final fn encode_spelling<'b>(self, mask: u8, out: &'b mut [u8]) -> Result<&'b [u8]>
         requires { IsMask (Self.fields_of (Self.params self)) mask }
+        ensures* leaves { let Encoding = EncodingUnderMask mask Self.Is Self.fields_of in
+            sem 𝓛 (LeavesEncoded Encoding (Self.params self) out.entry result) }
         ensures written { let Encoding = EncodingUnderMask mask Self.Is Self.fields_of in
             IfOk result (λ encoding. IsShortest Encoding (Self.params self) encoding.now) }
         ensures room { IfOk result (λ encoding. length encoding.now ≤ length out.old) }
         ensures err { let Encoding = EncodingUnderMask mask Self.Is Self.fields_of in
             IfErr result (Refuses (λ _. ⊤) Encoding (Self.params self) (length out.old)) }
     {
-        self.lemma_is_valid();
-        let spelling = Spelling {
-            params: self,
-            non_defaults: non_defaults_in(self),
-            mask,
-        };
-        Ok(spelling.encode_to_slice(out)?)
+        let written = self.encode_spelling_into(mask, out);
+        front(out, written)
+    }
+}
+
+/// The written front of a slice, or why nothing was written.
+fn front<'b>(out: &'b [u8], written: Result<usize>) -> Result<&'b [u8]>
+    requires { IfOk written (λ n. n ≤ length out.now) }
+    ensures { IsFront out.now written result }
+{
+    match written {
+        Ok(length) => Ok(&out[..length]),
+        Err(error) => Err(error),
     }
 }
 

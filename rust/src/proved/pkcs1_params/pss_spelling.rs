@@ -66,12 +66,6 @@ impl<O: IdentifierValue, P: AnyValue> PssParamsOf<O, P> {
         count_defaults(self)
     }
 
-    /// As `encode_spelling_to_slice`. A caller that needs in a proof what the rest of the slice holds calls
-    /// `encode_spelling_into`.
-    pub(crate) fn encode_spelling<'b>(&self, mask: u8, out: &'b mut [u8]) -> Result<&'b [u8]> {
-        self.encode_spelling_to_slice(mask, out)
-    }
-
     /// All encodings of the parameters, each at the index that is its mask, none twice, so the shortest is the first:
     /// two to the number of default fields. Ok only if the one with every field is no longer than `Length::MAX`. Err:
     /// `Overflow` exactly if it is longer, before anything is allocated; else `OutOfMemory`.

@@ -45,17 +45,19 @@ pub trait EncodeParams: Copy {
         Ok(spelling.encode_into(out)?)
     }
 
-    /// Like `encode_spelling_into`, but returns the part of the slice that was written, as `encode_to_slice` does. It
-    /// is no longer than the slice. That it is the front of it, and that after an error all of the slice is as it was,
-    /// is only tested.
-    fn encode_spelling_to_slice<'b>(self, mask: u8, out: &'b mut [u8]) -> Result<&'b [u8]> {
-        self.lemma_is_valid();
-        let spelling = Spelling {
-            params: self,
-            non_defaults: non_defaults_in(self),
-            mask,
-        };
-        Ok(spelling.encode_to_slice(out)?)
+    /// Writes the only encoding under this mask, as `encode_spelling_into` does, and returns the front of the slice that
+    /// holds it. A caller that needs in a proof what the slice holds calls `encode_spelling_into`.
+    fn encode_spelling<'b>(self, mask: u8, out: &'b mut [u8]) -> Result<&'b [u8]> {
+        let written = self.encode_spelling_into(mask, out);
+        front(out, written)
+    }
+}
+
+/// The written front of a slice, or why nothing was written.
+fn front<'b>(out: &'b [u8], written: Result<usize>) -> Result<&'b [u8]> {
+    match written {
+        Ok(length) => Ok(&out[..length]),
+        Err(error) => Err(error),
     }
 }
 

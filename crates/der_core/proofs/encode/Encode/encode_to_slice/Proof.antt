@@ -18,10 +18,10 @@ use contract.Monad.{fact, fact_i}
 use denote.Exit.{yes, no}
 use denote.RattleType.{RattleType}
 use denote.Signature.{plain, mut_slice_of}
-use denote.Builtin.{RefOf, u8, usize}
+use denote.Builtin.{RefOf, u8}
 use denote.Laws.{Is, shows}
 use denote.Ref.{Bor, MutBor, ShrRef, shr_vals, shr_Tells}
-use denote.Slice.{MutSlice, ShrSlice, slice_val, mut_slice_vals, shr_slice_vals, mut_slice_Tells, finally}
+use denote.Slice.{MutSlice, slice_val, mut_slice_vals, shr_slice_vals, mut_slice_Tells, finally}
 use denote.Steps.{nothing, peeks}
 use denote.Param.{param, bounded}
 use denote.Triple.Call.{calls_at}
@@ -33,47 +33,19 @@ use borrow.Rule.Slice.Lend.{kept_f, sl_relend, sl_relent_backˡ}
 use borrow.Rule.Slice.Handed.{sl_Share}
 use denote.Shares.{Shares-less}
 use borrow.Table.Owned as own
-use Rattle.std.specs.contracts.result.Result as Res
 use Rattle.der_core.specs.contracts.encode.Encode.encode_to_slice as f
 use Rattle.der_core.specs.contracts.encode.Encode.encode_to_slice.Key.{name as #self}
 use Rattle.der_core.specs.contracts.encode.Encode.encode_into as g
 use Rattle.der_core.proofs.encode.Encode.encode_into.Met.{met as writes}
 use Rattle.der_core.specs.contracts.encode.front as h
 use Rattle.der_core.specs.Words.{IsFront, LeavesRest, RefusedAs, Error, WhyNotWritten, Prints, Spells, encode_error}
-use Rattle.der_core.proofs.EncodeToSlice.{slice_rests_finally, WroteOver, written_fits, front_refused, leaves_rest, front_has_encoding_property, front_error_kept, front_within}
-use Rattle.std.proofs.result.Result.TheLaws.{the_row_laws as result_laws}
-use denote.Param.Laws.{Laws, of_field}
-use denote.Param.Shared.{copy_shared}
-use denote.Struct.Field.{usize-field, u8-field, shr_slice_field}
-use denote.Struct.Laws.{usize-laws, usize-copy, u8-laws, u8-copy, shr_slice_laws, shr_slice_copy}
+use Rattle.der_core.proofs.EncodeToSlice.{byte_laws, count_laws, CountOr, front_laws, FrontOr, slice_rests_finally, WroteOver, written_fits, front_refused, leaves_rest, front_has_encoding_property, front_error_kept, front_within}
 use Rattle.der_core.proofs.encode.front.Met.{met as answers}
 use Rattle.der_core.specs.contracts.error.Error.{the_row as ErrorRow}
 use Rattle.der_core.proofs.error.Error.TheLaws.{the_row_laws as error_laws}
 use Rattle.der_core.proofs.encode.Encode.encode_to_slice.Statement.{statement}
 use Rattle.standard.specs.Statement.{IsShortest}
 use Rattle.der_core.proofs.encode.Encode.encode_to_slice.Code as code
-
-abbrev byte_laws : Laws u8
-byte_laws = of_field u8-field u8-laws refl (copy_shared u8-field u8-copy)
-
--- what `encode_into` returns
-abbrev Count : RattleType
-Count = Res.the_row usize ErrorRow
-
-count_laws : Laws Count
-count_laws =
-    result_laws usize ErrorRow (of_field usize-field usize-laws refl (copy_shared usize-field usize-copy)) error_laws
-
--- what `front` returns
-abbrev Front : Lft → RattleType
-Front κ = Res.the_row (ShrSlice (named 0) κ u8) ErrorRow
-
-front_laws : (κ : Lft) → Laws (Front κ)
-front_laws κ =
-    let F =
-    shr_slice_field (record { mir = named 0; lft = κ }) u8 tt in
-    result_laws F.row ErrorRow (of_field F (shr_slice_laws (record { mir = named 0; lft = κ }) u8 tt) refl
-    (copy_shared F (shr_slice_copy (record { mir = named 0; lft = κ }) u8 tt byte_laws.shr_laws))) error_laws
 
 pub encode_to_slice_spec : {M : Type 1} → statement M
 encode_to_slice_spec 𝓤 𝓛 𝓜 𝓡 wired W L gh d gt dt met of_encoding =
@@ -144,15 +116,15 @@ encode_to_slice_spec 𝓤 𝓛 𝓜 𝓡 wired W L gh d gt dt met of_encoding =
     λ e. WhyNotWritten (gt.valid (gt.written value)) (Prints gt.valid gt.printed gt.means) value (length xs) (encode_error e.kind) in
     use1 𝓛 (later (some (λ (r : Result ℕ Error).
     ((‵ (flft κ₀ qs.0) ⊛ ‵ (flft (α ∷ []) full_share) ⊛ ‵ (flft κ₂ qs.1.1.0) ⊛ ‵ ftrue)
-    ⊛ ‵ (Count.own_val r (v ∷ [])))
+    ⊛ ‵ ((CountOr ErrorRow).own_val r (v ∷ [])))
     ⊛ some (λ (ws : Unit {0} × (List ℕ × Unit {0})). ‵ (lasts (g.ended W gh d gt dt) z.0.0 z.0.3 ws)
     ⊛ given (WroteOver encoding xs ws.1.0 r) (‵ ftrue) ⊛ given
     (OnOk r (IsShortest (Spells gt.valid gt.printed gt.means) value encoding)) (‵ ftrue)
     ⊛ given (IfErr r Rejected) (‵ ftrue) ⊛ given (RefusedAs gh.refused r) (‵ ftrue)
     ⊛ given (OnErr r (ws.1.0 ≡ xs)) (‵ ftrue))))) (id⊢ 𝓤 _) $
     await ! tt $ pick ! (λ r. split ! $ split ! $ move ! (1 ∷ []) $
-    peeks ! Count (Is Count) (shows 𝓛 Count) r (v ∷ []) (λ told.
-    lands_as ! refl refl ((count_laws.lawful 𝓛).typed r (v ∷ []) told).0 $ move ! (2 ∷ []) $
+    peeks ! (CountOr ErrorRow) (Is (CountOr ErrorRow)) (shows 𝓛 (CountOr ErrorRow)) r (v ∷ []) (λ told.
+    lands_as ! refl refl (((count_laws ErrorRow error_laws).lawful 𝓛).typed r (v ∷ []) told).0 $ move ! (2 ∷ []) $
     pick ! (λ ws. let ys : List ℕ = ws.1.0 in
     split ! $ move ! (1 ∷ []) $ split3 ! $
     learn ! (λ wrote. drop ! $ learn !
@@ -186,12 +158,12 @@ encode_to_slice_spec 𝓤 𝓛 𝓜 𝓡 wired W L gh d gt dt met of_encoding =
     calls_at ! (framed 𝓤 H 𝓜 𝓣) B (answers 𝓤 𝓛 𝓜 𝓡 (code.calls-der_core::encode::front 𝓡.env wired)) x
     (and_then ! (get ! refl) (and_then ! (get ! refl) (no_more !))) (λ u.
     use1 𝓛 (later (some (λ (t : Result (Bor (List ℕ)) Error).
-    ((‵ (flft κ q) ⊛ ‵ ftrue) ⊛ ‵ ((Front κ).own_val t (u ∷ [])))
+    ((‵ (flft κ q) ⊛ ‵ ftrue) ⊛ ‵ ((FrontOr ErrorRow κ).own_val t (u ∷ [])))
     ⊛ some (λ (us : Unit {0} × (Unit {0} × Unit {0})). ‵ (lasts h.ended x.0.0 x.0.3 us)
     ⊛ given (IsFront ys r t) (‵ ftrue))))) (id⊢ 𝓤 _) $
     await ! tt $ pick ! (λ t. split ! $ split ! $ move ! (1 ∷ []) $
-    peeks ! (Front κ) (Is (Front κ)) (shows 𝓛 (Front κ)) t (u ∷ []) (λ told'.
-    lands_as ! refl refl (((front_laws κ).lawful 𝓛).typed t (u ∷ []) told').0 $ move ! (2 ∷ []) $
+    peeks ! (FrontOr ErrorRow κ) (Is (FrontOr ErrorRow κ)) (shows 𝓛 (FrontOr ErrorRow κ)) t (u ∷ []) (λ told'.
+    lands_as ! refl refl (((front_laws ErrorRow error_laws κ).lawful 𝓛).typed t (u ∷ []) told').0 $ move ! (2 ∷ []) $
     pick ! (λ us. split ! $ move ! (1 ∷ []) $ learn ! (λ answered. drop ! $ drop ! $
     -- [the answer; the token of κ; how the slice ends; the tokens of κ₀ and κ₂; ..]
     returns ! (look_at ! 0 refl) $ free_all ! refl $
