@@ -1,7 +1,8 @@
 -- Files that are written in place, or replaced by new ones.
-use Rattle.std.specs.Prelude.{◌≡◌, ◌⊎◌, ℕ, Bool, true, false, bit_and, List, [], ◌∷◌, Option, Some, None, Result, MatchResult, Ok, Err, is_none, option_map, unwrap_or}
+use Rattle.std.specs.Prelude.{◌≡◌, ◌⊎◌, ◌-◌, ◌^◌, ⊤, ℕ, Bool, true, false, bit_and, List, [], ◌∷◌, ◌++◌, Option, Some, None, Result, MatchResult, Ok, Err, codes, is_none, option_map, unwrap_or}
+use Rattle.std.specs.Fmt.{digits, format_spec, padded_integral}
 use Rattle.std.specs.Io.KnownBytes.{Appends}
-use Rattle.std.specs.Path.{path_buf_bytes}
+use Rattle.std.specs.Path.{path_buf_bytes, path_parent, path_with_file_name}
 use Rattle.der_core.specs.Words.{AppendsFront, FileCall, FileTakes, OneFailed, opened_in_place, removed, renamed, synced, with_calls}
 use Rattle.pkcs1_program.specs.declared.copy_error.WriteError.{WriteError}
 use Rattle.pkcs1_program.specs.declared.copy_error.WriteError.TheVariants as error
@@ -26,6 +27,28 @@ aim_of (Beside it) = beside_it (path_buf_bytes it.to) (path_buf_bytes it.path) i
 abbrev pub aimed : {E : Type 0} → Result Target E → Option Aim
 aimed (Ok target) = Some (aim_of target)
 aimed (Err e) = None
+
+-- The name of a new file: `.pkcs1_tool.`, and a number as `{:016x}` writes it.
+abbrev pub new_name : ℕ → List ℕ
+new_name number =
+    codes ".pkcs1_tool." ++ padded_integral (format_spec 32 0 4 16 (2 ^ 64 - 1)) false [] (digits 16 false number)
+
+-- The path of a new file in the folder of the one at this path.
+abbrev pub IsNewBeside : List ℕ → List ℕ → Type 0
+IsNewBeside path new = (number : ℕ) × (new ≡ path_with_file_name path (new_name number))
+
+-- What is at a path is written by a new file in its own folder. Where nothing is, that gets the path itself.
+abbrev pub AimsBeside : List ℕ → Aim → Type 0
+AimsBeside path (beside_it to beside mode) = IsNewBeside to beside × (mode ≡ None → to ≡ path)
+AimsBeside path aim = ⊤
+
+-- The folder of what is at a path, from the path's parent: `.` if that names none.
+abbrev pub folder_named : Option (List ℕ) → List ℕ
+folder_named (Some (byte ∷ bytes)) = byte ∷ bytes
+folder_named parent = codes "."
+
+abbrev pub folder_of : List ℕ → List ℕ
+folder_of path = folder_named (path_parent path)
 
 -- The mode of a private key's new file: the owner's bits of the file that was read.
 abbrev pub private_key_mode : ℕ → Option ℕ → ℕ

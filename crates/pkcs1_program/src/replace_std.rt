@@ -1,6 +1,8 @@
 //! The files of std as ones of which a new one can take the place of an old one.
-ghost use Rattle.std.specs.Prelude.{◌≡◌, ⊤, IfSome};
+ghost use Rattle.std.specs.Prelude.{◌≡◌, ⊤, IfOk, IfSome};
+ghost use Rattle.std.specs.Path.{path_buf_bytes, path_bytes};
 ghost use Rattle.der_core.specs.Words.{write_faults};
+ghost use Rattle.pkcs1_program.specs.Words.{AimsBeside, IsNewBeside, folder_of};
 
 use crate::replace::{Beside, Mode, ReplaceFiles, Target};
 use der_core::{FromRead, Result, ToWrite};
@@ -36,7 +38,9 @@ fn new_path<Rt: RandomSource>(
     random: &Rt,
     alloc: Global,
     path: Path<'_>,
-) -> std::result::Result<PathBuf, AllocError> {
+) -> std::result::Result<PathBuf, AllocError>
+    ensures { IfOk result (λ new. IsNewBeside (path_bytes path.entry) (path_buf_bytes new)) }
+{
     let mut bytes = [0; 8];
     let _ = random.fill_bytes(&mut bytes);
     let name = format!(in alloc; ".pkcs1_tool.{:016x}", u64::from_be_bytes(bytes))?;
@@ -95,14 +99,20 @@ fn new_file<Rt: Files>(files: &Rt, path: Path<'_>, mode: Mode) -> io::Result<Rt:
     Ok(file)
 }
 
+/// The folder of the file at the path.
+fn folder_of(path: Path<'_>) -> Path<'_>
+    ensures { path_bytes result ≡ folder_of (path_bytes path.entry) }
+{
+    match path.parent() {
+        Some(folder) if !folder.as_str().is_empty() => folder,
+        _ => Path::new("."),
+    }
+}
+
 /// Waits until the disk has what stands in the folder of the file at the path. Where the system doesn't know how to
 /// wait for a folder, nothing is waited for.
 fn sync_folder<Rt: Files>(files: &Rt, path: Path<'_>) -> io::Result<()> {
-    let folder = match path.parent() {
-        Some(folder) if !folder.as_str().is_empty() => folder,
-        _ => Path::new("."),
-    };
-    match File::open(files, folder) {
+    match File::open(files, folder_of(path)) {
         Ok(folder) => folder.sync_all(),
         Err(error) if error.kind() == io::ErrorKind::Unsupported => Ok(()),
         Err(error) => Err(error),
@@ -114,7 +124,7 @@ impl<Rt: Files + RandomSource> ReplaceFiles for Rt {
 
     ghost has_mode = { λ _ _. ⊤ };
 
-    ghost aims = { λ _ _. ⊤ };
+    ghost aims = { λ path aim. IfSome aim (AimsBeside path) };
 
     ghost opens_in_place = { λ _ opened. IfSome opened (λ sink. write_faults sink ≡ 0) };
 

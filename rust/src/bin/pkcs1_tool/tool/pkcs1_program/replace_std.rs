@@ -94,14 +94,18 @@ fn new_file<Rt: Files>(files: &Rt, path: Path<'_>, mode: Mode) -> io::Result<Rt:
     Ok(file)
 }
 
+/// The folder of the file at the path.
+fn folder_of(path: Path<'_>) -> Path<'_> {
+    match path.parent() {
+        Some(folder) if !folder.as_str().is_empty() => folder,
+        _ => Path::new("."),
+    }
+}
+
 /// Waits until the disk has what stands in the folder of the file at the path. Where the system doesn't know how to
 /// wait for a folder, nothing is waited for.
 fn sync_folder<Rt: Files>(files: &Rt, path: Path<'_>) -> io::Result<()> {
-    let folder = match path.parent() {
-        Some(folder) if !folder.as_str().is_empty() => folder,
-        _ => Path::new("."),
-    };
-    match File::open(files, folder) {
+    match File::open(files, folder_of(path)) {
         Ok(folder) => folder.sync_all(),
         Err(error) if error.kind() == io::ErrorKind::Unsupported => Ok(()),
         Err(error) => Err(error),
