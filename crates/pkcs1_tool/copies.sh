@@ -66,6 +66,21 @@ copies_in_little_memory() {
     (ulimit -v 45000 && runs copy pub large.der again.der)
     ends "copy pub large.der again.der" 0 "" "" $?
     cmp -s "$room/files/large.der" "$room/files/again.der" || fails "copy pub large.der again.der: other bytes"
+    holds_once large.der
+}
+
+# holds_once FILE: while a pipe is to take the key in this file of 20 MB, which was judged then, one copy is in memory.
+holds_once() {
+    local most
+    mkfifo "$room/files/pipe"
+    (cd "$room/files" && exec "$program" copy pub "$1" pipe) &
+    exec 9< "$room/files/pipe"
+    most=$(sed -n 's/^VmHWM:[^0-9]*\([0-9]*\) kB$/\1/p' "/proc/$!/status")
+    cmp -s "$room/files/$1" - <&9 || fails "copy pub $1 pipe: other bytes"
+    exec 9<&-
+    wait
+    [[ "$most" -gt 19000 && "$most" -lt 30000 ]] || fails "copy pub $1 pipe: it took $most KB"
+    rm "$room/files/pipe"
 }
 
 # Two names of one file, pipes, a name that is too long, and the longest paths of IN and of the new file: 4095 bytes.

@@ -1,9 +1,10 @@
 #!/usr/bin/env python3
 """faults.py LIBRARY NAME=TOOL..: each call on files that the tool makes fails with each of some errors, one in each
-run, in copies to all kinds of OUT. All tools make the same calls, and end alike. After an error each file is as it was,
-unless only the folder can't be synced. A new file that can't be removed is named, and only its owner may read a private
-key there. A disk that has no room, as it finds out when a file is closed, loses nothing. LIBRARY is what is built of
-refuse_calls.c."""
+run, in copies to all kinds of OUT. All tools make the same calls, and end alike. A new file has a random name, is
+created with its mode, and is on the disk before it is renamed. Each error ends the copy, but for those of closing, and
+of reading and setting a mode. After that each file is as it was, unless only the folder can't be synced. A new file
+that can't be removed is named, and only its owner may read a private key there. A disk that has no room, as it finds
+out when a file is closed, loses nothing. LIBRARY is what is built of refuse_calls.c."""
 import collections
 import errno
 import os
@@ -32,6 +33,8 @@ CASES = {
 }
 # Where the system says of a link to nothing that nothing is there, the link is replaced.
 UNTRIED = {("through a link to nothing", "lstat", "ENOENT")}
+# What is never copied.
+KEPT = ("through a link to nothing", "no public key")
 # Two calls of one run that fail.
 PAIRS = [
     ("a private key over a file", "write,1,EIO unlink,1,EIO"),
@@ -42,6 +45,8 @@ PAIRS = [
 ]
 LEFT = ".pkcs1_tool.NEW"
 UNSYNCED = b": it is replaced, but its folder can't be synced\n"
+UNKNOWN = b": it can't be opened\n"
+NO_MEMORY = b": no memory was found\n"
 
 
 def prepare(at):
@@ -63,13 +68,14 @@ class Faults:
 
     def __init__(self, library, compared):
         self.library, self.compared = library, compared
+        self.names = {tool: collections.Counter() for tool in compared}
         with tools.folder() as top:
             at = f"{top}/files"
             prepare(at)
             self.before = tools.files_below(at)
 
     def run(self, tool, case, refused="", **more):
-        """Its result, and its calls: KIND or, of fsync, KIND/NAME, after `!` if it was refused."""
+        """Its result, and its calls as refuse_calls.c writes them, with another name for a new file."""
         words = ["copy", *CASES[case].words] if CASES[case].words else []
         with tools.folder() as top, tempfile.TemporaryFile() as log:
             at = f"{top}/files"
@@ -79,16 +85,18 @@ class Faults:
             lines = b"pub 3006020107020103\npub 30\n"
             result = tools.run(tool, words, at, env=env, input=lines, pass_fds=(log.fileno(),))
             log.seek(0)
-            return result, tools.RANDOM.sub(b".pkcs1_tool.NEW", log.read()).decode().split()
+            calls = log.read()
+            self.names[tool].update(set(tools.RANDOM.findall(calls)))
+            return result, tools.RANDOM.sub(LEFT.encode(), calls).decode().split()
 
     def files(self, case, calls, result):
         """Whether each file is as it may be after this run."""
         what, files = CASES[case], {name: it for name, *it in result.files}
         wanted = {name: it for name, *it in self.before}
         if what.out and (result.status == 0 or result.error.endswith(UNSYNCED)):
-            wanted[what.out] = [what.key, what.mode | 0o100000]
-            if {"!fchmod", "!fstat"} & set(calls) and what.out in files:
-                wanted[what.out][1] &= files[what.out][1]
+            mode = 0o600 if "!fstat" in calls and what.out not in wanted else what.mode
+            set_in_vain = "!fchmod" in calls and "fchmod" not in calls
+            wanted[what.out] = [what.key, 0o100000 | (mode & ~0o022 if set_in_vain else mode)]
         if any(files.get(it) != wanted.get(it) for it in files.keys() | wanted.keys() if it.split("/")[-1] != LEFT):
             yield f"other files than there may be: {result}"
         if (result.status, result.error.count(b"\n")) not in ((0, 0), (1, 1)):
@@ -109,17 +117,48 @@ class Faults:
         if len(set(calls.values())) > 1:
             yield "the tools make other calls:" + "".join(f"\n    {name}: {it}" for name, it in calls.items())
 
+    def in_order(self, case, calls):
+        """Whether a new file gets its mode when it is created, and is renamed when it is whole."""
+        what = CASES[case]
+        made = [at for at, call in enumerate(calls) if call.startswith("open/")]
+        folder = os.path.basename(os.path.dirname(what.out)) or "files"
+        wanted = ["write", f"fsync/{LEFT}", "close", "rename", "open", f"fsync/{folder}", "close"]
+        if what.key == PUBLIC and any(name == what.out for name, *_ in self.before):
+            wanted.insert(0, "fchmod")
+        if not made or calls[made[0]:] != [f"open/{what.mode:o}/{LEFT}", *wanted]:
+            yield f"other calls, or in another order: {' '.join(calls)}"
+
     def unhindered(self, case):
         """Nothing fails, and nothing differs if few octets are read and written at a time."""
         ran = {tool: self.run(tool, case) for tool in self.compared}
         result, calls = ran[self.compared[0]]
         yield from self.alike(ran)
         yield from self.files(case, calls, result)
+        if result.status != (case in KEPT):
+            yield f"another status: {result}"
+        if CASES[case].out:
+            yield from self.in_order(case, calls)
         for more in ({"SHORT": "1"}, {"SHORT": "3"}, {"LAZY": "yes"}):
             ran = {tool: self.run(tool, case, **more) for tool in self.compared}
             yield from self.alike(ran)
             if ran[self.compared[0]][0] != result:
                 yield f"with {more} it ends otherwise: {ran[self.compared[0]][0]}"
+
+    def goes_on(self, case, call, error):
+        """Whether a copy that fails at this call isn't ended by it."""
+        is_new = all(name != CASES[case].out for name, *_ in self.before)
+        return call[0] in ("close", "fchmod") or call == ("fstat", "1") or (
+            error == "ENOENT" and call[0] in ("stat", "lstat") and CASES[case].out and is_new)
+
+    def ends(self, case, refused, result, again):
+        """Whether it ends as it may after this call failed."""
+        kind, number, error = refused.split(",")
+        goes_on = again or self.goes_on(case, (kind, number), error)
+        if result.status != (case in KEPT or not goes_on):
+            yield f"another status: {result}"
+        text = NO_MEMORY if (kind, error) == ("realpath", "ENOMEM") else UNKNOWN
+        if kind in ("stat", "lstat", "realpath") and error != "ENOENT" and not result.error.endswith(text):
+            yield f"another error: {result}"
 
     def hindered(self, case, refused):
         """These calls fail."""
@@ -128,11 +167,15 @@ class Faults:
         left_out = {tools.RATTLE} if error == "EINTR" or len(kinds) > 1 else set()
         left_out |= {"cargo"} if again and kinds[0] in NOT_BY_CARGO else set()
         ran = {tool: self.run(tool, case, refused) for tool in self.compared if tool.name not in left_out}
-        result, calls = ran[self.compared[0]]
+        if not ran:
+            return
+        result, calls = ran[next(iter(ran))]
         yield from self.alike(ran)
         yield from self.files(case, calls, result)
         if sorted(it.split("/")[0] for it in calls if it[0] == "!") != sorted("!" + it for it in kinds):
             yield f"not each of these is called: {' '.join(calls)}"
+        if len(kinds) == 1:
+            yield from self.ends(case, refused, result, again)
         if again and result != self.run(self.compared[0], case)[0]:
             yield f"it isn't done again: {result}"
 
@@ -147,6 +190,20 @@ class Faults:
             if any(LEFT in name for name, *_ in result.files):
                 yield f"a new file is left: {result}"
 
+    def unsynced(self, case, refused):
+        """Where a system can't open a folder, it isn't waited for. The tool of make is for none of these."""
+        for tool in (it for it in self.compared if it.name != "make"):
+            result, _ = self.run(tool, case, refused)
+            if result.status:
+                yield f"it ends otherwise: {result}"
+
+    def names_are_random(self):
+        """No name came twice, and no digit was always the same."""
+        for tool, names in self.names.items():
+            digits = [set(it) for it in zip(*(name[-16:] for name in names))]
+            if set(names.values()) != {1} or min(map(len, digits)) == 1:
+                yield f"new files of {tool.name} have the names {sorted(names)[:3]} and others like these"
+
     def trials(self):
         """What is tried: functions, each with its arguments."""
         for case in CASES:
@@ -160,6 +217,8 @@ class Faults:
         yield from ((self.hindered, it) for it in PAIRS)
         yield self.renamed_and_failed, ("a private key over a file",)
         yield self.renamed_and_failed, ("a private key over itself",)
+        yield self.unsynced, ("a new public key", "open,3,ENOSYS")
+        yield self.names_are_random, ()
 
 
 if __name__ == "__main__":

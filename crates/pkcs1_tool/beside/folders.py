@@ -36,6 +36,9 @@ MOUNTED = {
         mkdir m; mount -t tmpfs none m; mkdir m/f; cd m/f; cp ../../key key; cp ../../old old
         mount -t tmpfs none "$2/m"; mkdir "$2/m/f"; cp "$2/old" "$2/m/f/key"; cp "$2/old" "$2/m/f/old"
         ln -s old "$2/m/f/link" """,
+    "a folder that is mounted over by another one of the same file system": """
+        mkdir -p m/f other/f; cd m/f; cp ../../key ../../old .; mount --bind "$2/other" "$2/m"
+        cp "$2/old" "$2/m/f/key"; cp "$2/old" "$2/m/f/old"; ln -s old "$2/m/f/link" """,
 }
 COPIES = """
     (trap '' XFSZ; ulimit -f 0; "$1" copy priv key key); echo $?; cmp "$2/key" key && echo whole

@@ -1,10 +1,10 @@
 /* Makes calls on files fail, and reports each call. Preloaded by faults.py.
  *
  * REFUSED is a list of KIND,NUMBER,ERROR: the call of this number of this kind fails with this error. LYING is such a
- * list for renames that are done all the same. SHORT: no read or write is of more octets. LAZY: the disk has no room, as
- * it finds out when a file is closed that was written and not synced. To the descriptor CALLS it writes the kind of each
- * call, after `!` if it was refused, and of fsync the name of the file. What is printed to standard error may be
- * shortened, but doesn't fail. */
+ * list for renames that are done all the same. SHORT: no read or write is of more octets. LAZY: the disk has no room,
+ * as it finds out when a file is closed that was written and not synced. To the descriptor CALLS it writes the kind of
+ * each call, after `!` if it was refused. After a slash it writes the name of a file that is synced, and the mode and
+ * the name of one that is created. What is printed to standard error may be shortened, but doesn't fail. */
 #define _GNU_SOURCE
 #include <dlfcn.h>
 #include <errno.h>
@@ -77,8 +77,16 @@ static size_t shortened(size_t len) {
 /* The function of this name that would be called. */
 #define NEXT(type, name, ...) ((type(*)(__VA_ARGS__))dlsym(RTLD_NEXT, name))
 
+/* The mode is that of a file that is created. */
+static int is_open_refused(const char *path, int flags, unsigned mode) {
+    char created[300] = "";
+    const char *slash = strrchr(path, '/');
+    if (flags & O_CREAT)
+        (void)snprintf(created, sizeof created, "/%o/%.255s", mode, slash == NULL ? path : slash + 1);
+    return is_refused_of(OPEN, created);
+}
 static int opens(const char *name, const char *path, int flags, unsigned mode) {
-    return is_refused(OPEN) ? -1 : NEXT(int, name, const char *, int, ...)(path, flags, mode);
+    return is_open_refused(path, flags, mode) ? -1 : NEXT(int, name, const char *, int, ...)(path, flags, mode);
 }
 static unsigned mode_in(int flags, va_list rest) {
     return flags & O_CREAT ? va_arg(rest, unsigned) : 0;
@@ -102,7 +110,9 @@ int openat(int folder, const char *path, int flags, ...) {
     va_start(rest, flags);
     unsigned mode = mode_in(flags, rest);
     va_end(rest);
-    return is_refused(OPEN) ? -1 : NEXT(int, "openat", int, const char *, int, ...)(folder, path, flags, mode);
+    if (is_open_refused(path, flags, mode))
+        return -1;
+    return NEXT(int, "openat", int, const char *, int, ...)(folder, path, flags, mode);
 }
 ssize_t read(int file, void *room, size_t len) {
     return is_refused(READ) ? -1 : NEXT(ssize_t, "read", int, void *, size_t)(file, room, shortened(len));
