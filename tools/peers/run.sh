@@ -1,5 +1,5 @@
 #!/usr/bin/env bash
-# Measures libpkcs1 and the crate for Rust beside other libraries, and beside plain Rust and a straight line of C.
+# Measures libpkcs1 and the crate for Rust beside other libraries and a straight line of C.
 # README.md beside this file says what is measured.
 #
 #     tools/peers/run.sh FOLDER [check|bounds|speed|rows|tool|times]..    without a part, all of them
@@ -10,7 +10,7 @@
 #     LIBPKCS1=FILE           this libpkcs1.a, in place of the one that make builds from this tree
 set -eu
 libraries=(OpenSSL mbedTLS wolfSSL Botan GnuTLS libtasn1 RustCrypto rust-asn1)
-own=(libpkcs1 'plain Rust' 'line of C' 'our crate, structs' 'our crate, views')
+own=(libpkcs1 'line of C' 'our crate, structs' 'our crate, views')
 here=$(realpath "$(dirname "$0")")
 top=$(realpath "$here/../..")
 . "$top/tools/shell.sh"
@@ -22,7 +22,7 @@ export PEERS_MODULE=$here/libraries/pkcs1.asn
 # The packages: those of Debian 12, with the libraries that they load, and crates of Debian 13.
 of_12=(
     libssl-dev libssl3 libmbedtls-dev libmbedcrypto7 libmbedtls14 libmbedx509-1 libwolfssl-dev libwolfssl35
-    libbotan-2-dev libbotan-2-19 libtspi1 libtasn1-6-dev libtasn1-6 libgnutls28-dev libgnutls30 libnettle8 libhogweed6
+    libbotan-2-dev libbotan-2-19 libtspi1 libtasn1-6-dev libtasn1-6 libgnutls28-dev libgnutls30 nettle-dev libnettle8 libhogweed6
     libgmp10 libp11-kit0 libidn2-0 libunistring2 golang-1.19-go golang-1.19-src
 )
 of_13=(librust-{pkcs1,der,spki,pkcs8,const-oid,zeroize,base64ct,pem-rfc7468,asn1{,-derive},syn,quote,proc-macro2}-dev
@@ -69,10 +69,10 @@ build_others() {
     local it
     crate others --config 'source.crates-io.replace-with="debian"' \
         --config "source.debian.directory='$root/usr/share/cargo/registry'"
-    objects "$here"/libraries/{libpkcs1_bignums,openssl,mbedtls,wolfssl,gnutls,libtasn1}.c
+    objects "$here"/libraries/{libpkcs1_bignums,openssl,mbedtls,wolfssl,gnutls,libtasn1,walk_of_nettle,walk_of_openssl}.c
     g++ -std=c++17 -O2 -w "${headers[@]}" -isystem "$root/usr/include/botan-2" -c "$here/libraries/botan.cc" -o botan.o
     g++ -o peers "${made[@]}" botan.o "$library" target/release/libothers.a -L"$loaded" -Wl,-rpath-link="$loaded" \
-        -lcrypto -lmbedx509 -lmbedtls -lmbedcrypto -lwolfssl -lbotan-2 -ltasn1 -lgnutls -lpthread -ldl
+        -lcrypto -lmbedx509 -lmbedtls -lmbedcrypto -lwolfssl -lbotan-2 -ltasn1 -lgnutls -lhogweed -lnettle -lpthread -ldl
     gcc -shared -fPIC -O1 "$here/harness/allocations.c" -o allocations.so
     GOROOT=$root/usr/lib/go-1.19 GO111MODULE=off GOCACHE=$PWD/go_cache \
         "$root/usr/lib/go-1.19/bin/go" build -o peers_go "$here"/libraries/go/*.go
@@ -84,6 +84,7 @@ is_made() {
 inputs() {
     is_made corpus || "$python" "$here/inputs/corpus.py" corpus
     is_made cases/tiny.public_key || "$python" "$here/inputs/cases.py" cases
+    [ -n "$alone" ] || is_made sets/mixed.oaep || "$python" "$here/inputs/sets.py" sets
 }
 
 # The damaged encodings, by what is of this repository, which has to accept and write what libpkcs1 does. Views aren't
@@ -118,32 +119,33 @@ bounds() {
     ./peers_go check bounds bounds.Go > /dev/null
 }
 
-# Instructions and calls for memory.
+# Instructions, branches and calls for memory.
 speed() {
     local it
     rm -f speed.callgrind.* allocations
     for it in "${timed[@]}"; do
-        callgrind "speed.callgrind.$it" speed instructions cases "$it" "${named[@]}"
+        callgrind "speed.callgrind.$it" speed instructions sets "$it" "${named[@]}"
         # shellcheck disable=SC2094 # allocations.so is another file than allocations
-        LD_PRELOAD=$PWD/allocations.so ./peers speed allocations cases "$it" "${named[@]}" >> allocations
+        LD_PRELOAD=$PWD/allocations.so ./peers speed allocations sets "$it" "${named[@]}" >> allocations
     done
 }
 # callgrind FILE ARGUMENT..: runs the program while callgrind counts, which leaves all dumps in the file.
 callgrind() {
-    valgrind --tool=callgrind --combine-dumps=yes --callgrind-out-file="$1" ./peers "${@:2}" > callgrind.log 2>&1 ||
+    valgrind --tool=callgrind --branch-sim=yes --combine-dumps=yes --callgrind-out-file="$1" ./peers "${@:2}" > callgrind.log 2>&1 ||
         stop "callgrind failed: $PWD/callgrind.log tells why"
 }
 
-# The instructions of each call on each input, beside what is by hand.
+# The instructions of each call on each input, beside the line of C.
 rows() {
     check_own
     rm -f rows.callgrind
     callgrind rows.callgrind rows instructions cases "${cases[@]}"
 }
 
-# Lines of the tool, each another, beside a filter in plain Rust.
+# Lines of the tool, each another.
 tool() {
-    "$python" "$here/tables/tool.py" out/pkcs1_tool target/release/filter cases > tool.table
+    (cd "$top/rust" && CARGO_TARGET_DIR=$folder/target cargo build --quiet --release --offline --bin pkcs1_tool)
+    "$python" "$here/tables/tool.py" cases out/pkcs1_tool target/release/pkcs1_tool > tool.table
 }
 
 # Times of what `speed` and `rows` count, which only a quiet processor tells.
@@ -153,8 +155,8 @@ times() {
     for it in "${timed[@]}"; do
         [ -z "$alone" ] || break
         for round in 1 2 3 4 5; do
-            ./peers speed time cases "$it" "${named[@]}" >> "times.$round"
-            [ -n "${ONLY:-}" ] || GOMAXPROCS=1 ./peers_go speed cases "$it" >> "times.go$round"
+            ./peers speed time sets "$it" "${named[@]}" >> "times.$round"
+            [ -n "${ONLY:-}" ] || GOMAXPROCS=1 ./peers_go speed sets "$it" >> "times.go$round"
         done
     done
     for round in 1 2; do

@@ -59,6 +59,36 @@ const uint8_t *before_the_end(const uint8_t *input, size_t len) {
     return memcpy(end - len, input, len);
 }
 
+static uint64_t drawn(uint64_t below) {
+    static uint64_t state = 88172645463325252u;
+    state ^= state << 13, state ^= state >> 7, state ^= state << 17;
+    return state % below;
+}
+
+const struct input *read_set(const char *folder, const char *name, size_t *count) {
+    enum { MOST = 1000 };
+    size_t len, made = 0;
+    uint8_t *records = read_in(folder, name, &len);
+    struct input *inputs = calloc(MOST, sizeof *inputs);
+    if (inputs == NULL)
+        exit(2);
+    for (size_t at = 0; at < len && made < MOST; at += HEAD + length_at(records + at)) {
+        uint8_t *der = malloc(length_at(records + at));
+        if (der == NULL)
+            exit(2);
+        memcpy(der, records + at + HEAD, length_at(records + at));
+        inputs[made++] = (struct input){der, length_at(records + at)};
+    }
+    for (size_t left = made; left > 1; left--) {
+        size_t other = drawn(left);
+        struct input last = inputs[left - 1];
+        inputs[left - 1] = inputs[other], inputs[other] = last;
+    }
+    free(records);
+    *count = made;
+    return inputs;
+}
+
 double processor_seconds(void) {
     struct timespec time;
     clock_gettime(CLOCK_PROCESS_CPUTIME_ID, &time);

@@ -1,22 +1,22 @@
 /* peers COMMAND ..: how libraries read and write RSA keys and parameters.
  *
  *     check CORPUS OUT LIBRARY               an octet for each input into OUT: see check.c
- *     speed WHAT FOLDER INPUT [LIBRARY..]    the cost of an input for each library: see speed.c
- *     rows WHAT FOLDER INPUT..               that of each call, beside code by hand: see rows.c */
+ *     speed WHAT FOLDER SET [LIBRARY..]      the cost of a set of inputs for each library: see speed.c
+ *     rows WHAT FOLDER INPUT..               that of each call, beside a line of C: see rows.c */
 #include "peers.h"
 #include <stdio.h>
 #include <string.h>
 
-extern const struct library libpkcs1, libpkcs1_strict, plain_rust, line_of_c, crate_structs, crate_views;
+extern const struct library libpkcs1, libpkcs1_strict, line_of_c, crate_structs, crate_views;
 #ifdef OWN /* without the libraries of Debian's packages */
-const struct library *const libraries[] = {&libpkcs1,      &libpkcs1_strict, &plain_rust, &line_of_c,
-                                           &crate_structs, &crate_views};
+const struct library *const libraries[] = {&libpkcs1, &libpkcs1_strict, &line_of_c, &crate_structs, &crate_views};
 #else
 extern const struct library libpkcs1_bignums, openssl, mbedtls, wolfssl, botan, gnutls, libtasn1, rustcrypto, rust_asn1;
+extern const struct library walk_of_nettle, walk_of_openssl;
 const struct library *const libraries[] = {
-    &libpkcs1,      &libpkcs1_strict, &plain_rust, &line_of_c, &crate_structs, &crate_views, &libpkcs1_bignums,
-    &openssl,       &mbedtls,         &wolfssl,    &botan,     &gnutls,        &libtasn1,    &rustcrypto,
-    &rust_asn1};
+    &libpkcs1, &libpkcs1_strict, &line_of_c, &crate_structs, &crate_views, &libpkcs1_bignums, &openssl,
+    &mbedtls,  &wolfssl,         &botan,     &gnutls,        &libtasn1,    &rustcrypto,       &rust_asn1,
+    &walk_of_nettle, &walk_of_openssl};
 #endif
 const size_t library_count = sizeof libraries / sizeof *libraries;
 

@@ -4,7 +4,7 @@
 #include <string.h>
 #include <valgrind/callgrind.h>
 
-enum { ROUNDS = 9, COUNTED_CALLS = 20 };
+enum { ROUNDS = 9, COUNTED_CALLS = 50 };
 static const double least_seconds = 0.006; /* of a round */
 
 static void time_round(struct task *task) {

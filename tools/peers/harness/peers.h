@@ -55,13 +55,22 @@ double processor_seconds(void);
 
 /* ---- measure.c ---- */
 
-/* What is run, what it needs, and the line of output in front of the number. */
+struct input {
+    const uint8_t *der;
+    size_t len;
+};
+/* The inputs of a file of records, in one random order, each in memory of its own. Sets how many there are. */
+const struct input *read_set(const char *folder, const char *name, size_t *count);
+
+/* What is run, what it needs, and the line of output before the number. */
 struct task {
-    uint64_t (*run)(const struct task *);
+    uint64_t (*run)(struct task *);
     const struct library *library;
     int type;
     const uint8_t *der;
     size_t der_len;
+    const struct input *inputs; /* by `speed`: what is run on, one after the other */
+    size_t count, next;
     int written;      /* by `speed`: whether it is written too */
     const void *kept; /* by `rows` */
     char label[100];

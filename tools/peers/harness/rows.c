@@ -1,13 +1,12 @@
-/* rows WHAT FOLDER INPUT..: each call of pkcs1.h on each input, beside plain Rust, a straight line of C and the crate
- * for Rust. WHAT is time or instructions. A line of output is WHO|CALL|INPUT|NUMBER. Before a call is measured, all have
+/* rows WHAT FOLDER INPUT..: each call of pkcs1.h on each input, beside a straight line of C and the crate for Rust. WHAT is time or instructions. A line of output is WHO|CALL|INPUT|NUMBER. Before a call is measured, all have
  * to agree. */
 #include "peers.h"
 #include "pkcs1.h"
 #include <stdio.h>
 #include <string.h>
 
-extern const struct library libpkcs1, plain_rust, line_of_c, crate_structs, crate_views;
-static const struct library *const by[] = {&libpkcs1, &plain_rust, &line_of_c, &crate_structs, &crate_views};
+extern const struct library libpkcs1, line_of_c, crate_structs, crate_views;
+static const struct library *const by[] = {&libpkcs1, &line_of_c, &crate_structs, &crate_views};
 enum { BY = sizeof by / sizeof *by, MOST = 64 };
 static const char *const questions[TYPES][QUESTIONS] = {
     [PUBLIC_KEY] = {"bit_len"}, [PSS] = {"is", "algorithm_is"}, [OAEP] = {"is", "label"}};
@@ -17,26 +16,26 @@ static struct pkcs1_bytes asked;
 
 static const struct steps *steps_of(const struct task *task) { return &task->library->steps[task->type]; }
 /* What comes before a call. */
-static uint64_t nothing(const struct task *task) {
+static uint64_t nothing(struct task *task) {
     __asm__ volatile("" : : "r"(steps_of(task)->read), "r"(task->der), "r"(task->der_len));
     return 0;
 }
-static uint64_t read(const struct task *task) { return steps_of(task)->read(task->der, task->der_len); }
-static uint64_t strict(const struct task *task) { return steps_of(task)->strict(task->der, task->der_len); }
-static uint64_t write(const struct task *task) {
+static uint64_t read(struct task *task) { return steps_of(task)->read(task->der, task->der_len); }
+static uint64_t strict(struct task *task) { return steps_of(task)->strict(task->der, task->der_len); }
+static uint64_t write(struct task *task) {
     size_t len;
     return steps_of(task)->write(task->kept, out, sizeof out, &len) == 0 ? len : 0;
 }
-static uint64_t length(const struct task *task) { return steps_of(task)->length(task->kept); }
-static uint64_t ask_first(const struct task *task) { return steps_of(task)->ask[0](task->kept, &asked); }
-static uint64_t ask_second(const struct task *task) { return steps_of(task)->ask[1](task->kept, &asked); }
+static uint64_t length(struct task *task) { return steps_of(task)->length(task->kept); }
+static uint64_t ask_first(struct task *task) { return steps_of(task)->ask[0](task->kept, &asked); }
+static uint64_t ask_second(struct task *task) { return steps_of(task)->ask[1](task->kept, &asked); }
 
 static bool is_parameters(int type) { return type >= PSS && type <= OAEP_ALGORITHM; }
 
 /* The calls that a library has for a type: a name for each that is measured, else null. */
 struct row {
     const char *call;
-    uint64_t (*run)(const struct task *);
+    uint64_t (*run)(struct task *);
 };
 enum { CALLS = 6 };
 static void calls_of(const struct library *library, int type, struct row to[CALLS]) {
@@ -51,7 +50,7 @@ static void calls_of(const struct library *library, int type, struct row to[CALL
 }
 
 /* Whether all answer what the first does, which accepts the input and writes it again. */
-static bool agrees(const struct task *task, const struct task *first) {
+static bool agrees(struct task *task, struct task *first) {
     size_t len = task->der_len;
     if (task->run == write)
         return task->run(task) == len && memcmp(out, task->der, len) == 0;

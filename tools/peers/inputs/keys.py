@@ -33,9 +33,14 @@ def make_prime(bits, exponent, rng):
 
 
 def make_key(bits, count, rng, exponent=65537):
-    """A key of this many bits and primes, by the names of RFC 8017."""
+    """A key of this many bits and primes."""
     size = bits // count
     primes = [make_prime(size if i else bits - size * (count - 1), exponent, rng) for i in range(count)]
+    return key_of(primes, exponent)
+
+
+def key_of(primes, exponent):
+    """The key of these primes, by the names of RFC 8017."""
     modulus = order = 1
     for prime in primes:
         modulus *= prime

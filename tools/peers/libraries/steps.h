@@ -4,7 +4,7 @@
 #include "peers.h"
 #include "pkcs1.h"
 
-enum { OTHERS = 16 };
+enum { OTHERS = 32 };
 /* What was read, by one of the calls. */
 struct values {
     struct pkcs1_public_key public_key;

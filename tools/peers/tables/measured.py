@@ -1,7 +1,8 @@
 """What the program printed, what callgrind counted, and tables."""
+import collections
 import re
 
-COUNTED_CALLS = 20
+COUNTED_CALLS = 50
 
 
 def smallest(files):
@@ -15,17 +16,28 @@ def smallest(files):
     return least
 
 
-def counted(files):
-    """The instructions of a call, from dumps of callgrind that stand in one file."""
-    counts, label = {}, None
+def counted(files, wanted=lambda events: events["Ir"]):
+    """The instructions of a call, or what else is wanted of callgrind's events, from dumps that stand in one file."""
+    counts, label, names = {}, None, []
     for name in files:
         with open(name, encoding="utf-8") as file:
             for line in file:
                 found = re.match(r"desc: Trigger: Client Request: (.*)", line)
                 label = tuple(found[1].split("|")) if found else label
+                if line.startswith("events: "):
+                    names = line.split()[1:]
                 if line.startswith("totals: ") and label:
-                    counts[label], label = int(line.split()[1]) / COUNTED_CALLS, None
+                    events = collections.Counter(dict(zip(names, map(int, line.split()[1:]))))
+                    counts[label], label = wanted(events) / COUNTED_CALLS, None
     return counts
+
+
+def branches(events):
+    return events["Bc"] + events["Bi"]
+
+
+def mispredicted(events):
+    return events["Bcm"] + events["Bim"]
 
 
 def shown(number):

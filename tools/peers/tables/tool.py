@@ -1,6 +1,6 @@
 #!/usr/bin/env python3
-"""tool.py TOOL FILTER CASES: megabytes of lines that the tool and a filter in plain Rust answer in a second of
-processor time, the best of rounds in which they take turns, in Markdown. Both have to write the same."""
+"""tool.py CASES TOOL..: megabytes of lines that each build of the tool answers in a second of processor time, the best of
+rounds in which they take turns, in Markdown. All have to write the same."""
 import glob
 import os
 import subprocess
@@ -26,19 +26,19 @@ def answers(program, path):
 
 
 def main():
-    tool, rust, cases = sys.argv[1:]
-    print("| lines | pkcs1_tool, MB/s | plain Rust, MB/s | time beside plain Rust |\n|---|---|---|---|")
+    cases, *tools = sys.argv[1:]
+    print(f"| lines | {' | '.join(f'{it}, MB/s' for it in tools)} |\n|---|{'---|' * len(tools)}")
     for path in sorted(glob.glob(f"{cases}/*.lines")):
-        if answers(tool, path) != answers(rust, path):
-            sys.exit(f"the tool and plain Rust answer {path} otherwise")
-        best = {tool: float("inf"), rust: float("inf")}
+        first = answers(tools[0], path)
+        if any(answers(it, path) != first for it in tools[1:]):
+            sys.exit(f"the tools answer {path} otherwise")
+        best = dict.fromkeys(tools, float("inf"))
         for _ in range(ROUNDS):
             for program in best:
                 best[program] = min(best[program], run(program, path, os.devnull))
-        size, ratio = os.path.getsize(path) / 1e6, best[tool] / best[rust]
+        size = os.path.getsize(path) / 1e6
         name = os.path.basename(path).removesuffix(".lines")
-        shown = f"**{ratio:.2f}**" if ratio > 1 else f"{ratio:.2f}"
-        print(f"| {name} | {size / best[tool]:.0f} | {size / best[rust]:.0f} | {shown} |")
+        print(f"| {name} | {' | '.join(f'{size / it:.0f}' for it in best.values())} |")
     print()
 
 

@@ -4,6 +4,7 @@ import (
 	"bytes"
 	"encoding/binary"
 	"fmt"
+	"math/rand"
 	"os"
 	"strings"
 	"syscall"
@@ -68,16 +69,14 @@ func check(corpus string, to string) {
 // leastTime of a round, so long that each round has its share of collecting garbage.
 const leastTime = 20 * time.Millisecond
 
-// nanoseconds of one call, from calls that take at least leastTime together.
-func nanoseconds(f call, input []byte, write bool) float64 {
+// nanoseconds of one call, from calls on one input after the other that take at least leastTime together.
+func nanoseconds(f call, inputs [][]byte, write bool) float64 {
 	done := 0
 	var taken time.Duration
 	for step := 1; taken < leastTime; step *= 2 {
 		began := processorTime()
 		for i := 0; i < step; i++ {
-			if accepted, _ := f(input, write); !accepted {
-				panic("a case is rejected")
-			}
+			f(inputs[(done+i)%len(inputs)], write)
 		}
 		taken += processorTime() - began
 		done += step
@@ -85,20 +84,41 @@ func nanoseconds(f call, input []byte, write bool) float64 {
 	return float64(taken.Nanoseconds()) / float64(done)
 }
 
-// speed takes both times of an input, if it is accepted.
+// readSet has the inputs of a file of records, in one random order.
+func readSet(name string) (inputs [][]byte) {
+	for rest := readFile(name); len(rest) > 0; {
+		end := 6 + int(binary.LittleEndian.Uint32(rest[2:]))
+		inputs = append(inputs, append([]byte(nil), rest[6:end]...))
+		rest = rest[end:]
+	}
+	rand.New(rand.NewSource(1)).Shuffle(len(inputs), func(i, j int) { inputs[i], inputs[j] = inputs[j], inputs[i] })
+	return inputs
+}
+
+// accepts tells whether each is accepted.
+func accepts(f call, inputs [][]byte, write bool) bool {
+	for _, input := range inputs {
+		if accepted, _ := f(input, write); !accepted {
+			return false
+		}
+	}
+	return true
+}
+
+// speed takes both times of a set, if each of it is accepted.
 func speed(folder string, name string) {
-	input := readFile(folder + "/" + name)
+	inputs := readSet(folder + "/" + name)
 	for kind, it := range types {
 		if !strings.HasSuffix(name, "."+it) {
 			continue
 		}
 		for written := 0; written < 2; written++ {
-			if accepted, _ := calls[kind](input, written == 1); !accepted {
+			if !accepts(calls[kind], inputs, written == 1) {
 				return
 			}
-			best := nanoseconds(calls[kind], input, written == 1)
+			best := nanoseconds(calls[kind], inputs, written == 1)
 			for round := 1; round < 9; round++ {
-				if it := nanoseconds(calls[kind], input, written == 1); it < best {
+				if it := nanoseconds(calls[kind], inputs, written == 1); it < best {
 					best = it
 				}
 			}

@@ -43,19 +43,6 @@ macro_rules! reads_and_writes {
 }
 
 type Call = unsafe extern "C" fn(*const u8, usize, *mut u8, usize, *mut usize) -> i32;
-pub type Ask = unsafe extern "C" fn(*const c_void, &Bytes) -> u64;
-
-/// `struct pkcs1_bytes`.
-#[repr(C)]
-pub struct Bytes {
-    data: *const u8,
-    len: usize,
-}
-impl Bytes {
-    pub fn octets(&self) -> &[u8] {
-        unsafe { from_raw_parts(self.data, self.len) }
-    }
-}
 
 /// `struct steps` of peers.h.
 #[repr(C)]
@@ -65,7 +52,7 @@ pub struct Steps {
     keep: unsafe extern "C" fn(*const u8, usize) -> *mut c_void,
     write: unsafe extern "C" fn(*const c_void, *mut u8, usize, *mut usize) -> u32,
     length: unsafe extern "C" fn(*const c_void) -> usize,
-    ask: [Option<Ask>; 2],
+    ask: [Option<unsafe extern "C" fn()>; 2], // no question is asked of Rust
 }
 
 /// `struct library` of peers.h.
@@ -120,28 +107,27 @@ pub unsafe extern "C" fn call<T: Type>(der: *const u8, n: usize, to: *mut u8, ro
         Some(_) => 2,
     }
 }
-/// `ask` has the questions, if there are any.
-pub const fn steps<T: Type>(ask: &[[Option<Ask>; 2]]) -> Steps {
+pub const fn steps<T: Type>() -> Steps {
     Steps {
         read: read::<T>,
         strict: read_strictly::<T>,
         keep: keep::<T>,
         write: write::<T>,
         length: length::<T>,
-        ask: if ask.is_empty() { [None; 2] } else { ask[0] },
+        ask: [None; 2],
     }
 }
 
-/// A library of the harness, by its types in the order of peers.h. What stands behind a type is asked of it.
+/// A library of the harness, by its types in the order of peers.h.
 #[macro_export]
 macro_rules! library {
-    ($name:ident, $shown:expr, $writes:expr, [$($type:ident $($ask:ident)*),*]) => {
+    ($name:ident, $shown:expr, $writes:expr, [$($type:ident),*]) => {
         #[no_mangle]
         pub static $name: $crate::calls::Library = $crate::calls::Library {
             name: $shown.as_ptr(),
             calls: [$($crate::calls::call::<$type>),*],
             writes: [$writes; 8],
-            steps: [$($crate::calls::steps::<$type>(&[$($ask),*])),*],
+            steps: [$($crate::calls::steps::<$type>()),*],
         };
     };
 }

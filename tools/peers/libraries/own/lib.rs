@@ -1,10 +1,5 @@
-//! What is measured without other libraries: plain Rust, and the crate of this repository.
+//! The crate of this repository, as it is measured without other libraries.
 #![allow(non_upper_case_globals)]
 #[macro_use]
 pub mod calls;
 pub mod crate_for_rust;
-pub mod plain;
-#[path = "../plain/reading.rs"]
-mod reading;
-#[path = "../plain/writing.rs"]
-mod writing;
